@@ -163,6 +163,14 @@ pub no_stack : (table : Table) (st : List ℕ) → length st ≡ 0 → IsStack t
 no_stack table [] none stack = stack
 no_stack table (s ∷ st) none stack = absurd (omega (arith, none))
 
+-- how far the completion has come: the state in this place of the stack has the core, and what comes after its production completes the
+-- stack
+pub record Completing (d : Checked) (st : List ℕ) (place p k : ℕ) (tokens : List ℕ) : Type 0 where
+  pub s : ℕ
+  pub at : slice_get st place ≡ Some s
+  pub kernel : IsKernelCore d.grammar d.graph s p k
+  pub tail : (rest : List ℕ) → IsTail d.grammar d.table (take (place + 1) st) p k rest → IsCompletion d.grammar d.table st (tokens ++ rest)
+
 module _ (d : Checked) (checked : IsChecked d) where
   abbrev g : Grammar
   g = d.grammar
@@ -230,17 +238,9 @@ module _ (d : Checked) (checked : IsChecked d) where
     opened_waits s q links low waiting core other =
         waited_for g checked.well_formed graph table can.built.canonical can.built.resolved.start s low links waiting q core other
 
-  -- how far the completion has come: the state in this place of the stack has the core, and what comes after its production completes the
-  -- stack
-  pub record Completing (st : List ℕ) (place p k : ℕ) (tokens : List ℕ) : Type 0 where
-    pub s : ℕ
-    pub at : slice_get st place ≡ Some s
-    pub kernel : IsKernelCore g graph s p k
-    pub tail : (rest : List ℕ) → IsTail g table (take (place + 1) st) p k rest → IsCompletion g table st (tokens ++ rest)
-
   -- at first, a minimal sentence of the symbols after the dot of a core of the top
   pub completing_first : (st : List ℕ) (place s p k : ℕ) (tokens : List ℕ) → length st ≡ place + 1 → slice_get st place ≡ Some s
-      → IsKernelCore g graph s p k → ArePushed g (drop k (symbols_of g p)) [] tokens → Completing st place p k tokens
+      → IsKernelCore g graph s p k → ArePushed g (drop k (symbols_of g p)) [] tokens → Completing d st place p k tokens
   completing_first st place s p k tokens many at kernel pushed = record {
     s = s;
     at = at;
@@ -258,7 +258,7 @@ module _ (d : Checked) (checked : IsChecked d) where
         };
   }
 
-  module _ (st : List ℕ) (stack : IsStack table st) (place p k : ℕ) (tokens : List ℕ) (completing : Completing st place p k tokens) where
+  module _ (st : List ℕ) (stack : IsStack table st) (place p k : ℕ) (tokens : List ℕ) (completing : Completing d st place p k tokens) where
     abbrev lower : Down g graph table checked.closed checked.safe st stack place p k
     lower = down g graph table checked.closed checked.safe st stack k place p completing.s completing.at completing.kernel.core
 
@@ -286,7 +286,7 @@ module _ (d : Checked) (checked : IsChecked d) where
 
     -- the next item below
     pub completing_next : CanComplete d → (s q j : ℕ) (after : List ℕ) → s < graph_len graph → slice_get st (place - k) ≡ Some s → p < prods_len g
-        → IsOpenedBy g graph table s (rule_of g p) tokens after q j → Completing st (place - k) q j after
+        → IsOpenedBy g graph table s (rule_of g p) tokens after q j → Completing d st (place - k) q j after
     completing_next can s q j after low at known opened =
         let b = lower in
         let sum = b.below in

@@ -52,13 +52,14 @@ impl<StorageT: StorageIndex> Drop for Completion<'_, StorageT> {
 }
 
 impl<'a, StorageT: StorageIndex> Model for Completion<'a, StorageT> {
+    ghost use Rattle.std.below.core.specs.declared.int.usize.TheConstants.{MAX};
     ghost use Rattle.lrpar_parse_completion.specs.Answer.{Completer, IsReady};
 
     ghost Value = { Completer };
 
     ghost view = { λ c. record { checked = c.data.now; most = c.most } };
 
-    ghost invariant = { λ c. IsReady usize.MAX c.data.now c.shortest };
+    ghost invariant = { λ c. IsReady MAX c.data.now c.shortest };
 }
 
 impl<'a, StorageT: StorageIndex> Completion<'a, StorageT> {

@@ -26,6 +26,7 @@ returns-then-not-has_state g c =
     let d = c.args.self.now.data.now in
     let stack = c.args.stack.now in
     let top = c.index-stack-place.result in
+    let some = eqb-false (length stack) 0 (sym c.is_empty.ensures ∙ c.if-is_empty.false) in
     let at = state_at index stack (length stack - 1) top (omega arith) c.index-stack-place.is in
     record {
       completion = λ can is.
@@ -33,18 +34,18 @@ returns-then-not-has_state g c =
           absurd (cc);
     }
 
-pub returns-then-not-push_rest : goal.returns-then-not-push_rest
-returns-then-not-push_rest g c =
+pub returns-then-not-branch : goal.returns-then-not-branch
+returns-then-not-branch g c =
     let index = g.StorageT.StorageIndex.index in
     let d = c.args.self.now.data.now in
     let s = index c.index-stack-place.result.0 in
-    let p = index c.kernel_core.result.0.0 in
-    let k = c.kernel_core.result.1 in
+    let p = index c.kernel_core-dot.result.0.0 in
+    let k = c.kernel_core-dot.result.1 in
     let symbols : map (symbol_of index) c.prod.result.now ≡ symbols_of d.grammar p = rw c.grm.ensures at c.prod.ensures in
     let rest = rest_of (symbol_of index) k c.prod.result.now (symbols_of d.grammar p) symbols in
     record {
       completion = λ can is.
-          let trees = core_trees d c.stable-table.ensures.checked can s p k (c.has_state.ensures.0 c.if-not-has_state.false) (c.kernel_core.ensures.kernel can).core in
+          let trees = core_trees d c.stable-table.ensures.checked can s p k (c.has_state.ensures.0 c.if-not-has_state.false) (c.kernel_core-dot.ensures.kernel can).core in
           let some = c.in_ok-push_rest.ensures.some (subst (HaveTrees d.grammar) (sym rest) trees) in
           absurd (cc);
     }
@@ -57,10 +58,11 @@ items-init g c =
     let st = states_of index stack in
     let top = c.index-stack-place.result in
     let place = length stack - 1 in
+    let some = eqb-false (length stack) 0 (sym c.is_empty.ensures ∙ c.if-is_empty.false) in
     let at = state_at index stack place top (omega arith) c.index-stack-place.is in
     let many = length-map stack (λ x. index x.0) in
-    let p = index c.kernel_core.result.0.0 in
-    let k = c.kernel_core.result.1 in
+    let p = index c.kernel_core-dot.result.0.0 in
+    let k = c.kernel_core-dot.result.1 in
     let new = tokens_of index c.push_rest.new.tokens.items in
     let symbols : map (symbol_of index) c.prod.result.now ≡ symbols_of d.grammar p = rw c.grm.ensures at c.prod.ensures in
     let rest = rest_of (symbol_of index) k c.prod.result.now (symbols_of d.grammar p) symbols in
@@ -68,14 +70,14 @@ items-init g c =
     let pushed = subst (λ (ss : List GrammarSymbol). ArePushed d.grammar ss [] new) rest first in
     record {
       within = omega (arith, many);
-      known = c.kernel_core.ensures.prod;
-      dot = c.kernel_core.ensures.dot;
+      known = c.kernel_core-dot.ensures.prod;
+      dot = c.kernel_core-dot.ensures.dot;
       completing = λ can is.
-          completing_first d c.stable-table.ensures.checked st place (index top.0) p k new (omega (arith, many)) at (c.kernel_core.ensures.kernel can) pushed;
+          completing_first d c.stable-table.ensures.checked st place (index top.0) p k new (omega (arith, many)) at (c.kernel_core-dot.ensures.kernel can) pushed;
     }
 
-pub returns-then-dot : goal.returns-then-dot
-returns-then-dot g c =
+pub returns-then-dot-eq0 : goal.returns-then-dot-eq0
+returns-then-dot-eq0 g c =
     let index = g.StorageT.StorageIndex.index in
     let d = c.args.self.now.data.now in
     let l = c.items in
@@ -84,7 +86,7 @@ returns-then-dot g c =
     record {
       completion = λ can is.
           elim (l.invariant.completing can is).kernel.begun as (λ _. ⊥) [
-            | inl past ↦ omega (arith, past, c.if-dot.true)
+            | inl past ↦ omega (arith, past, c.if-dot-eq0.true)
             | inr start ↦ other start
           ];
     }
@@ -163,7 +165,7 @@ items-preserved g c =
     }
 
 pub items-smaller : goal.items-smaller
-items-smaller g c = omega (arith, c.if-dot.false, c.if-place-dot.false)
+items-smaller g c = omega (arith, c.if-dot-eq0.false, c.if-place-dot.false)
 
 pub returns : goal.returns
 returns g c =
@@ -177,3 +179,14 @@ returns g c =
       completion = λ can is.
           completing_done d c.stable-table.ensures.checked st is l.place p l.dot (tokens_of index l.tokens.items) (l.invariant.completing can is) is_start;
     }
+
+pub offset_bounds-stack-place-in-items : goal.offset_bounds-stack-place-in-items
+offset_bounds-stack-place-in-items g c =
+    let inside = c.items.invariant.within in omega (arith, inside, length-map c.args.stack.now (λ x. g.StorageT.StorageIndex.index x.0))
+
+pub bounds-stack-place-in-items : goal.bounds-stack-place-in-items
+bounds-stack-place-in-items g c =
+    let inside = c.items.invariant.within in omega (arith, inside, length-map c.args.stack.now (λ x. g.StorageT.StorageIndex.index x.0))
+
+pub opened-requires-clause-prod : goal.opened-requires-clause-prod
+opened-requires-clause-prod g c = c.items.invariant.known

@@ -1,5 +1,5 @@
 use Rattle.std.proofs.Common.{◌≡◌, ◌<◌, ◌≤◌, ◌∙◌, ℕ, arith, inl, length, subst, sym}
-use Rattle.std.proofs.lemmas.Bool.{eqb-true}
+use Rattle.std.proofs.lemmas.Bool.{eqb-false, eqb-true}
 use Rattle.lrpar_grammar.specs.Grammar.{start_prod}
 use Rattle.lrpar_table_conditions.proofs.CoreLemmas.{core_in_shape}
 use Rattle.lrpar_parse_completion.specs.Opening.{IsKernelCore}
@@ -31,6 +31,7 @@ returns g c =
     let cores = c.begun_cores-cores.result.now in
     let core = c.index-cores-0.result in
     let all = rw c.sgraph.ensures at c.begun_cores-cores.ensures.all in
+    let some = eqb-false (length cores) 0 (sym c.is_empty.ensures ∙ c.if-is_empty.false) in
     let has = begun_is index d.graph s cores 0 core all (omega arith) c.index-cores-0.is in
     let shape = core_in_shape d.grammar d.graph d.table _ _ _ c.stable-table.ensures.checked.safe.shape has.0 in
     record { prod = shape.0; dot = shape.1; kernel = λ can. record { core = has.0; begun = inl has.1 } }

@@ -1,4 +1,4 @@
-use Rattle.std.proofs.Common.{◌≡◌, ◌≢◌, ◌<◌, ◌≤◌, ◌+◌, ◌-◌, ◌∙◌, ◌⊎◌, ℕ, List, Some, ap, arith, drop, inl, inr, length, map, refl, slice_get, subst, sym, take}
+use Rattle.std.proofs.Common.{◌≡◌, ◌≢◌, ◌<◌, ◌≤◌, ◌+◌, ◌++◌, ◌∷◌, ◌-◌, ◌∙◌, ◌⊎◌, ℕ, List, [], Some, ap, arith, drop, inl, inr, length, map, refl, slice_get, subst, sym, take}
 use Rattle.std.specs.List.{Contains}
 use Rattle.std.proofs.lemmas.List.{length-map, take_all}
 use Rattle.lrpar_grammar.specs.Grammar.{GrammarSymbol, Nonterminal, prod_len, prods_len, rule_of, start_prod, symbols_of}
@@ -52,8 +52,8 @@ prod-requires g c =
     let at = link_at index found.items n link low c.index-link.ensures in
     rw c.grm-grm.ensures (c.in_ok-links.ensures.each n (link_of index link) at).known
 
-pub returns-then-not-push_rest : goal.returns-then-not-push_rest
-returns-then-not-push_rest g c =
+pub returns-then-not-branch : goal.returns-then-not-branch
+returns-then-not-branch g c =
     let index = g.StorageT.StorageIndex.index in
     let d = c.args.self.now.data.now in
     let grm = d.grammar in
@@ -99,7 +99,7 @@ returns-then-is_kernel g c =
     let symbols : map (symbol_of index) c.prod.result.now ≡ symbols_of grm q = rw c.grm-grm.ensures at c.prod.ensures in
     let rest = rest_of (symbol_of index) (j + 1) c.prod.result.now (symbols_of grm q) symbols in
     let pushed = subst (λ (ss : List GrammarSymbol). ArePushed grm ss mid new) rest (c.in_ok-push_rest.ensures.pushed (cc)) in
-    let wanted : index link.rule.0 ≡ index l.wanted.0 = sym c.from.ensures ∙ c.if-from.false ∙ c.from-2.ensures in
+    let wanted : index link.rule.0 ≡ index l.wanted.0 = sym c.from.ensures ∙ c.if-from.false ∙ c.from-in-links.ensures in
     let climbs = subst (λ (r : ℕ). Climbs grm d.graph d.table (rule_of grm p) r old mid) (sym wanted) l.invariant.climbs in
     let own = own_link grm c.stable-table.ensures.checked.well_formed (IsOwnCore grm d.graph d.table s) links c.in_ok-links.ensures.each n (link_of index link) at
     (c.is_kernel.ensures.0 c.if-is_kernel.true) in
@@ -133,11 +133,11 @@ links-preserved g c =
     let symbols : map (symbol_of index) c.prod.result.now ≡ symbols_of grm q = rw c.grm-grm.ensures at c.prod.ensures in
     let rest = rest_of (symbol_of index) (j + 1) c.prod.result.now (symbols_of grm q) symbols in
     let pushed = subst (λ (ss : List GrammarSymbol). ArePushed grm ss mid new) rest (c.in_ok-push_rest.ensures.pushed (cc)) in
-    let wanted : index link.rule.0 ≡ index l.wanted.0 = sym c.from.ensures ∙ c.if-from.false ∙ c.from-2.ensures in
+    let wanted : index link.rule.0 ≡ index l.wanted.0 = sym c.from.ensures ∙ c.if-from.false ∙ c.from-in-links.ensures in
     let climbs = subst (λ (r : ℕ). Climbs grm d.graph d.table (rule_of grm p) r old mid) (sym wanted) l.invariant.climbs in
     let later = later_link grm c.stable-table.ensures.checked.well_formed (IsOwnCore grm d.graph d.table s) links c.in_ok-links.ensures.each n (link_of index link) at
     (own_begun grm d.graph d.table s) (λ begun. let yes = c.is_kernel.ensures.1 begun in absurd (cc)) in
-    let next : index c.prod_to_rule.result.0 ≡ rule_of grm q = rw c.grm-grm.ensures at c.prod_to_rule.ensures.rule in
+    let next : index c.prod_to_rule-wanted-in-links.result.0 ≡ rule_of grm q = rw c.grm-grm.ensures at c.prod_to_rule-wanted-in-links.ensures.rule in
     record {
       within = omega (arith, within);
       climbs = subst (λ (r : ℕ). Climbs grm d.graph d.table (rule_of grm p) r old new) (sym next)
@@ -165,7 +165,7 @@ links-preserved-then-from g c =
       climbs = l.invariant.climbs;
       listed = λ can core other.
           not_last (take n links) (link_of index link) w (subst (λ (xs : List LinkOf). Contains (rules_in xs) w) whole (l.invariant.listed can core other))
-          (λ same. c.if-from.true (c.from.ensures ∙ same ∙ sym c.from-2.ensures));
+          (λ same. c.if-from.true (c.from.ensures ∙ same ∙ sym c.from-in-links.ensures));
     }
 
 pub returns : goal.returns
@@ -177,3 +177,21 @@ returns g c =
       opened = tt;
       some = λ can core other. absurd (none_listed links l.place (index l.wanted.0) (omega (arith, c.links-test.false)) (l.invariant.listed can core other));
     }
+
+pub prod_to_rule-wanted-requires-in-links : goal.prod_to_rule-wanted-requires-in-links
+prod_to_rule-wanted-requires-in-links g c =
+    let index = g.StorageT.StorageIndex.index in
+    let d = c.args.self.now.data.now in
+    let found = c.in_ok-links.links in
+    let within = c.links.invariant.within in
+    let link = c.index-link.result.now in
+    let n = c.links.place - 1 in
+    let low : n < length found.items = omega (arith, within, length-map found.items (link_of index)) in
+    let at = link_at index found.items n link low c.index-link.ensures in
+    rw c.grm-grm.ensures (c.in_ok-links.ensures.each n (link_of index link) at).known
+
+pub slice_bounds-rest-start : goal.slice_bounds-rest-start
+slice_bounds-rest-start g c = ?
+
+pub overflow_add-rest : goal.overflow_add-rest
+overflow_add-rest g c = ?

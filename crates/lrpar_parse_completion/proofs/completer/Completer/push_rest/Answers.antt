@@ -1,4 +1,4 @@
-use Rattle.std.proofs.Common.{◌≡◌, ◌∷◌, ◌++◌, ◌∙◌, List, [], ap, map, refl, sym}
+use Rattle.std.proofs.Common.{◌≡◌, ◌∷◌, ◌++◌, ◌∙◌, List, [], ap, map, not, refl, sym}
 use Rattle.std.proofs.lemmas.Iterator.Adapters.{YieldsList-from_vec}
 use Rattle.std.proofs.lemmas.Iterator.Consumers.{YieldsList-end}
 use Rattle.std.proofs.lemmas.List.{append-nil, map-id}
@@ -13,7 +13,7 @@ returns-then-is_none g c =
     let index = g.StorageT.StorageIndex.index in
     let grm = c.args.self.now.data.now.grammar in
     let none = none_refuses grm _ (map (symbol_of index) c.args.symbols.now) c.len_of_all.result (c.len_of_all.ensures.shortest grm c.requires.shortest)
-    (sym c.is_none.ensures ∙ c.if-is_none.true) in
+    (c.is_none.ensures ∙ ap not c.if-is_none.true) in
     record { pushed = λ some. absurd (cc); some = λ trees. absurd (none trees) }
 
 pub push_all_moves-requires-clause-some : goal.push_all_moves-requires-clause-some
@@ -21,7 +21,7 @@ push_all_moves-requires-clause-some g c =
     let index = g.StorageT.StorageIndex.index in
     let grm = c.args.self.now.data.now.grammar in
     rw c.grm.ensures (some_trees grm _ (map (symbol_of index) c.args.symbols.now) c.len_of_all.result (c.len_of_all.ensures.shortest grm c.requires.shortest)
-    (sym c.is_none.ensures ∙ c.if-is_none.false))
+    (c.is_none.ensures ∙ ap not c.if-is_none.false))
 
 pub push_all_moves-requires-clause-shortest : goal.push_all_moves-requires-clause-shortest
 push_all_moves-requires-clause-shortest g c = rw c.grm.ensures c.requires.shortest

@@ -33,10 +33,10 @@ tokens-preserved g c =
     let i = l.inserted in
     let now = states_of index l.stack.items in
     let next = states_of index c.feed.new.stack.items in
-    let t = c.tokens-item.result in
+    let t = c.token-item.result in
     let inside : i < length tokens = omega (arith, c.tokens-test.true, length-map all (λ x. index x.0)) in
-    let same = token_is index all i t c.tokens-test.true c.tokens-item.is in
-    let fed = subst (λ b. IsInserted grm table (index t.0) now next b) c.if-not-feed.false c.in_ok-feed.ensures.fed in
+    let same = token_is index all i t c.tokens-test.true c.token-item.is in
+    let fed = subst (λ b. IsInserted grm table (index t.0) now next b) c.if-not-branch.false c.in_ok-feed.ensures.fed in
     let inserted = subst (λ n. IsInserted grm table n now next _) (sym same) fed in
     let says = rw (c.deref.ensures.value, c.lexemes-place.ensures.lexemes) at c.in_ok-goes_on.ensures in
     record {
@@ -46,8 +46,8 @@ tokens-preserved g c =
           (goes_not_by_stack token at tokens end i now l.invariant.fed (λ can. let yes = says.1 can in absurd (cc)));
     }
 
-pub returns-then-goes_on : goal.returns-then-goes_on
-returns-then-goes_on g c =
+pub returns-then-branch : goal.returns-then-branch
+returns-then-branch g c =
     let index = g.StorageT.StorageIndex.index in
     let token = token_by index g.LexemeT.Lexeme.parts in
     let at = c.args.self.now.point.now in
@@ -57,10 +57,10 @@ returns-then-goes_on g c =
     let now = states_of index l.stack.items in
     let some : l.inserted ≤ length tokens = omega (arith, c.tokens-test.true, length-map all (λ x. index x.0)) in
     let says = rw (c.deref.ensures.value, c.lexemes-place.ensures.lexemes) at c.in_ok-goes_on.ensures in
-    fewest_here token at tokens (length at.lexemes) l.inserted now some l.invariant.fed (says.0 c.if-goes_on.true) l.invariant.before
+    fewest_here token at tokens (length at.lexemes) l.inserted now some l.invariant.fed (says.0 c.if-branch.true) l.invariant.before
 
-pub returns-then-not-feed : goal.returns-then-not-feed
-returns-then-not-feed g c =
+pub returns-then-not-branch : goal.returns-then-not-branch
+returns-then-not-branch g c =
     let index = g.StorageT.StorageIndex.index in
     let token = token_by index g.LexemeT.Lexeme.parts in
     let at = c.args.self.now.point.now in
@@ -73,18 +73,18 @@ returns-then-not-feed g c =
     let i = l.inserted in
     let now = states_of index l.stack.items in
     let next = states_of index c.feed.new.stack.items in
-    let t = c.tokens-item.result in
+    let t = c.token-item.result in
     let inside : i < length tokens = omega (arith, c.tokens-test.true, length-map all (λ x. index x.0)) in
-    let same = token_is index all i t c.tokens-test.true c.tokens-item.is in
-    let fed = subst (λ b. IsInserted grm table (index t.0) now next b) c.if-not-feed.true c.in_ok-feed.ensures.fed in
+    let same = token_is index all i t c.tokens-test.true c.token-item.is in
+    let fed = subst (λ b. IsInserted grm table (index t.0) now next b) c.if-not-branch.true c.in_ok-feed.ensures.fed in
     let none = subst (λ n. IsInserted grm table n now next _) (sym same) fed in
     let says = rw (c.deref.ensures.value, c.lexemes-place.ensures.lexemes) at c.in_ok-goes_on.ensures in
     let before = not_before_more token at tokens end i l.invariant.before
     (goes_not_by_stack token at tokens end i now l.invariant.fed (λ can. let yes = says.1 can in absurd (cc))) in
     never_past token at tokens end i now next inside l.invariant.fed none before
 
-pub returns-then-goes_on-2 : goal.returns-then-goes_on-2
-returns-then-goes_on-2 g c =
+pub returns-then-branch-2 : goal.returns-then-branch-2
+returns-then-branch-2 g c =
     let index = g.StorageT.StorageIndex.index in
     let token = token_by index g.LexemeT.Lexeme.parts in
     let at = c.args.self.now.point.now in
@@ -94,7 +94,7 @@ returns-then-goes_on-2 g c =
     let now = states_of index l.stack.items in
     let some : l.inserted ≤ length tokens = omega (arith, c.tokens-test.false, length-map all (λ x. index x.0)) in
     let says = rw (c.deref-2.ensures.value, c.lexemes-place.ensures.lexemes) at c.in_ok-goes_on-2.ensures in
-    fewest_here token at tokens (length at.lexemes) l.inserted now some l.invariant.fed (says.0 c.if-goes_on-2.true) l.invariant.before
+    fewest_here token at tokens (length at.lexemes) l.inserted now some l.invariant.fed (says.0 c.if-branch-2.true) l.invariant.before
 
 pub returns : goal.returns
 returns g c =

@@ -36,8 +36,8 @@ loop-inserted-preserved g c =
     not_before_more token at tokens c.args.place l.inserted l.invariant
     (goes_not_by_stack token at tokens c.args.place l.inserted states fed (λ can. let yes = says.1 can in absurd (cc)))
 
-pub returns-then-goes_on : goal.returns-then-goes_on
-returns-then-goes_on g c =
+pub returns-then-branch : goal.returns-then-branch
+returns-then-branch g c =
     let index = g.StorageT.StorageIndex.index in
     let token = token_by index g.LexemeT.Lexeme.parts in
     let at = c.args.self.now.point.now in
@@ -55,7 +55,7 @@ returns-then-goes_on g c =
     let few : l.inserted ≤ c.args.self.now.most = omega (arith, count, c.requires.tried.few, c.loop-inserted-test.true) in
     record {
       first = (
-        fewest_here token at tokens c.args.place l.inserted states some fed (says.0 c.if-goes_on.true) l.invariant,
+        fewest_here token at tokens c.args.place l.inserted states some fed (says.0 c.if-branch.true) l.invariant,
         few,
       );
     }

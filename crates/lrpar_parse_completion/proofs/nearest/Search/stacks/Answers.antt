@@ -1,4 +1,4 @@
-use Rattle.std.proofs.Common.{◌≡◌, ◌<◌, ◌≤◌, ◌⊎◌, ◌∙◌, List, ap, arith, inl, inr, length, min, refl, subst, sym, take}
+use Rattle.std.proofs.Common.{◌≡◌, ◌<◌, ◌≤◌, ◌+◌, ◌⊎◌, ◌∙◌, List, ap, arith, inl, inr, length, min, refl, subst, sym, take}
 use Rattle.std.proofs.lemmas.Bool.{cases_lt}
 use Rattle.std.proofs.lemmas.List.{length-map, length-take}
 use Rattle.lrpar_table_stacks.specs.Expected.{tokens_of}
@@ -35,13 +35,13 @@ tokens-preserved g c =
     let inside : i < length tokens = omega (arith, front.0, length-map all (λ t. index t.0)) in
     let same = ap (states_of index) (c.in_ok-before.ensures.items ∙ c.deref-before.ensures.value) in
     let pushed = stacks_pushed index l.stacks.items c.push.new.self.items c.in_ok-before.before now c.in_ok-push.ensures.items same in
-    let fed = subst (λ (b : _). IsInserted grm table (index token.0) now next b) c.if-not-feed.false c.in_ok-feed.ensures.fed in
+    let fed = subst (λ (b : _). IsInserted grm table (index token.0) now next b) c.if-not-branch.false c.in_ok-feed.ensures.fed in
     let inserted = subst (λ t. IsInserted grm table t now next _) (sym front.1) fed in
     subst (λ xs. Trying grm table at.stack tokens xs next (i + 1)) (sym pushed)
     (trying_more grm table at.stack tokens (stacks_of index l.stacks.items) now i l.invariant next inside inserted c.in_ok-feed.ensures.stack)
 
-pub returns-then-not-feed : goal.returns-then-not-feed
-returns-then-not-feed g c =
+pub returns-then-not-branch : goal.returns-then-not-branch
+returns-then-not-branch g c =
     let index = g.StorageT.StorageIndex.index in
     let at = c.args.self.now.point.now in
     let grm = at.checked.grammar in
@@ -58,7 +58,7 @@ returns-then-not-feed g c =
     let low : i ≤ c.args.self.now.most = omega (arith, c.tokens-test.true, length-take c.min.result all, c.min.ensures) in
     let same = ap (states_of index) (c.in_ok-before.ensures.items ∙ c.deref-before.ensures.value) in
     let pushed = stacks_pushed index l.stacks.items c.push.new.self.items c.in_ok-before.before now c.in_ok-push.ensures.items same in
-    let fed = subst (λ b. IsInserted grm table (index token.0) now next b) c.if-not-feed.true c.in_ok-feed.ensures.fed in
+    let fed = subst (λ b. IsInserted grm table (index token.0) now next b) c.if-not-branch.true c.in_ok-feed.ensures.fed in
     let none = subst (λ t. IsInserted grm table t now next _) (sym front.1) fed in
     subst (λ xs. AreTried grm table at.stack c.args.self.now.most tokens xs) (sym pushed)
     (trying_stops grm table at.stack tokens (stacks_of index l.stacks.items) now i l.invariant c.args.self.now.most next inside low none)

@@ -29,7 +29,7 @@ deleted-preserved g c =
     let n = l.counter - c.args.self.now.point.now.place in
     let next : n + 1 ≡ (l.counter + 1) - c.args.self.now.point.now.place = omega arith in
     subst (λ k. plain_steps index c.push-in-deleted.new.self.items ≡ inserts_deletes (take c.args.repair.inserted tokens) k) next
-    (steps_deleted index l.steps.items c.push-in-deleted.new.self.items (take c.args.repair.inserted tokens) n c.in_ok-push-in-deleted.ensures.items l.invariant)
+    (steps_deleted index l.steps.items c.push-in-deleted.new.self.items (take c.args.repair.inserted tokens) n c.in_ok-push-2.ensures.items l.invariant)
 
 pub returns : goal.returns
 returns g c = ?

@@ -87,3 +87,6 @@ returns g c =
             (λ i e low some. l.invariant.begun found i e (omega (arith, low, c.loop-prod-test.false))) p k core begun,
       );
     }
+
+pub add-requires-clause-marks : goal.add-requires-clause-marks
+add-requires-clause-marks g c = rw c.grm-grm.ensures c.loop-prod.invariant.counted.0
