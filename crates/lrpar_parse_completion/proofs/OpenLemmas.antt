@@ -5,7 +5,7 @@ use Rattle.std.proofs.Common.{◌≡◌, ◌≢◌, ◌<◌, ◌≤◌, ◌+◌,
 use Rattle.std.specs.Prelude.{map}
 use Rattle.std.specs.List.{Contains}
 use Rattle.std.specs.Option.{option_map}
-use Rattle.std.proofs.lemmas.List.{append-nil, append_assoc, drop-map, length-map, take_all, take_more}
+use Rattle.std.proofs.lemmas.List.{append-nil, append_assoc, drop-map, length-drop, length-map, take_all, take_more}
 use Rattle.std.proofs.lemmas.List.Elements.{All-drop}
 use Rattle.std.proofs.lemmas.Option.{get_or_from_slice_get, slice_get-get_or, slice_get-map, slice_get_within}
 use Rattle.lrpar_grammar.specs.Grammar.{Grammar, GrammarSymbol, IsWellFormed, Nonterminal, end_token, prod_len, prods_len, rule_of, start_prod, symbols_of}
@@ -86,8 +86,10 @@ pub own_begun : (g : Grammar) (graph : Graph) (table : Table) (s p k : ℕ) → 
 own_begun g graph table s p k own = elim own as (λ _. (0 < k) ⊎ (p ≡ start_prod g)) [ inl kernel ↦ inl kernel.1 | inr start ↦ inr start.1 ]
 
 -- the rest of symbols of the code
-pub rest_of : {X Y : Type 0} (f : X → Y) (k : ℕ) (xs : List X) (ys : List Y) → map f xs ≡ ys → map f (drop k xs) ≡ drop k ys
-rest_of f k xs ys is = sym (drop-map f k xs) ∙ ap (drop k) is
+pub rest_of : {X Y : Type 0} (f : X → Y) (k : ℕ) (xs : List X) (ys : List Y) → map f xs ≡ ys
+    → map f (take (length xs - k) (drop k xs)) ≡ drop k ys
+rest_of f k xs ys is =
+    ap (map f) (take_all (length xs - k) (drop k xs) (omega (arith, length-drop k xs))) ∙ sym (drop-map f k xs) ∙ ap (drop k) is
 
 -- a state of the code in its place
 pub state_at : {S : Type 0} (index : S → ℕ) (stack : List (StIdx S)) (i : ℕ) (s : StIdx S) → i < length stack → s ≡ get_or stack i s

@@ -41,12 +41,12 @@ returns-then-not-branch g c =
     let s = index c.index-stack-place.result.0 in
     let p = index c.kernel_core-dot.result.0.0 in
     let k = c.kernel_core-dot.result.1 in
-    let symbols : map (symbol_of index) c.prod.result.now ≡ symbols_of d.grammar p = rw c.grm.ensures at c.prod.ensures in
+    let symbols : map (symbol_of index) c.prod.result.now ≡ symbols_of d.grammar p = rw c.grm-grm.ensures at c.prod.ensures in
     let rest = rest_of (symbol_of index) k c.prod.result.now (symbols_of d.grammar p) symbols in
     record {
       completion = λ can is.
           let trees = core_trees d c.stable-table.ensures.checked can s p k (c.has_state.ensures.0 c.if-not-has_state.false) (c.kernel_core-dot.ensures.kernel can).core in
-          let some = c.in_ok-push_rest.ensures.some (subst (HaveTrees d.grammar) (sym rest) trees) in
+          let some = (rw c.grm-grm.ensures at c.in_ok-push_rest.ensures.some) (subst (HaveTrees d.grammar) (sym rest) trees) in
           absurd (cc);
     }
 
@@ -64,9 +64,9 @@ items-init g c =
     let p = index c.kernel_core-dot.result.0.0 in
     let k = c.kernel_core-dot.result.1 in
     let new = tokens_of index c.push_rest.new.tokens.items in
-    let symbols : map (symbol_of index) c.prod.result.now ≡ symbols_of d.grammar p = rw c.grm.ensures at c.prod.ensures in
+    let symbols : map (symbol_of index) c.prod.result.now ≡ symbols_of d.grammar p = rw c.grm-grm.ensures at c.prod.ensures in
     let rest = rest_of (symbol_of index) k c.prod.result.now (symbols_of d.grammar p) symbols in
-    let first = rw c.new-tokens.ensures.items at c.in_ok-push_rest.ensures.pushed (cc) in
+    let first = (rw (c.grm-grm.ensures, c.new-tokens.ensures.items) at c.in_ok-push_rest.ensures.pushed) (cc) in
     let pushed = subst (λ (ss : List GrammarSymbol). ArePushed d.grammar ss [] new) rest first in
     record {
       within = omega (arith, many);
@@ -190,3 +190,6 @@ bounds-stack-place-in-items g c =
 
 pub opened-requires-clause-prod : goal.opened-requires-clause-prod
 opened-requires-clause-prod g c = c.items.invariant.known
+
+pub push_rest-requires : goal.push_rest-requires
+push_rest-requires g c = rw c.grm-grm.ensures c.requires.shortest

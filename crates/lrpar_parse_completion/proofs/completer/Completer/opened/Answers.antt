@@ -40,8 +40,8 @@ index-link-requires g c =
     let within = c.links.invariant.within in
     omega (arith, within, length-map found.items (link_of g.StorageT.StorageIndex.index), found.ok.0)
 
-pub prod-requires : goal.prod-requires
-prod-requires g c =
+pub push_after-requires-clause-prod : goal.push_after-requires-clause-prod
+push_after-requires-clause-prod g c =
     let index = g.StorageT.StorageIndex.index in
     let d = c.args.self.now.data.now in
     let found = c.in_ok-links.links in
@@ -65,13 +65,11 @@ returns-then-not-branch g c =
     let low : n < length found.items = omega (arith, within, length-map found.items (link_of index)) in
     let at = link_at index found.items n link low c.index-link.ensures in
     let q = index link.prod.0 in
-    let symbols : map (symbol_of index) c.prod.result.now ≡ symbols_of grm q = rw c.grm-grm.ensures at c.prod.ensures in
-    let rest = rest_of (symbol_of index) (link.dot + 1) c.prod.result.now (symbols_of grm q) symbols in
     record {
       opened = tt;
       some = λ can core other.
           let trees = link_trees d c.stable-table.ensures.checked can s (links_of index found.items) c.requires.state c.in_ok-links.ensures n (link_of index link) at in
-          let some = c.in_ok-push_rest.ensures.some (subst (HaveTrees grm) (sym rest) trees) in
+          let some = (rw c.grm-grm.ensures at c.in_ok-push_after.ensures.some) trees in
           absurd (cc);
     }
 
@@ -95,10 +93,8 @@ returns-then-is_kernel g c =
     let j = link.dot in
     let old = tokens_of index c.args.tokens.now.items in
     let mid = tokens_of index l.tokens.items in
-    let new = tokens_of index c.push_rest.new.tokens.items in
-    let symbols : map (symbol_of index) c.prod.result.now ≡ symbols_of grm q = rw c.grm-grm.ensures at c.prod.ensures in
-    let rest = rest_of (symbol_of index) (j + 1) c.prod.result.now (symbols_of grm q) symbols in
-    let pushed = subst (λ (ss : List GrammarSymbol). ArePushed grm ss mid new) rest (c.in_ok-push_rest.ensures.pushed (cc)) in
+    let new = tokens_of index c.push_after.new.tokens.items in
+    let pushed = (rw c.grm-grm.ensures at c.in_ok-push_after.ensures.pushed) (cc) in
     let wanted : index link.rule.0 ≡ index l.wanted.0 = sym c.from.ensures ∙ c.if-from.false ∙ c.from-in-links.ensures in
     let climbs = subst (λ (r : ℕ). Climbs grm d.graph d.table (rule_of grm p) r old mid) (sym wanted) l.invariant.climbs in
     let own = own_link grm c.stable-table.ensures.checked.well_formed (IsOwnCore grm d.graph d.table s) links c.in_ok-links.ensures.each n (link_of index link) at
@@ -106,7 +102,7 @@ returns-then-is_kernel g c =
     let dot : j ≤ prod_len grm q = omega (arith, length_at (symbols_of grm q) j (Nonterminal (index link.rule.0)) is.rest is.waits) in
     record {
       opened = climbs_out grm d.graph d.table (rule_of grm p) (index link.rule.0) q j is.rest old mid new is.waits climbs pushed s is.known dot own;
-      some = λ can core other. tt;
+      some = λ can core other. refl;
     }
 
 pub links-preserved : goal.links-preserved
@@ -129,10 +125,8 @@ links-preserved g c =
     let j = link.dot in
     let old = tokens_of index c.args.tokens.now.items in
     let mid = tokens_of index l.tokens.items in
-    let new = tokens_of index c.push_rest.new.tokens.items in
-    let symbols : map (symbol_of index) c.prod.result.now ≡ symbols_of grm q = rw c.grm-grm.ensures at c.prod.ensures in
-    let rest = rest_of (symbol_of index) (j + 1) c.prod.result.now (symbols_of grm q) symbols in
-    let pushed = subst (λ (ss : List GrammarSymbol). ArePushed grm ss mid new) rest (c.in_ok-push_rest.ensures.pushed (cc)) in
+    let new = tokens_of index c.push_after.new.tokens.items in
+    let pushed = (rw c.grm-grm.ensures at c.in_ok-push_after.ensures.pushed) (cc) in
     let wanted : index link.rule.0 ≡ index l.wanted.0 = sym c.from.ensures ∙ c.if-from.false ∙ c.from-in-links.ensures in
     let climbs = subst (λ (r : ℕ). Climbs grm d.graph d.table (rule_of grm p) r old mid) (sym wanted) l.invariant.climbs in
     let later = later_link grm c.stable-table.ensures.checked.well_formed (IsOwnCore grm d.graph d.table s) links c.in_ok-links.ensures.each n (link_of index link) at
@@ -190,8 +184,21 @@ prod_to_rule-wanted-requires-in-links g c =
     let at = link_at index found.items n link low c.index-link.ensures in
     rw c.grm-grm.ensures (c.in_ok-links.ensures.each n (link_of index link) at).known
 
-pub slice_bounds-rest-start : goal.slice_bounds-rest-start
-slice_bounds-rest-start g c = ?
+pub push_after-requires-clause-shortest : goal.push_after-requires-clause-shortest
+push_after-requires-clause-shortest g c = rw c.grm-grm.ensures c.requires.shortest
 
-pub overflow_add-rest : goal.overflow_add-rest
-overflow_add-rest g c = ?
+pub push_after-requires-clause-dot : goal.push_after-requires-clause-dot
+push_after-requires-clause-dot g c =
+    let index = g.StorageT.StorageIndex.index in
+    let d = c.args.self.now.data.now in
+    let grm = d.grammar in
+    let found = c.in_ok-links.links in
+    let within = c.links.invariant.within in
+    let link = c.index-link.result.now in
+    let n = c.links.place - 1 in
+    let low : n < length found.items = omega (arith, within, length-map found.items (link_of index)) in
+    let at = link_at index found.items n link low c.index-link.ensures in
+    let is = c.in_ok-links.ensures.each n (link_of index link) at in
+    let q = index link.prod.0 in
+    let dot : link.dot < prod_len grm q = omega (arith, length_at (symbols_of grm q) link.dot (Nonterminal (index link.rule.0)) is.rest is.waits) in
+    rw c.grm-grm.ensures dot

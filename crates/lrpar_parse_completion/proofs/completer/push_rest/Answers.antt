@@ -6,12 +6,12 @@ use Rattle.lrpar_grammar.specs.Symbols.{symbol_of}
 use Rattle.lrpar_table_sentences.specs.Moves.{forest_moves, moves_in}
 use Rattle.lrpar_table_stacks.specs.Expected.{tokens_of}
 use Rattle.lrpar_parse_completion.proofs.TakeLemmas.{all_taken, made_more, none_refuses, some_trees, taken_more}
-use Rattle.lrpar_parse_completion.proofs.completer.Completer.push_rest.Goals as goal
+use Rattle.lrpar_parse_completion.proofs.completer.push_rest.Goals as goal
 
 pub returns-then-is_none : goal.returns-then-is_none
 returns-then-is_none g c =
     let index = g.StorageT.StorageIndex.index in
-    let grm = c.args.self.now.data.now.grammar in
+    let grm = c.args.grm.now in
     let none = none_refuses grm _ (map (symbol_of index) c.args.symbols.now) c.len_of_all.result (c.len_of_all.ensures.shortest grm c.requires.shortest)
     (c.is_none.ensures ∙ ap not c.if-is_none.true) in
     record { pushed = λ some. absurd (cc); some = λ trees. absurd (none trees) }
@@ -19,12 +19,9 @@ returns-then-is_none g c =
 pub push_all_moves-requires-clause-some : goal.push_all_moves-requires-clause-some
 push_all_moves-requires-clause-some g c =
     let index = g.StorageT.StorageIndex.index in
-    let grm = c.args.self.now.data.now.grammar in
-    rw c.grm.ensures (some_trees grm _ (map (symbol_of index) c.args.symbols.now) c.len_of_all.result (c.len_of_all.ensures.shortest grm c.requires.shortest)
+    let grm = c.args.grm.now in
+    (some_trees grm _ (map (symbol_of index) c.args.symbols.now) c.len_of_all.result (c.len_of_all.ensures.shortest grm c.requires.shortest)
     (c.is_none.ensures ∙ ap not c.if-is_none.false))
-
-pub push_all_moves-requires-clause-shortest : goal.push_all_moves-requires-clause-shortest
-push_all_moves-requires-clause-shortest g c = rw c.grm.ensures c.requires.shortest
 
 pub loop-step-init : goal.loop-step-init
 loop-step-init g c = sym (append-nil (tokens_of g.StorageT.StorageIndex.index c.args.tokens.now.items))
@@ -52,7 +49,7 @@ returns g c =
     YieldsList-end (YieldsList-from_vec {s = c.into_iter-step-iterator.result} moves.items made.0 (made.1 ∙ moves.ok.0))
     l.yielded l.step-iterator l.yielded_by c.next.result c.next.new.self c.in-None.is c.next.ensures.steps in
     let all : l.yielded ≡ moves.items = sym (map-id l.yielded) ∙ end.0 in
-    let trees = rw c.grm.ensures at c.in_ok-push_all_moves.ensures in
+    let trees = c.in_ok-push_all_moves.ensures in
     let are : moves_in index moves.items ≡ forest_moves trees.0 = rw c.new-moves.ensures.items at trees.2 in
     record {
       pushed = λ some. (trees.0, trees.1, all_taken index (tokens_of index c.args.tokens.now.items) l.yielded l.tokens.items trees.0 (ap (moves_in index) all ∙ are) l.invariant);
