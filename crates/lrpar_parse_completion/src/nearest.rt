@@ -163,7 +163,8 @@ impl<'a, 'p, StorageT: StorageIndex, LexemeT: Lexeme<StorageT>> Search<'a, 'p, S
         alloc: Global,
         repair: Nearest,
     ) -> Result<Vec<RepairStep<StorageT>>, AllocError>
-        requires { repair.inserted ≤ length self.now.tokens.now }
+        requires inserted { repair.inserted ≤ length self.now.tokens.now }
+        requires after { self.now.point.now.place ≤ repair.place }
         ensures { IfOk result (λ steps. plain_steps StorageT.index steps.items
             ≡ repair_at (tokens_of StorageT.index self.now.tokens.now) self.now.point.now.place repair.place repair.inserted) }
     {

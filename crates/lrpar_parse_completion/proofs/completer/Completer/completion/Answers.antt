@@ -138,7 +138,8 @@ returns-in_default g c =
     record {
       completion = λ can is.
           let core = completing_base d c.stable-table.ensures.checked st is l.place p l.dot (tokens_of index l.tokens.items) (l.invariant.completing can is) (index base.0) at in
-          c.in_ok-opened.ensures.some can core other;
+          let none = (rw c.in_default.is at c.in_ok-next.ensures.some) can core other in
+          absurd (cc);
     }
 
 pub items-preserved : goal.items-preserved
@@ -153,8 +154,8 @@ items-preserved g c =
     let inside = l.invariant.within in
     let n = l.place - l.dot in
     let at = state_at index stack n base (omega (arith, inside, length-map stack (λ x. index x.0))) c.index-stack-place-in-items.is in
-    let low = c.has_state-in-items.ensures.0 c.if-not-has_state-in-items.false in
-    let opened = c.in_ok-opened.ensures.opened in
+    let low = c.has_state-in-items.ensures.0 c.if-not-has_state-2.false in
+    let opened = rw c.in-Some.is at c.in_ok-next.ensures.opened in
     record {
       within = omega (arith, inside);
       known = opened.known;
@@ -192,4 +193,4 @@ pub opened-requires-clause-prod : goal.opened-requires-clause-prod
 opened-requires-clause-prod g c = c.items.invariant.known
 
 pub push_rest-requires : goal.push_rest-requires
-push_rest-requires g c = rw c.grm-grm.ensures c.requires.shortest
+push_rest-requires g c = record { shortest = rw c.grm-grm.ensures c.requires.shortest }

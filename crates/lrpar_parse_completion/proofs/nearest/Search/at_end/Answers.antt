@@ -1,4 +1,4 @@
-use Rattle.std.proofs.Common.{◌≡◌, ◌<◌, ◌≤◌, ◌+◌, ◌∙◌, ap, arith, length, refl, subst, sym, take}
+use Rattle.std.proofs.Common.{◌≡◌, ◌<◌, ◌≤◌, ◌+◌, ◌∙◌, ℕ, Bool, ap, arith, false, length, refl, subst, sym, take, true}
 use Rattle.std.proofs.lemmas.List.{length-map}
 use Rattle.lrpar_table_stacks.specs.Expected.{tokens_of}
 use Rattle.lrpar_table_stacks.specs.Stack.{IsStack, states_of}
@@ -36,8 +36,8 @@ tokens-preserved g c =
     let t = c.token-item.result in
     let inside : i < length tokens = omega (arith, c.tokens-test.true, length-map all (λ x. index x.0)) in
     let same = token_is index all i t c.tokens-test.true c.token-item.is in
-    let fed = subst (λ b. IsInserted grm table (index t.0) now next b) c.if-not-branch.false c.in_ok-feed.ensures.fed in
-    let inserted = subst (λ n. IsInserted grm table n now next _) (sym same) fed in
+    let fed = subst (λ (b : Bool). IsInserted grm table (index t.0) now next b) c.if-not-branch.false c.in_ok-feed.ensures.fed in
+    let inserted = subst (λ (n : ℕ). IsInserted grm table n now next true) (sym same) fed in
     let says = rw (c.deref.ensures.value, c.lexemes-place.ensures.lexemes) at c.in_ok-goes_on.ensures in
     record {
       fed = fed_next grm table at.stack tokens i now next inside l.invariant.fed inserted;
@@ -76,8 +76,8 @@ returns-then-not-branch g c =
     let t = c.token-item.result in
     let inside : i < length tokens = omega (arith, c.tokens-test.true, length-map all (λ x. index x.0)) in
     let same = token_is index all i t c.tokens-test.true c.token-item.is in
-    let fed = subst (λ b. IsInserted grm table (index t.0) now next b) c.if-not-branch.true c.in_ok-feed.ensures.fed in
-    let none = subst (λ n. IsInserted grm table n now next _) (sym same) fed in
+    let fed = subst (λ (b : Bool). IsInserted grm table (index t.0) now next b) c.if-not-branch.true c.in_ok-feed.ensures.fed in
+    let none = subst (λ (n : ℕ). IsInserted grm table n now next false) (sym same) fed in
     let says = rw (c.deref.ensures.value, c.lexemes-place.ensures.lexemes) at c.in_ok-goes_on.ensures in
     let before = not_before_more token at tokens end i l.invariant.before
     (goes_not_by_stack token at tokens end i now l.invariant.fed (λ can. let yes = says.1 can in absurd (cc))) in

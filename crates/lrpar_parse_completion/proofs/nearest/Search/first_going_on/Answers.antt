@@ -16,8 +16,8 @@ goes_on-requires-clause-stack g c =
     let index = g.StorageT.StorageIndex.index in
     let at = c.args.self.now.point.now in
     let stacks = c.args.stacks.now in
-    let stack = c.loop-inserted-item.result in
-    let there = stack_at index stacks c.loop-inserted.inserted stack c.loop-inserted-test.true c.loop-inserted-item.is in
+    let stack = c.index-stacks-inserted.result in
+    let there = stack_at index stacks c.loop-inserted.inserted stack c.loop-inserted-test.true c.index-stacks-inserted.is in
     rw c.deref.ensures.value (stack_tried at.checked.table (stacks_of index stacks) c.loop-inserted.inserted (states_of index stack.items) c.requires.tried.are there)
 
 pub loop-inserted-preserved : goal.loop-inserted-preserved
@@ -28,9 +28,9 @@ loop-inserted-preserved g c =
     let tokens = tokens_of index c.args.self.now.tokens.now in
     let stacks = c.args.stacks.now in
     let l = c.loop-inserted in
-    let stack = c.loop-inserted-item.result in
+    let stack = c.index-stacks-inserted.result in
     let states = states_of index stack.items in
-    let there = stack_at index stacks l.inserted stack c.loop-inserted-test.true c.loop-inserted-item.is in
+    let there = stack_at index stacks l.inserted stack c.loop-inserted-test.true c.index-stacks-inserted.is in
     let fed = c.requires.tried.fed l.inserted states there in
     let says = rw c.deref.ensures.value at c.in_ok-goes_on.ensures in
     not_before_more token at tokens c.args.place l.inserted l.invariant
@@ -45,9 +45,9 @@ returns-then-branch g c =
     let tokens = tokens_of index all in
     let stacks = c.args.stacks.now in
     let l = c.loop-inserted in
-    let stack = c.loop-inserted-item.result in
+    let stack = c.index-stacks-inserted.result in
     let states = states_of index stack.items in
-    let there = stack_at index stacks l.inserted stack c.loop-inserted-test.true c.loop-inserted-item.is in
+    let there = stack_at index stacks l.inserted stack c.loop-inserted-test.true c.index-stacks-inserted.is in
     let fed = c.requires.tried.fed l.inserted states there in
     let says = rw c.deref.ensures.value at c.in_ok-goes_on.ensures in
     let count = length-map stacks (λ v. states_of index v.items) in

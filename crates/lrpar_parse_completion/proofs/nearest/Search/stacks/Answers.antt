@@ -1,4 +1,4 @@
-use Rattle.std.proofs.Common.{◌≡◌, ◌<◌, ◌≤◌, ◌+◌, ◌⊎◌, ◌∙◌, List, ap, arith, inl, inr, length, min, refl, subst, sym, take}
+use Rattle.std.proofs.Common.{◌≡◌, ◌<◌, ◌≤◌, ◌+◌, ◌⊎◌, ◌∙◌, ℕ, Bool, List, ap, arith, false, inl, inr, length, min, refl, subst, sym, take, true}
 use Rattle.std.proofs.lemmas.Bool.{cases_lt}
 use Rattle.std.proofs.lemmas.List.{length-map, length-take}
 use Rattle.lrpar_table_stacks.specs.Expected.{tokens_of}
@@ -33,10 +33,10 @@ tokens-preserved g c =
     let next = states_of index c.feed.new.stack.items in
     let front = token_front index all (take c.min.result all) c.min.result i token refl c.tokens-test.true c.token-item.is in
     let inside : i < length tokens = omega (arith, front.0, length-map all (λ t. index t.0)) in
-    let same = ap (states_of index) (c.in_ok-before.ensures.items ∙ c.deref-before.ensures.value) in
+    let same = ap (states_of index) (c.in_ok-before.ensures.items ∙ c.deref.ensures.value) in
     let pushed = stacks_pushed index l.stacks.items c.push.new.self.items c.in_ok-before.before now c.in_ok-push.ensures.items same in
-    let fed = subst (λ (b : _). IsInserted grm table (index token.0) now next b) c.if-not-branch.false c.in_ok-feed.ensures.fed in
-    let inserted = subst (λ t. IsInserted grm table t now next _) (sym front.1) fed in
+    let fed = subst (λ (b : Bool). IsInserted grm table (index token.0) now next b) c.if-not-branch.false c.in_ok-feed.ensures.fed in
+    let inserted = subst (λ (t : ℕ). IsInserted grm table t now next true) (sym front.1) fed in
     subst (λ xs. Trying grm table at.stack tokens xs next (i + 1)) (sym pushed)
     (trying_more grm table at.stack tokens (stacks_of index l.stacks.items) now i l.invariant next inside inserted c.in_ok-feed.ensures.stack)
 
@@ -56,10 +56,10 @@ returns-then-not-branch g c =
     let front = token_front index all (take c.min.result all) c.min.result i token refl c.tokens-test.true c.token-item.is in
     let inside : i < length tokens = omega (arith, front.0, length-map all (λ t. index t.0)) in
     let low : i ≤ c.args.self.now.most = omega (arith, c.tokens-test.true, length-take c.min.result all, c.min.ensures) in
-    let same = ap (states_of index) (c.in_ok-before.ensures.items ∙ c.deref-before.ensures.value) in
+    let same = ap (states_of index) (c.in_ok-before.ensures.items ∙ c.deref.ensures.value) in
     let pushed = stacks_pushed index l.stacks.items c.push.new.self.items c.in_ok-before.before now c.in_ok-push.ensures.items same in
-    let fed = subst (λ b. IsInserted grm table (index token.0) now next b) c.if-not-branch.true c.in_ok-feed.ensures.fed in
-    let none = subst (λ t. IsInserted grm table t now next _) (sym front.1) fed in
+    let fed = subst (λ (b : Bool). IsInserted grm table (index token.0) now next b) c.if-not-branch.true c.in_ok-feed.ensures.fed in
+    let none = subst (λ (t : ℕ). IsInserted grm table t now next false) (sym front.1) fed in
     subst (λ xs. AreTried grm table at.stack c.args.self.now.most tokens xs) (sym pushed)
     (trying_stops grm table at.stack tokens (stacks_of index l.stacks.items) now i l.invariant c.args.self.now.most next inside low none)
 
