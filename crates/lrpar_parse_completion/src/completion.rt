@@ -101,7 +101,7 @@ impl<'a, StorageT: StorageIndex> Completion<'a, StorageT> {
 
     /// Tries up to this many tokens of a completion at each place, in place of 8. At the end of the input all are tried.
     pub fn most(self, most: usize) -> Self
-        ensures { result ≡ record self { most = most } }
+        ensures { result ≡ record self.entry { most = most } }
     {
         let Completion {
             data,

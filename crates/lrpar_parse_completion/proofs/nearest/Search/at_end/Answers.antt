@@ -3,7 +3,7 @@ use Rattle.std.proofs.lemmas.List.{length-map}
 use Rattle.lrpar_table_stacks.specs.Expected.{tokens_of}
 use Rattle.lrpar_table_stacks.specs.Stack.{IsStack, states_of}
 use Rattle.lrpar_parse_lexemes.specs.Views.{token_by}
-use Rattle.lrpar_parse_completion.specs.Trying.{IsInserted}
+use Rattle.lrpar_parse_completion.specs.Trying.{IsFewest, IsInserted}
 use Rattle.lrpar_parse_completion.proofs.FeedLemmas.{token_is}
 use Rattle.lrpar_parse_completion.proofs.NearestLemmas.{NotBefore, fed_next, fewest_here, goes_not_by_stack, never_at_all, never_past, not_before_more}
 use Rattle.lrpar_parse_completion.proofs.nearest.Search.at_end.Goals as goal
@@ -94,7 +94,9 @@ returns-then-branch-2 g c =
     let now = states_of index l.stack.items in
     let some : l.inserted ≤ length tokens = omega (arith, c.tokens-test.false, length-map all (λ x. index x.0)) in
     let says = rw (c.deref-2.ensures.value, c.lexemes-place.ensures.lexemes) at c.in_ok-goes_on-2.ensures in
-    fewest_here token at tokens (length at.lexemes) l.inserted now some l.invariant.fed (says.0 c.if-branch-2.true) l.invariant.before
+    let same : l.inserted ≡ length all = omega (arith, c.tokens-test.false) in
+    subst (IsFewest token at tokens (length at.lexemes)) same
+    (fewest_here token at tokens (length at.lexemes) l.inserted now some l.invariant.fed (says.0 c.if-branch-2.true) l.invariant.before)
 
 pub returns : goal.returns
 returns g c =
