@@ -65,6 +65,27 @@ module _ {X : Type 0} (token : X → ℕ) (own : Completer) (most : ℕ) (shorte
         one = one;
       }
 
+  -- what the completion of the code's stack says, over the code's table
+  module _ (d : Checked) (st : List ℕ) (same : d ≡ own.checked) (stack : st ≡ at.stack) where
+    can_here : at.checked ≡ own.checked → IsBuilt own.checked.grammar own.checked.graph own.checked.table → CanComplete d
+    can_here is built = subst CanComplete (sym same) (can_complete is built)
+
+    stack_here : at.checked ≡ own.checked → IsBuilt own.checked.grammar own.checked.graph own.checked.table → IsStack d.table st
+    stack_here is built =
+        subst (λ (e : Checked). IsStack e.table st) (sym same) (subst (IsStack own.checked.table) (sym stack) (own_stack is built))
+
+    -- there always is one
+    pub never_none : (CanComplete d → IsStack d.table st → ⊥) → at.checked ≡ own.checked
+        → IsBuilt own.checked.grammar own.checked.graph own.checked.table → ⊥
+    never_none says is built = says (can_here is built) (stack_here is built)
+
+    pub completion_there : (tokens : List ℕ) → (CanComplete d → IsStack d.table st → IsCompletion d.grammar d.table st tokens)
+        → at.checked ≡ own.checked → IsBuilt own.checked.grammar own.checked.graph own.checked.table
+        → IsCompletion own.checked.grammar own.checked.table at.stack tokens
+    completion_there tokens says is built =
+        subst (λ (l : List ℕ). IsCompletion own.checked.grammar own.checked.table l tokens) stack
+        (subst (λ (e : Checked). IsCompletion e.grammar e.table st tokens) same (says (can_here is built) (stack_here is built)))
+
   -- nothing was found
   pub completed_none : (at.checked ≡ own.checked → IsBuilt own.checked.grammar own.checked.graph own.checked.table → ⊥) → IsCompleted token own at []
   completed_none never = record { works = All-nil WorksHere; nearest = λ is built. absurd (never is built) }

@@ -35,7 +35,7 @@ goes_one_way table s (Nonterminal r) next other goes leads =
     let same : ◌≡◌ {A = Option ℕ} (Some next) (Some other) = sym goes ∙ leads in cc
 
 -- how long a list is, before one of its elements
-length_at : {A : Type 0} (xs : List A) (k : ℕ) (x : A) (w : List A) → drop k xs ≡ x ∷ w → length xs ≡ k + 1 + length w
+pub length_at : {A : Type 0} (xs : List A) (k : ℕ) (x : A) (w : List A) → drop k xs ≡ x ∷ w → length xs ≡ k + 1 + length w
 length_at {A} xs k x w is = omega (arith, length-drop k xs, ap (λ (l : List A). length l) is)
 
 module _ (g : Grammar) (graph : Graph) (table : Table) (formed : IsWellFormed g) (closed : IsClosed table) (shape : HasShape g graph table)

@@ -103,13 +103,6 @@ module _ (g : Grammar) (graph : Graph) (table : Table) (closed : IsClosed table)
   pub start_tail : (i k s : ℕ) → slice_get st i ≡ Some s → HasCore graph s (start_prod g) k → IsTail g table (take (i + 1) st) (start_prod g) k []
   start_tail i k s at core = ends (down k i (start_prod g) s at core)
     where
-      ends : Down i (start_prod g) k → IsTail g table (take (i + 1) st) (start_prod g) k []
-      ends d =
-          let first = (safe.each S8 d.base (within d.base (start_prod g) 0 d.core)).first_core d.core in
-          let bottom : d.place ≡ 0 = at_bottom d.place d.base d.at first in
-          d.lift [] (subst (λ (n : ℕ). IsTail g table (take (n + 1) st) (start_prod g) 0 []) (sym bottom)
-          (subst (λ (l : List ℕ). IsTail g table l (start_prod g) 0 []) (sym (bottom_alone table st stack)) AtStart))
-
       at_bottom : (n base : ℕ) → slice_get st n ≡ Some base → base ≡ table.start → n ≡ 0
       at_bottom zero base at is = refl
       at_bottom (suc n) base at is =
@@ -118,3 +111,10 @@ module _ (g : Grammar) (graph : Graph) (table : Table) (closed : IsClosed table)
           let here : slice_get st n ≡ Some low = slice_get-get_or st n 0 inside in
           let goes = stack_joined table st stack n low base here at in
           absurd ((safe.each S8 low (low_in n low here)).never_back goes.0 (subst (λ (m : ℕ). GoesBy table low goes.0 m) is goes.1))
+
+      ends : Down i (start_prod g) k → IsTail g table (take (i + 1) st) (start_prod g) k []
+      ends d =
+          let first = (safe.each S8 d.base (within d.base (start_prod g) 0 d.core)).first_core d.core in
+          let bottom : d.place ≡ 0 = at_bottom d.place d.base d.at first in
+          d.lift [] (subst (λ (n : ℕ). IsTail g table (take (n + 1) st) (start_prod g) 0 []) (sym bottom)
+          (subst (λ (l : List ℕ). IsTail g table l (start_prod g) 0 []) (sym (bottom_alone table st stack)) AtStart))

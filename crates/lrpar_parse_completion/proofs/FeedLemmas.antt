@@ -90,6 +90,14 @@ module _ (g : Grammar) (table : Table) where
         → (after : List ℕ) × FeedsAll g table st tokens after × AcceptsAtEnd g table after
     completes_feeds_all st tokens path completes = run_feeds_all tokens st 0 completes.0 Accepted completes.1 refl path
 
+-- what `feed` says of a token of the grammar that isn't the end token
+pub inserted_by : (g : Grammar) (table : Table) (cap t : ℕ) (st : List ℕ) (fed : Bool) (after : List ℕ) → t < end_token g → IsFedBy g table cap t st fed after
+    → IsInserted g table t st after fed
+inserted_by g table cap t st true after low h = (low, h)
+inserted_by g table cap t st false after low h = λ below prods next feeds.
+    let same = settles_one_way g table t st h.0.1.prods prods after feeds.settled h.0.1.settles feeds.settles in
+    h.1 feeds.next (subst (λ (l : List ℕ). top_action table t l ≡ ShiftTo feeds.next) (sym same.1) feeds.shifts)
+
 module _ {X : Type 0} (token : X → ℕ) (at : Asked X) (tokens : List ℕ) where
   abbrev g : Grammar
   g = at.checked.grammar
@@ -102,8 +110,8 @@ module _ {X : Type 0} (token : X → ℕ) (at : Asked X) (tokens : List ℕ) whe
 
   -- at the end of the lexemes a stack that accepts goes on
   accepts_on : (k : ℕ) (after : List ℕ) → 0 < k → AcceptsAtEnd g table after → CanGoOn token g table at.lexemes k after (length at.lexemes)
-  accepts_on zero after some accepts = absurd (omega (arith, some))
-  accepts_on (suc k) after some accepts = inr (refl, accepts)
+  accepts_on zero after some last = absurd (omega (arith, some))
+  accepts_on (suc k) after some last = inr (refl, last)
 
   -- so a completion goes on at the end, if it is inserted whole
   pub goes_on_at_end : 0 < at.shifts → ((after : List ℕ) × FeedsAll g table at.stack tokens after × AcceptsAtEnd g table after)
@@ -143,14 +151,6 @@ module _ {X : Type 0} (token : X → ℕ) (at : Asked X) (tokens : List ℕ) whe
       let sum : j ≡ at.place + n = omega (arith, after_stop) in
       inserts_work (take m tokens) at.stack on.0 at.place (replicate n PlainDelete) on.1
       (deletes_work n at.place on.0 (omega (arith, sum, within)) (subst (λ (i : ℕ). CanGoOn token g table at.lexemes at.shifts on.0 i) sum on.2))
-
--- what `feed` says of a token of the grammar that isn't the end token
-pub inserted_by : (g : Grammar) (table : Table) (cap t : ℕ) (st : List ℕ) (fed : Bool) (after : List ℕ) → t < end_token g → IsFedBy g table cap t st fed after
-    → IsInserted g table t st after fed
-inserted_by g table cap t st true after low h = (low, h)
-inserted_by g table cap t st false after low h = λ below prods next feeds.
-    let same = settles_one_way g table t st h.0.1.prods prods after feeds.settled h.0.1.settles feeds.settles in
-    h.1 feeds.next (subst (λ (l : List ℕ). top_action table t l ≡ ShiftTo feeds.next) (sym same.1) feeds.shifts)
 
 -- a token of the code in its place
 pub token_is : {S : Type 0} (index : S → ℕ) (tokens : List (TIdx S)) (i : ℕ) (token : TIdx S) → i < length tokens → token ≡ get_or tokens i token

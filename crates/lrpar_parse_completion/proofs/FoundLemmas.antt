@@ -7,6 +7,7 @@ use Rattle.std.proofs.Math.Seq.{take-append_seam}
 use Rattle.std.proofs.lemmas.Bool.{cases_eq, cases_lt, false≢true}
 use Rattle.std.proofs.lemmas.List.{append-nil, append_assoc, get_or-replicate, get_or-set_other, get_or_past, length-map, length-replicate, length-set, map-append, take-append-le}
 use Rattle.std.proofs.lemmas.List.Elements.{Contains-append_left, Contains-append_right}
+use Rattle.std.proofs.lemmas.List.Folds.{sum_by-replicate}
 use Rattle.std.proofs.lemmas.List.Sums.{sum_by-set}
 use Rattle.std.proofs.lemmas.Option.{get_or_from_slice_get, slice_get-get_or, slice_get-map, slice_get_within}
 use Rattle.std.specs.Option.{option_map}
@@ -143,8 +144,7 @@ none_marked n r =
     ]
 
 all_unmarked : (n : ℕ) → unmarked (replicate n false) ≡ n
-all_unmarked zero = refl
-all_unmarked (suc n) = let more = all_unmarked n in omega (arith, more)
+all_unmarked n = let all = sum_by-replicate {X = Bool} (λ b. cond (not b) 1 0) n false in omega (arith, all)
 
 pub counted_none : (g : Grammar) (marks : List Bool) → marks ≡ replicate (rules_len g) false → AreCounted g [] marks
 counted_none g marks is =

@@ -3,7 +3,8 @@ use Rattle.std.proofs.Common.{◌≡◌, ◌≢◌, ◌<◌, ◌≤◌, ◌+◌,
 use Rattle.std.specs.Prelude.{MatchOption, map, replicate}
 use Rattle.std.proofs.lemmas.Bool.{cases_eq, cases_lt}
 use Rattle.std.proofs.lemmas.List.{append-nil, append_assoc, map-append, take_all, take_more}
-use Rattle.std.proofs.lemmas.List.Elements.{All-append, All-cons, All-nil}
+use Rattle.std.proofs.lemmas.List.Elements.{All-append, All-cons, All-get_or, All-nil}
+use Rattle.std.proofs.lemmas.Option.{get_or_from_slice_get, slice_get_within}
 use Rattle.lrpar_grammar.specs.Grammar.{Grammar, end_token}
 use Rattle.lrpar_table_rows.specs.Table.{Table}
 use Rattle.lrpar_table_stacks.specs.Reduction.{Feeds}
@@ -37,6 +38,12 @@ last_cases (z ∷ xs) y (suc i) x at =
       | inr last ↦ inr (omega (arith, last.0), last.1)
     ]
 
+-- one of the stacks
+pub stack_tried : (table : Table) (stacks : List (List ℕ)) (i : ℕ) (st : List ℕ) → All (IsStack table) stacks → slice_get stacks i ≡ Some st
+    → IsStack table st
+stack_tried table stacks i st are at =
+    subst (IsStack table) (get_or_from_slice_get stacks i st st at) (All-get_or (IsStack table) stacks i st (slice_get_within stacks i st at) are)
+
 module _ (g : Grammar) (table : Table) (st tokens : List ℕ) where
   -- if the next token can't be fed, no more tokens can
   not_fed_past : (i : ℕ) (now next : List ℕ) → i < length tokens → FeedsAll g table st (take i tokens) now
@@ -49,7 +56,7 @@ module _ (g : Grammar) (table : Table) (st tokens : List ℕ) where
       let first = parts.2 in
       none first.0 first.1.0 first.1.1 (subst (λ (l : List ℕ). Feeds g table t l first.1.0 first.1.1) same first.1.2)
 
-  fed_next : (i : ℕ) (now next : List ℕ) → i < length tokens → FeedsAll g table st (take i tokens) now
+  pub fed_next : (i : ℕ) (now next : List ℕ) → i < length tokens → FeedsAll g table st (take i tokens) now
       → IsInserted g table (get_or tokens i 0) now next true → FeedsAll g table st (take (i + 1) tokens) next
   fed_next i now next inside fed inserted =
       subst (λ (l : List ℕ). FeedsAll g table st l next) (sym (take_more tokens i 0 inside))

@@ -4,28 +4,31 @@
 use Rattle.std.proofs.Common.{◌≡◌, ◌≢◌, ◌<◌, ◌≤◌, ◌+◌, ◌-◌, ◌∙◌, ◌⊎◌, ◌↔◌, inl, inr, refl, sym, ap, subst, arith, add-one, ℕ, zero, suc, List, [], ◌∷◌, ◌++◌, length, drop, take, get_or, slice_get, Option, Some, None}
 use Rattle.std.specs.Prelude.{map}
 use Rattle.std.specs.List.{Contains}
-use Rattle.std.proofs.lemmas.List.{append-nil, append_assoc, length-map, take_all, take_more}
+use Rattle.std.specs.Option.{option_map}
+use Rattle.std.proofs.lemmas.List.{append-nil, append_assoc, drop-map, length-drop, length-map, take_all, take_more}
 use Rattle.std.proofs.lemmas.List.Elements.{All-drop}
-use Rattle.std.proofs.lemmas.Option.{get_or_from_slice_get, slice_get-get_or, slice_get_within}
+use Rattle.std.proofs.lemmas.Option.{get_or_from_slice_get, slice_get-get_or, slice_get-map, slice_get_within}
 use Rattle.lrpar_grammar.specs.Grammar.{Grammar, GrammarSymbol, IsWellFormed, Nonterminal, end_token, prod_len, prods_len, rule_of, start_prod, symbols_of}
 use Rattle.lrpar_grammar.specs.Tree.{forest_leaves}
 use Rattle.lrpar_table_rows.specs.Graph.{Graph, HasCore, graph_len}
 use Rattle.lrpar_table_rows.specs.PlainItems.{core_of}
 use Rattle.lrpar_table_rows.specs.Table.{Table}
-use Rattle.lrpar_table_rows.proofs.ItemLemmas.{Contains-image}
+use Rattle.lrpar_table_rows.proofs.ItemLemmas.{Contains-image, Contains-preimage}
 use Rattle.lrpar_grammar_places.specs.declared.span.PIdx.{PIdx}
+use Rattle.lrpar_grammar_places.specs.declared.span.StIdx.{StIdx}
+use Rattle.lrpar_table_build.proofs.ReachedLemmas.{head_after, no_added_rule}
 use Rattle.lrpar_table_conditions.proofs.FirstTokenLemmas.{at_drop}
 use Rattle.lrpar_table_conditions.specs.declared.completeness.CompletenessCondition.TheVariants.{C1}
 use Rattle.lrpar_table_check.specs.Checked.{Checked, IsChecked}
 use Rattle.lrpar_table_sentences.specs.Reachable.{IsReachableRule, IsReachableSymbol}
 use Rattle.lrpar_table_sentences.specs.Texts.{AreShortestTrees, HaveTrees}
 use Rattle.lrpar_table_sentences.proofs.AfterLemmas.{have_trees, prod_reached}
-use Rattle.lrpar_table_stacks.specs.Stack.{IsStack, top_of}
+use Rattle.lrpar_table_stacks.specs.Stack.{IsStack, states_of, top_of}
 use Rattle.lrpar_parse_completion.specs.Completing.{IsCompletion, IsTail, IsTailOfRule, Opened}
 use Rattle.lrpar_parse_completion.specs.Opening.{ArePushed, CanComplete, IsKernelCore, IsOpenedBy}
 use Rattle.lrpar_parse_completion.specs.Waiting.{AreLinks, AreWaiting, IsLink, IsOwnCore, LinkOf, rules_in}
 use Rattle.lrpar_parse_completion.proofs.DownLemmas.{Down, down, low_in, start_tail}
-use Rattle.lrpar_parse_completion.proofs.WaitingLemmas.{core_reached, kernel_or_start, links_have_trees, waited_for}
+use Rattle.lrpar_parse_completion.proofs.WaitingLemmas.{core_reached, kernel_or_start, links_have_trees, take_get, waited_for}
 
 -- a rule that isn't that of the last link is one of the others
 pub not_last : (links : List LinkOf) (link : LinkOf) (r : ℕ) → Contains (rules_in (links ++ link ∷ [])) r → link.rule ≢ r → Contains (rules_in links) r
@@ -39,6 +42,61 @@ not_last (x ∷ links) link r (suc i, below, is) other =
 pub links_to : (links : List LinkOf) (n : ℕ) (link : LinkOf) → slice_get links n ≡ Some link → take (n + 1) links ≡ take n links ++ link ∷ []
 links_to links n link at =
     take_more links n link (slice_get_within links n link at) ∙ ap (λ (x : LinkOf). take n links ++ x ∷ []) (get_or_from_slice_get links n link link at)
+
+-- no link is before the first
+pub none_listed : (links : List LinkOf) (n r : ℕ) → n ≡ 0 → Contains (rules_in (take n links)) r → ⊥
+none_listed links n r first has =
+    let there : Contains (rules_in (take 0 links)) r = subst (λ (m : ℕ). Contains (rules_in (take m links)) r) first has in
+    absurd (omega (arith, there.1))
+
+module _ (g : Grammar) (well : IsWellFormed g) (own : ℕ → ℕ → Type 0) (links : List LinkOf) (are : AreLinks g own links) where
+  -- no link has the start rule
+  no_start_rule : (m r : ℕ) → r ≡ 0 → Contains (rules_in (take m links)) r → ⊥
+  no_start_rule m r first has =
+      let found = Contains-preimage (λ (y : LinkOf). y.rule) (take m links) r has in
+      let before = take_get links m found.1.0 found.0 found.1.1 found.1.2 in
+      let other = are found.1.0 found.0 before.1 in
+      let at = head_after (symbols_of g found.0.prod) found.0.dot (Nonterminal found.0.rule) other.rest other.waits in
+      no_added_rule g well found.0.prod found.0.dot found.0.rule (found.2 ∙ first) at
+
+  module _ (n : ℕ) (x : LinkOf) (at : slice_get links n ≡ Some x) where
+    -- an item with a symbol before its dot, or of the start production, is the state's own
+    pub own_link : (0 < x.dot) ⊎ (x.prod ≡ start_prod g) → own x.prod x.dot
+    own_link begun =
+        elim (are n x at).from as (λ _. own x.prod x.dot) [
+          | inl mine ↦ mine
+          | inr later ↦
+              elim begun as (λ _. own x.prod x.dot) [
+                | inl past ↦ absurd (omega (arith, past, later.0))
+                | inr start ↦ absurd (no_start_rule n (rule_of g x.prod) (ap (rule_of g) start ∙ well.last_rule) later.1)
+              ]
+        ]
+
+    -- another one begins a production of an earlier rule
+    pub later_link : ((p k : ℕ) → own p k → (0 < k) ⊎ (p ≡ start_prod g)) → (((0 < x.dot) ⊎ (x.prod ≡ start_prod g)) → ⊥)
+        → (x.dot ≡ 0) × Contains (rules_in (take n links)) (rule_of g x.prod)
+    later_link begun other =
+        elim (are n x at).from as (λ _. (x.dot ≡ 0) × Contains (rules_in (take n links)) (rule_of g x.prod)) [
+          | inl mine ↦ absurd (other (begun x.prod x.dot mine))
+          | inr later ↦ later
+        ]
+
+-- a core of the state's own has a symbol before its dot, or is of the start production
+pub own_begun : (g : Grammar) (graph : Graph) (table : Table) (s p k : ℕ) → IsOwnCore g graph table s p k → (0 < k) ⊎ (p ≡ start_prod g)
+own_begun g graph table s p k own = elim own as (λ _. (0 < k) ⊎ (p ≡ start_prod g)) [ inl kernel ↦ inl kernel.1 | inr start ↦ inr start.1 ]
+
+-- the rest of symbols of the code
+pub rest_of : {X Y : Type 0} (f : X → Y) (k : ℕ) (xs : List X) (ys : List Y) → map f xs ≡ ys
+    → map f (take (length xs - k) (drop k xs)) ≡ drop k ys
+rest_of f k xs ys is =
+    ap (map f) (take_all (length xs - k) (drop k xs) (omega (arith, length-drop k xs))) ∙ sym (drop-map f k xs) ∙ ap (drop k) is
+
+-- a state of the code in its place
+pub state_at : {S : Type 0} (index : S → ℕ) (stack : List (StIdx S)) (i : ℕ) (s : StIdx S) → i < length stack → s ≡ get_or stack i s
+    → slice_get (states_of index stack) i ≡ Some (index s.0)
+state_at {S} index stack i s low is =
+    slice_get-map (λ (x : StIdx S). index x.0) stack i
+    ∙ ap (option_map (λ (x : StIdx S). index x.0)) (slice_get-get_or stack i s low ∙ ap (λ (x : StIdx S). Some x) (sym is))
 
 -- a core that `begun_cores` returns is that of a kernel item
 pub begun_is : {S : Type 0} (index : S → ℕ) (graph : Graph) (s : ℕ) (cores : List (PIdx S × ℕ)) (i : ℕ) (core : PIdx S × ℕ)
@@ -107,6 +165,14 @@ pub no_stack : (table : Table) (st : List ℕ) → length st ≡ 0 → IsStack t
 no_stack table [] none stack = stack
 no_stack table (s ∷ st) none stack = absurd (omega (arith, none))
 
+-- how far the completion has come: the state in this place of the stack has the core, and what comes after its production completes the
+-- stack
+pub record Completing (d : Checked) (st : List ℕ) (place p k : ℕ) (tokens : List ℕ) : Type 0 where
+  pub s : ℕ
+  pub at : slice_get st place ≡ Some s
+  pub kernel : IsKernelCore d.grammar d.graph s p k
+  pub tail : (rest : List ℕ) → IsTail d.grammar d.table (take (place + 1) st) p k rest → IsCompletion d.grammar d.table st (tokens ++ rest)
+
 module _ (d : Checked) (checked : IsChecked d) where
   abbrev g : Grammar
   g = d.grammar
@@ -174,17 +240,9 @@ module _ (d : Checked) (checked : IsChecked d) where
     opened_waits s q links low waiting core other =
         waited_for g checked.well_formed graph table can.built.canonical can.built.resolved.start s low links waiting q core other
 
-  -- how far the completion has come: the state in this place of the stack has the core, and what comes after its production completes the
-  -- stack
-  pub record Completing (st : List ℕ) (place p k : ℕ) (tokens : List ℕ) : Type 0 where
-    pub s : ℕ
-    pub at : slice_get st place ≡ Some s
-    pub kernel : IsKernelCore g graph s p k
-    pub tail : (rest : List ℕ) → IsTail g table (take (place + 1) st) p k rest → IsCompletion g table st (tokens ++ rest)
-
   -- at first, a minimal sentence of the symbols after the dot of a core of the top
   pub completing_first : (st : List ℕ) (place s p k : ℕ) (tokens : List ℕ) → length st ≡ place + 1 → slice_get st place ≡ Some s
-      → IsKernelCore g graph s p k → ArePushed g (drop k (symbols_of g p)) [] tokens → Completing st place p k tokens
+      → IsKernelCore g graph s p k → ArePushed g (drop k (symbols_of g p)) [] tokens → Completing d st place p k tokens
   completing_first st place s p k tokens many at kernel pushed = record {
     s = s;
     at = at;
@@ -202,7 +260,7 @@ module _ (d : Checked) (checked : IsChecked d) where
         };
   }
 
-  module _ (st : List ℕ) (stack : IsStack table st) (place p k : ℕ) (tokens : List ℕ) (completing : Completing st place p k tokens) where
+  module _ (st : List ℕ) (stack : IsStack table st) (place p k : ℕ) (tokens : List ℕ) (completing : Completing d st place p k tokens) where
     abbrev lower : Down g graph table checked.closed checked.safe st stack place p k
     lower = down g graph table checked.closed checked.safe st stack k place p completing.s completing.at completing.kernel.core
 
@@ -230,7 +288,7 @@ module _ (d : Checked) (checked : IsChecked d) where
 
     -- the next item below
     pub completing_next : CanComplete d → (s q j : ℕ) (after : List ℕ) → s < graph_len graph → slice_get st (place - k) ≡ Some s → p < prods_len g
-        → IsOpenedBy g graph table s (rule_of g p) tokens after q j → Completing st (place - k) q j after
+        → IsOpenedBy g graph table s (rule_of g p) tokens after q j → Completing d st (place - k) q j after
     completing_next can s q j after low at known opened =
         let b = lower in
         let sum = b.below in

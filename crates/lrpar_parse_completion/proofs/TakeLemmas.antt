@@ -1,6 +1,6 @@
 -- The tokens that moves take. Those of the moves of trees are the trees' leaves.
 use Rattle.std.proofs.Common.{◌≡◌, ◌∙◌, refl, sym, ap, ℕ, true, false, List, [], ◌∷◌, ◌++◌, Option, Some, None}
-use Rattle.std.specs.Option.{is_none}
+use Rattle.std.specs.Option.{is_some}
 use Rattle.std.proofs.lemmas.Bool.{false≢true, true≢false}
 use Rattle.std.specs.Prelude.{map}
 use Rattle.std.proofs.lemmas.List.{append-nil, append_assoc, map-append}
@@ -64,14 +64,14 @@ module _ {S : Type 0} (index : S → ℕ) where
       ∙ ap takes (sym (map-append (move_of index) moves (Make prod ∷ []))))
 
 -- if no length was found, there are no trees; and if one was found, there are
-pub none_refuses : (g : Grammar) (most : ℕ) (symbols : List GrammarSymbol) (len : Option ℕ) → IsShortestIfAny g most symbols len → is_none len ≡ true
+pub none_refuses : (g : Grammar) (most : ℕ) (symbols : List GrammarSymbol) (len : Option ℕ) → IsShortestIfAny g most symbols len → is_some len ≡ false
     → ¬ (HaveTrees g symbols)
 none_refuses g most symbols None none is trees = none trees.0 trees.1
-none_refuses g most symbols (Some n) some is trees = false≢true is
+none_refuses g most symbols (Some n) some is trees = true≢false is
 
-pub some_trees : (g : Grammar) (most : ℕ) (symbols : List GrammarSymbol) (len : Option ℕ) → IsShortestIfAny g most symbols len → is_none len ≡ false
+pub some_trees : (g : Grammar) (most : ℕ) (symbols : List GrammarSymbol) (len : Option ℕ) → IsShortestIfAny g most symbols len → is_some len ≡ true
     → HaveTrees g symbols
-some_trees g most symbols None none is = absurd (true≢false is)
+some_trees g most symbols None none is = absurd (false≢true is)
 some_trees g most symbols (Some n) some is = (some.some.0, some.some.1)
 
 -- all moves were taken: their trees' leaves were appended

@@ -16,11 +16,11 @@ pub record Completer : Type 0 where
   pub most : ℕ
 
 -- the table is checked and complete, its reachable rules are productive, and the minimal sentences are those of its grammar
-pub record IsReady (most_len : ℕ) (d : Checked) (shortest : List (Option ChoiceOf)) : Type 0 where
+pub record IsReady (most_len : ℕ) (d : Checked) (choices : List (Option ChoiceOf)) : Type 0 where
   pub checked : IsChecked d
   pub complete : IsComplete d.grammar d.graph d.table
   pub productive : EachReachableHasTree d.grammar
-  pub shortest : AreShortest d.grammar most_len shortest
+  pub shortest : AreShortest d.grammar most_len choices
 
 -- the answer is one sequence: the repair of a completion of the stack, at the nearest place
 pub record IsNearestRepair {X : Type 0} (token : X → ℕ) (at : Asked X) (most : ℕ) (answer : List (List PlainStep)) : Type 0 where

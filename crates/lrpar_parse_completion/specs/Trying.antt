@@ -1,5 +1,5 @@
 -- How the nearest place is found: the stacks after the first tokens, and what is known of the places that were tried.
-use Rattle.std.specs.Prelude.{◌≡◌, ◌<◌, ◌≤◌, ℕ, Bool, true, false, List, All, Some, Vec, length, map, slice_get, take}
+use Rattle.std.specs.Prelude.{◌≡◌, ◌<◌, ◌≤◌, ◌+◌, ℕ, Bool, true, false, List, All, Some, Vec, length, map, slice_get, take}
 use Rattle.lrpar_grammar_places.specs.declared.span.StIdx.{StIdx}
 use Rattle.lrpar_grammar.specs.Grammar.{Grammar, end_token}
 use Rattle.lrpar_table_rows.specs.Table.{Table}

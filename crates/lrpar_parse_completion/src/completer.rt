@@ -1,6 +1,6 @@
 //! The completion of a stack: tokens that lead from it to a stack that accepts.
-ghost use Rattle.std.specs.Prelude.{◌≡◌, ◌≢◌, ◌<◌, ◌≤◌, ◌⊎◌, ◌↔◌, IfOk, IfSome, IsSome, IsSomeAnd, IsTrue, map};
-ghost use Rattle.lrpar_grammar.specs.Grammar.{prod_len, prods_len, rule_of, start_prod};
+ghost use Rattle.std.specs.Prelude.{◌≡◌, ◌≢◌, ◌<◌, ◌≤◌, ◌+◌, ◌⊎◌, ◌↔◌, IfOk, IfSome, IsSome, IsSomeAnd, IsTrue, drop, map};
+ghost use Rattle.lrpar_grammar.specs.Grammar.{prod_len, prods_len, rule_of, start_prod, symbols_of};
 ghost use Rattle.lrpar_grammar.specs.Symbols.{symbol_of};
 ghost use Rattle.lrpar_table_rows.specs.Graph.{HasCore, graph_len};
 ghost use Rattle.lrpar_table_sentences.specs.Choices.{AreShortest};
@@ -10,7 +10,8 @@ ghost use Rattle.lrpar_table_stacks.specs.Stack.{IsStack, states_of};
 ghost use Rattle.lrpar_parse_completion.specs.Completing.{IsCompletion};
 ghost use Rattle.lrpar_parse_completion.specs.Opening.{ArePushed, CanComplete, IsKernelCore, IsOpenedBy};
 
-use crate::waiting::waiting;
+use crate::waiting::{Link, waiting};
+use lrpar_grammar::grammar::YaccGrammar;
 use lrpar_grammar::span::{PIdx, StIdx, StorageIndex, Symbol, TIdx};
 use lrpar_table_check::check::ParserData;
 use lrpar_table_sentences::moves::Move;
@@ -38,6 +39,7 @@ impl<'a, StorageT: StorageIndex> Completer<'a, StorageT> {
         ensures completion { let d = self.now.data.now in IfOk result (λ found. CanComplete d → IsStack d.table (states_of StorageT.index stack.now)
             → IsSomeAnd found (λ tokens. IsCompletion d.grammar d.table (states_of StorageT.index stack.now) (tokens_of StorageT.index tokens.items))) }
     {
+        let _table = self.data.stable();
         if stack.is_empty() {
             return Ok(None);
         }
@@ -49,8 +51,9 @@ impl<'a, StorageT: StorageIndex> Completer<'a, StorageT> {
         let start = usize::from(self.data.grm().start_prod());
         let (mut prod, mut dot) = self.kernel_core(top);
         let mut tokens = Vec::new(alloc);
-        let rest = &self.data.grm().prod(prod)[dot..];
-        if !self.push_rest(alloc, &mut tokens, rest)? {
+        let grm = self.data.grm();
+        let rest = &grm.prod(prod)[dot..];
+        if !push_rest(alloc, grm, self.shortest, &mut tokens, rest)? {
             return Ok(None);
         }
         'items: while usize::from(prod) != start {
@@ -135,8 +138,7 @@ impl<'a, StorageT: StorageIndex> Completer<'a, StorageT> {
             if usize::from(link.rule) != usize::from(wanted) {
                 continue;
             }
-            let rest = &grm.prod(link.prod)[link.dot + 1..];
-            if !self.push_rest(alloc, tokens, rest)? {
+            if !push_after(alloc, grm, self.shortest, tokens, link)? {
                 return Ok(None);
             }
             if self.is_kernel(link.prod, link.dot) {
@@ -146,31 +148,50 @@ impl<'a, StorageT: StorageIndex> Completer<'a, StorageT> {
         }
         Ok(None)
     }
+}
 
-    // Appends the tokens of a minimal sentence of the symbols; returns whether there is one.
-    fn push_rest(
-        &self,
-        alloc: Global,
-        tokens: &mut Vec<TIdx<StorageT>>,
-        symbols: &[Symbol<StorageT>],
-    ) -> Result<bool, AllocError>
-        requires shortest { AreShortest self.now.data.now.grammar usize.MAX self.now.shortest.now }
-        ensures pushed { IfOk result (λ some. IsTrue some → ArePushed self.now.data.now.grammar (map (symbol_of StorageT.index) symbols.now)
-            (tokens_of StorageT.index tokens.old.items) (tokens_of StorageT.index tokens.new.items)) }
-        ensures some { IfOk result (λ some. HaveTrees self.now.data.now.grammar (map (symbol_of StorageT.index) symbols.now) → IsTrue some) }
-    {
-        if self.shortest.len_of_all(symbols).is_none() {
-            return Ok(false);
-        }
-        let mut moves = Vec::new(alloc);
-        self.shortest
-            .push_all_moves(alloc, &mut moves, self.data.grm(), symbols)?;
-        for step in moves {
-            let Move::Take(token) = step else {
-                continue;
-            };
-            tokens.push(token)?;
-        }
-        Ok(true)
+// Appends the tokens of a minimal sentence of the symbols after the link's rule; returns whether there is one.
+fn push_after<StorageT: StorageIndex>(
+    alloc: Global,
+    grm: &YaccGrammar<StorageT>,
+    shortest: &Shortest<StorageT>,
+    tokens: &mut Vec<TIdx<StorageT>>,
+    link: Link<StorageT>,
+) -> Result<bool, AllocError>
+    requires shortest { AreShortest grm.now usize.MAX shortest.now }
+    requires prod { StorageT.index link.prod.0 < prods_len grm.now }
+    requires dot { link.dot < prod_len grm.now (StorageT.index link.prod.0) }
+    ensures pushed { IfOk result (λ some. IsTrue some → ArePushed grm.now (drop (link.dot + 1) (symbols_of grm.now (StorageT.index link.prod.0)))
+        (tokens_of StorageT.index tokens.old.items) (tokens_of StorageT.index tokens.new.items)) }
+    ensures some { IfOk result (λ some. HaveTrees grm.now (drop (link.dot + 1) (symbols_of grm.now (StorageT.index link.prod.0))) → IsTrue some) }
+{
+    let rest = &grm.prod(link.prod)[link.dot + 1..];
+    push_rest(alloc, grm, shortest, tokens, rest)
+}
+
+// Appends the tokens of a minimal sentence of the symbols; returns whether there is one.
+fn push_rest<StorageT: StorageIndex>(
+    alloc: Global,
+    grm: &YaccGrammar<StorageT>,
+    shortest: &Shortest<StorageT>,
+    tokens: &mut Vec<TIdx<StorageT>>,
+    symbols: &[Symbol<StorageT>],
+) -> Result<bool, AllocError>
+    requires shortest { AreShortest grm.now usize.MAX shortest.now }
+    ensures pushed { IfOk result (λ some. IsTrue some → ArePushed grm.now (map (symbol_of StorageT.index) symbols.now)
+        (tokens_of StorageT.index tokens.old.items) (tokens_of StorageT.index tokens.new.items)) }
+    ensures some { IfOk result (λ some. HaveTrees grm.now (map (symbol_of StorageT.index) symbols.now) → IsTrue some) }
+{
+    if shortest.len_of_all(symbols).is_none() {
+        return Ok(false);
     }
+    let mut moves = Vec::new(alloc);
+    shortest.push_all_moves(alloc, &mut moves, grm, symbols)?;
+    for step in moves {
+        let Move::Take(token) = step else {
+            continue;
+        };
+        tokens.push(token)?;
+    }
+    Ok(true)
 }

@@ -52,13 +52,14 @@ impl<StorageT: StorageIndex> Drop for Completion<'_, StorageT> {
 }
 
 impl<'a, StorageT: StorageIndex> Model for Completion<'a, StorageT> {
+    ghost use Rattle.std.below.core.specs.declared.int.usize.TheConstants.{MAX};
     ghost use Rattle.lrpar_parse_completion.specs.Answer.{Completer, IsReady};
 
     ghost Value = { Completer };
 
     ghost view = { λ c. record { checked = c.data.now; most = c.most } };
 
-    ghost invariant = { λ c. IsReady usize.MAX c.data.now c.shortest };
+    ghost invariant = { λ c. IsReady MAX c.data.now c.shortest };
 }
 
 impl<'a, StorageT: StorageIndex> Completion<'a, StorageT> {
@@ -100,7 +101,7 @@ impl<'a, StorageT: StorageIndex> Completion<'a, StorageT> {
 
     /// Tries up to this many tokens of a completion at each place, in place of 8. At the end of the input all are tried.
     pub fn most(self, most: usize) -> Self
-        ensures { result ≡ record self { most = most } }
+        ensures { result ≡ record self.entry { most = most } }
     {
         let Completion {
             data,

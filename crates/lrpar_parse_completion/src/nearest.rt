@@ -44,13 +44,11 @@ impl<'a, 'p, StorageT: StorageIndex, LexemeT: Lexeme<StorageT>> Search<'a, 'p, S
                 return Ok(Some(Nearest { inserted, place }));
             }
         }
-        match self.at_end(alloc)? {
-            None => Ok(None),
-            Some(inserted) => Ok(Some(Nearest {
-                inserted,
-                place: self.point.lexemes().len(),
-            })),
-        }
+        let Some(inserted) = self.at_end(alloc)? else {
+            return Ok(None);
+        };
+        let place = self.point.lexemes().len();
+        Ok(Some(Nearest { inserted, place }))
     }
 
     // The stacks after none, one, two, .. of the tokens, up to the number that is tried, as long as they can be fed.
@@ -163,7 +161,8 @@ impl<'a, 'p, StorageT: StorageIndex, LexemeT: Lexeme<StorageT>> Search<'a, 'p, S
         alloc: Global,
         repair: Nearest,
     ) -> Result<Vec<RepairStep<StorageT>>, AllocError>
-        requires { repair.inserted ≤ length self.now.tokens.now }
+        requires inserted { repair.inserted ≤ length self.now.tokens.now }
+        requires after { self.now.point.now.place ≤ repair.place }
         ensures { IfOk result (λ steps. plain_steps StorageT.index steps.items
             ≡ repair_at (tokens_of StorageT.index self.now.tokens.now) self.now.point.now.place repair.place repair.inserted) }
     {

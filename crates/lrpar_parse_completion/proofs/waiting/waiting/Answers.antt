@@ -10,7 +10,7 @@ use Rattle.lrpar_parse_completion.proofs.waiting.waiting.Goals as goal
 pub add_kernel-requires-clause-counted : goal.add_kernel-requires-clause-counted
 add_kernel-requires-clause-counted g c =
     let d = c.args.checked.now in
-    let first = c.in_ok-found.field-0 in
+    let first = c.in_ok-found.found in
     let marks = rw c.grm-grm.ensures at c.in_ok-found.ensures.marks in
     subst (λ (l : List LinkOf). AreCounted d.grammar l first.marks.items) (sym c.in_ok-found.ensures.links) (counted_none d.grammar first.marks.items marks)
 
@@ -21,7 +21,7 @@ found-init g c =
     let grm = d.grammar in
     let s = index c.args.state.0 in
     let own = IsOwnCore grm d.graph d.table s in
-    let first = c.in_ok-found.field-0 in
+    let first = c.in_ok-found.found in
     let marks = rw c.grm-grm.ensures at c.in_ok-found.ensures.marks in
     let nothing = subst (λ (l : List LinkOf). AreFound grm own l first.marks.items) (sym c.in_ok-found.ensures.links) (found_none grm own first.marks.items marks) in
     let kernel = c.in_ok-add_kernel.ensures.grows nothing in
@@ -47,7 +47,8 @@ add_prods-requires-clause-rule g c =
     let index = g.StorageT.StorageIndex.index in
     let d = c.args.checked.now in
     let own = IsOwnCore d.grammar d.graph d.table (index c.args.state.0) in
-    let at = link_at index c.found.found.links.items c.found.place c.index-link.result.now c.found-test.true c.index-link.ensures in
+    let low : c.found.place < length c.found.found.links.items = omega (arith, c.found-test.true, c.len.ensures, c.found.found.links.ok.0) in
+    let at = link_at index c.found.found.links.items c.found.place c.index-link.result.now low c.index-link.ensures in
     rw c.grm-grm.ensures (link_rule_low d.grammar c.stable-table.ensures.checked.well_formed own (links_of index c.found.found.links.items) c.found.invariant.found.each c.found.place _ at)
 
 pub found-preserved : goal.found-preserved
@@ -61,10 +62,12 @@ found-preserved g c =
     let link = link_of index c.index-link.result.now in
     let links = links_of index l.found.links.items in
     let after = links_of index c.add_prods.new.self.links.items in
-    let at = link_at index l.found.links.items l.place c.index-link.result.now c.found-test.true c.index-link.ensures in
-    let one = c.in_ok-add_prods.ensures.grows d.graph d.table s l.invariant.found (link_contained links l.place link at) in
+    let low : l.place < length l.found.links.items = omega (arith, c.found-test.true, c.len.ensures, l.found.links.ok.0) in
+    let at = link_at index l.found.links.items l.place c.index-link.result.now low c.index-link.ensures in
+    let grows = rw c.grm-grm.ensures at c.in_ok-add_prods.ensures.grows in
+    let one = grows d.graph d.table s l.invariant.found (link_contained links l.place link at) in
     record {
-      counted = c.in_ok-add_prods.ensures.counted;
+      counted = rw c.grm-grm.ensures at c.in_ok-add_prods.ensures.counted;
       found = one.0.found;
       begun = λ p k mine. subst (λ (xs : List LinkOf). HasRuleAfter grm xs p k) (sym one.0.more) (after_kept grm links one.0.tail p k (l.invariant.begun p k mine));
       closed = closed_more grm links one.0.tail after l.place link one.0.more at one.1 l.invariant.closed;
@@ -76,7 +79,8 @@ pub found-smaller : goal.found-smaller
 found-smaller g c =
     let index = g.StorageT.StorageIndex.index in
     let l = c.found in
-    let at = link_at index l.found.links.items l.place c.index-link.result.now c.found-test.true c.index-link.ensures in
+    let low : l.place < length l.found.links.items = omega (arith, c.found-test.true, c.len.ensures, l.found.links.ok.0) in
+    let at = link_at index l.found.links.items l.place c.index-link.result.now low c.index-link.ensures in
     let inside = slice_get_within (links_of index l.found.links.items) l.place _ at in
     omega (arith, inside, l.invariant.counted.0, l.invariant.counted.1)
 
@@ -91,3 +95,6 @@ returns g c =
       own = l.invariant.begun;
       closed = closed_all d.grammar links l.place (omega (arith, c.found-test.false, length-map l.found.links.items (link_of index))) l.invariant.closed;
     }
+
+pub add_prods-requires-clause-counted : goal.add_prods-requires-clause-counted
+add_prods-requires-clause-counted g c = rw c.grm-grm.ensures c.found.invariant.counted

@@ -8,7 +8,7 @@ abbrev pub invariant-found : goal.invariant-found
 invariant-found g l =
     let index = g.StorageT.StorageIndex.index in
     let grm = l.checked.grammar in
-    let own = IsOwnCore grm l.checked.graph l.checked.table (index l.state.0) in
+    let own = IsOwnCore grm l.checked.graph l.checked.table (index l.fn.state.0) in
     let links = links_of index l.found.links.items in
     record {
       counted : AreCounted grm links l.found.marks.items;

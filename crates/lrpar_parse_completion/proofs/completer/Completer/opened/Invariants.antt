@@ -18,7 +18,7 @@ invariant-links g l =
       within : l.place ≤ length links;
       climbs : Climbs d.grammar d.graph d.table (rule_of d.grammar (index l.fn.prod.0)) (index l.wanted.0)
           (tokens_of index l.fn.tokens.items) (tokens_of index l.tokens.items);
-      listed : CanComplete d → HasCore d.graph (index l.state.0) (index l.fn.prod.0) 0 → index l.fn.prod.0 ≢ start_prod d.grammar
+      listed : CanComplete d → HasCore d.graph (index l.fn.state.0) (index l.fn.prod.0) 0 → index l.fn.prod.0 ≢ start_prod d.grammar
           → Contains (rules_in (take l.place links)) (index l.wanted.0);
     }
 

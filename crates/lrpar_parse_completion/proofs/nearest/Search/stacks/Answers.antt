@@ -1,9 +1,11 @@
-use Rattle.std.proofs.Common.{◌≡◌, ◌<◌, ◌≤◌, ◌∙◌, arith, ap, inl, inr, length, refl, subst, sym, take}
+use Rattle.std.proofs.Common.{◌≡◌, ◌<◌, ◌≤◌, ◌+◌, ◌⊎◌, ◌∙◌, ℕ, Bool, List, ap, arith, false, inl, inr, length, min, refl, subst, sym, take, true}
+use Rattle.std.proofs.lemmas.Bool.{cases_lt}
+use Rattle.std.proofs.lemmas.List.{length-map, length-take}
 use Rattle.lrpar_table_stacks.specs.Expected.{tokens_of}
 use Rattle.lrpar_table_stacks.specs.Stack.{IsStack, states_of}
-use Rattle.lrpar_parse_completion.specs.Trying.{stacks_of}
+use Rattle.lrpar_parse_completion.specs.Trying.{AreTried, IsInserted, stacks_of}
 use Rattle.lrpar_parse_completion.proofs.FeedLemmas.{stacks_pushed, token_front}
-use Rattle.lrpar_parse_completion.proofs.NearestLemmas.{trying_ends, trying_first, trying_more, trying_stops}
+use Rattle.lrpar_parse_completion.proofs.NearestLemmas.{Trying, trying_ends, trying_first, trying_more, trying_stops}
 use Rattle.lrpar_parse_completion.proofs.nearest.Search.stacks.Goals as goal
 
 pub tokens-init : goal.tokens-init
@@ -17,10 +19,69 @@ pub feed-requires : goal.feed-requires
 feed-requires g c = c.tokens.invariant.now_stack
 
 pub tokens-preserved : goal.tokens-preserved
-tokens-preserved g c = ?
+tokens-preserved g c =
+    let index = g.StorageT.StorageIndex.index in
+    let at = c.args.self.now.point.now in
+    let grm = at.checked.grammar in
+    let table = at.checked.table in
+    let all = c.args.self.now.tokens.now in
+    let tokens = tokens_of index all in
+    let l = c.tokens in
+    let token = c.token-item.result in
+    let i = l.token-index in
+    let now = states_of index l.stack.items in
+    let next = states_of index c.feed.new.stack.items in
+    let front = token_front index all (take c.min.result all) c.min.result i token refl c.tokens-test.true c.token-item.is in
+    let inside : i < length tokens = omega (arith, front.0, length-map all (λ t. index t.0)) in
+    let same = ap (states_of index) (c.in_ok-before.ensures.items ∙ c.deref.ensures.value) in
+    let pushed = stacks_pushed index l.stacks.items c.push.new.self.items c.in_ok-before.before now c.in_ok-push.ensures.items same in
+    let fed = subst (λ (b : Bool). IsInserted grm table (index token.0) now next b) c.if-not-branch.false c.in_ok-feed.ensures.fed in
+    let inserted = subst (λ (t : ℕ). IsInserted grm table t now next true) (sym front.1) fed in
+    subst (λ xs. Trying grm table at.stack tokens xs next (i + 1)) (sym pushed)
+    (trying_more grm table at.stack tokens (stacks_of index l.stacks.items) now i l.invariant next inside inserted c.in_ok-feed.ensures.stack)
 
-pub returns-then-not-feed : goal.returns-then-not-feed
-returns-then-not-feed g c = ?
+pub returns-then-not-branch : goal.returns-then-not-branch
+returns-then-not-branch g c =
+    let index = g.StorageT.StorageIndex.index in
+    let at = c.args.self.now.point.now in
+    let grm = at.checked.grammar in
+    let table = at.checked.table in
+    let all = c.args.self.now.tokens.now in
+    let tokens = tokens_of index all in
+    let l = c.tokens in
+    let token = c.token-item.result in
+    let i = l.token-index in
+    let now = states_of index l.stack.items in
+    let next = states_of index c.feed.new.stack.items in
+    let front = token_front index all (take c.min.result all) c.min.result i token refl c.tokens-test.true c.token-item.is in
+    let inside : i < length tokens = omega (arith, front.0, length-map all (λ t. index t.0)) in
+    let low : i ≤ c.args.self.now.most = omega (arith, c.tokens-test.true, length-take c.min.result all, c.min.ensures) in
+    let same = ap (states_of index) (c.in_ok-before.ensures.items ∙ c.deref.ensures.value) in
+    let pushed = stacks_pushed index l.stacks.items c.push.new.self.items c.in_ok-before.before now c.in_ok-push.ensures.items same in
+    let fed = subst (λ (b : Bool). IsInserted grm table (index token.0) now next b) c.if-not-branch.true c.in_ok-feed.ensures.fed in
+    let none = subst (λ (t : ℕ). IsInserted grm table t now next false) (sym front.1) fed in
+    subst (λ xs. AreTried grm table at.stack c.args.self.now.most tokens xs) (sym pushed)
+    (trying_stops grm table at.stack tokens (stacks_of index l.stacks.items) now i l.invariant c.args.self.now.most next inside low none)
 
 pub returns : goal.returns
-returns g c = ?
+returns g c =
+    let index = g.StorageT.StorageIndex.index in
+    let at = c.args.self.now.point.now in
+    let grm = at.checked.grammar in
+    let table = at.checked.table in
+    let all = c.args.self.now.tokens.now in
+    let most = c.args.self.now.most in
+    let tokens = tokens_of index all in
+    let l = c.tokens in
+    let i = l.token-index in
+    let now = states_of index l.stack.items in
+    let many = length-map all (λ t. index t.0) in
+    let long = length-take c.min.result all in
+    let all_of : i ≡ min (length all) most = omega (arith, long, c.min.ensures, c.tokens-test.false) in
+    let end : (most ≤ i) ⊎ (length tokens ≤ i) = elim (cases_lt (length all) most) as (λ _. (most ≤ i) ⊎ (length tokens ≤ i)) [
+      | inl short ↦ inr (omega (arith, all_of, many, short))
+      | inr long ↦ inl (omega (arith, all_of, long))
+    ] in
+    let pushed = stacks_pushed index l.stacks.items c.push-2.new.self.items l.stack now c.in_ok-push-2.ensures.items refl in
+    subst (λ xs. AreTried grm table at.stack most tokens xs) (sym pushed)
+    (trying_ends grm table at.stack tokens (stacks_of index l.stacks.items) now i l.invariant most (omega (arith, all_of)) (omega (arith, all_of, many)) end)

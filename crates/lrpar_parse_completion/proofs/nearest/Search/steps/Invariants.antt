@@ -16,4 +16,4 @@ invariant-inserted g l =
 abbrev pub invariant-deleted : goal.invariant-deleted
 invariant-deleted g l =
     let index = g.StorageT.StorageIndex.index in
-    plain_steps index l.steps.items ≡ inserts_deletes (take l.repair.inserted (tokens_of index l.self.tokens.now)) (l.counter - l.self.point.now.place)
+    plain_steps index l.steps.items ≡ inserts_deletes (take l.fn.repair.inserted (tokens_of index l.self.tokens.now)) (l.counter - l.self.point.now.place)

@@ -1,4 +1,4 @@
-use Rattle.std.proofs.Common.{◌≡◌, ◌<◌, ◌+◌, ◌×◌, ℕ, List, arith, get_or, inl, refl, subst, sym}
+use Rattle.std.proofs.Common.{◌≡◌, ◌<◌, ◌+◌, ℕ, List, arith, get_or, inl, refl, subst, sym}
 use Rattle.lrpar_table_conditions.proofs.CoreLemmas.{core_in_shape}
 use Rattle.lrpar_table_rows.proofs.GraphLemmas.{all_begun}
 use Rattle.lrpar_table_rows.proofs.TestLemmas.{each_more}
@@ -87,3 +87,6 @@ returns g c =
             (λ i e low some. l.invariant.begun found i e (omega (arith, low, c.loop-prod-test.false))) p k core begun,
       );
     }
+
+pub add-requires-clause-marks : goal.add-requires-clause-marks
+add-requires-clause-marks g c = rw c.grm-grm.ensures c.loop-prod.invariant.counted.0

@@ -7,7 +7,7 @@ abbrev pub invariant-loop-prod : goal.invariant-loop-prod
 invariant-loop-prod g l =
     let index = g.StorageT.StorageIndex.index in
     let grm = l.checked.grammar in
-    let own = IsOwnCore grm l.checked.graph l.checked.table (index l.state.0) in
+    let own = IsOwnCore grm l.checked.graph l.checked.table (index l.fn.state.0) in
     let before = links_of index l.fn.self.links.items in
     let links = links_of index l.self.links.items in
     record {

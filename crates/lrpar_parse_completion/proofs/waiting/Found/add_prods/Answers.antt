@@ -81,3 +81,6 @@ returns g c =
             λ q within is. (each_of_rule grm (index c.args.rule.0) P).0 listed q within is,
       );
     }
+
+pub add-requires-clause-marks : goal.add-requires-clause-marks
+add-requires-clause-marks g c = c.loop-prod.invariant.counted.0

@@ -14,8 +14,8 @@ invariant-loop-prod g l =
     record {
       counted : AreCounted l.grm links l.self.marks.items;
       grows : (graph : Graph) (table : Table) (s : ℕ) → AreFound l.grm (IsOwnCore l.grm graph table s) before l.fn.self.marks.items
-          → Contains (rules_in before) (index l.rule.0) → Grows l.grm (IsOwnCore l.grm graph table s) before links l.self.marks.items;
+          → Contains (rules_in before) (index l.fn.rule.0) → Grows l.grm (IsOwnCore l.grm graph table s) before links l.self.marks.items;
       begun : (graph : Graph) (table : Table) (s : ℕ) → AreFound l.grm (IsOwnCore l.grm graph table s) before l.fn.self.marks.items
-          → Contains (rules_in before) (index l.rule.0) → (k : ℕ) (d : _) → k < l.prod-index
+          → Contains (rules_in before) (index l.fn.rule.0) → (k : ℕ) (d : _) → k < l.prod-index
           → HasRuleAfter l.grm links (index (get_or l.prod-items k d).0) 0;
     }

@@ -1,0 +1,196 @@
+use Rattle.std.proofs.Common.{◌≡◌, ◌≢◌, ◌<◌, ◌≤◌, ◌+◌, ◌-◌, ◌∙◌, ◌⊎◌, ℕ, List, [], Some, ap, arith, drop, inl, inr, length, map, refl, slice_get, subst, sym}
+use Rattle.std.proofs.lemmas.Bool.{eqb-false, eqb-true}
+use Rattle.std.proofs.lemmas.List.{length-map}
+use Rattle.lrpar_grammar.specs.Grammar.{GrammarSymbol, prod_len, prods_len, start_prod, symbols_of}
+use Rattle.lrpar_grammar.specs.Symbols.{symbol_of}
+use Rattle.lrpar_table_stacks.specs.Expected.{tokens_of}
+use Rattle.lrpar_table_sentences.specs.Texts.{HaveTrees}
+use Rattle.lrpar_table_stacks.specs.Stack.{states_of}
+use Rattle.lrpar_parse_completion.specs.Opening.{ArePushed}
+use Rattle.lrpar_parse_completion.proofs.OpenLemmas.{completing_base, completing_deep, completing_done, completing_first, completing_next, core_trees, no_stack, rest_of, state_at, state_known}
+use Rattle.lrpar_parse_completion.proofs.completer.Completer.completion.Goals as goal
+
+pub returns-then-is_empty : goal.returns-then-is_empty
+returns-then-is_empty g c =
+    let index = g.StorageT.StorageIndex.index in
+    let stack = c.args.stack.now in
+    let none : length stack ≡ 0 = eqb-true (length stack) 0 (sym c.is_empty.ensures ∙ c.if-is_empty.true) in
+    record {
+      completion = λ can is.
+          absurd (no_stack c.args.self.now.data.now.table (states_of index stack) (length-map stack (λ x. index x.0) ∙ none) is);
+    }
+
+pub returns-then-not-has_state : goal.returns-then-not-has_state
+returns-then-not-has_state g c =
+    let index = g.StorageT.StorageIndex.index in
+    let d = c.args.self.now.data.now in
+    let stack = c.args.stack.now in
+    let top = c.index-stack-place.result in
+    let some = eqb-false (length stack) 0 (sym c.is_empty.ensures ∙ c.if-is_empty.false) in
+    let at = state_at index stack (length stack - 1) top (omega arith) c.index-stack-place.is in
+    record {
+      completion = λ can is.
+          let yes = c.has_state.ensures.1 (state_known d c.stable-table.ensures.checked (states_of index stack) is (length stack - 1) (index top.0) at) in
+          absurd (cc);
+    }
+
+pub returns-then-not-branch : goal.returns-then-not-branch
+returns-then-not-branch g c =
+    let index = g.StorageT.StorageIndex.index in
+    let d = c.args.self.now.data.now in
+    let s = index c.index-stack-place.result.0 in
+    let p = index c.kernel_core-dot.result.0.0 in
+    let k = c.kernel_core-dot.result.1 in
+    let symbols : map (symbol_of index) c.prod.result.now ≡ symbols_of d.grammar p = rw c.grm-grm.ensures at c.prod.ensures in
+    let rest = rest_of (symbol_of index) k c.prod.result.now (symbols_of d.grammar p) symbols in
+    record {
+      completion = λ can is.
+          let trees = core_trees d c.stable-table.ensures.checked can s p k (c.has_state.ensures.0 c.if-not-has_state.false) (c.kernel_core-dot.ensures.kernel can).core in
+          let some = (rw c.grm-grm.ensures at c.in_ok-push_rest.ensures.some) (subst (HaveTrees d.grammar) (sym rest) trees) in
+          absurd (cc);
+    }
+
+pub items-init : goal.items-init
+items-init g c =
+    let index = g.StorageT.StorageIndex.index in
+    let d = c.args.self.now.data.now in
+    let stack = c.args.stack.now in
+    let st = states_of index stack in
+    let top = c.index-stack-place.result in
+    let place = length stack - 1 in
+    let some = eqb-false (length stack) 0 (sym c.is_empty.ensures ∙ c.if-is_empty.false) in
+    let at = state_at index stack place top (omega arith) c.index-stack-place.is in
+    let many = length-map stack (λ x. index x.0) in
+    let p = index c.kernel_core-dot.result.0.0 in
+    let k = c.kernel_core-dot.result.1 in
+    let new = tokens_of index c.push_rest.new.tokens.items in
+    let symbols : map (symbol_of index) c.prod.result.now ≡ symbols_of d.grammar p = rw c.grm-grm.ensures at c.prod.ensures in
+    let rest = rest_of (symbol_of index) k c.prod.result.now (symbols_of d.grammar p) symbols in
+    let first = (rw (c.grm-grm.ensures, c.new-tokens.ensures.items) at c.in_ok-push_rest.ensures.pushed) (cc) in
+    let pushed = subst (λ (ss : List GrammarSymbol). ArePushed d.grammar ss [] new) rest first in
+    record {
+      within = omega (arith, many);
+      known = c.kernel_core-dot.ensures.prod;
+      dot = c.kernel_core-dot.ensures.dot;
+      completing = λ can is.
+          completing_first d c.stable-table.ensures.checked st place (index top.0) p k new (omega (arith, many)) at (c.kernel_core-dot.ensures.kernel can) pushed;
+    }
+
+pub returns-then-dot-eq0 : goal.returns-then-dot-eq0
+returns-then-dot-eq0 g c =
+    let index = g.StorageT.StorageIndex.index in
+    let d = c.args.self.now.data.now in
+    let l = c.items in
+    let p = index l.prod.0 in
+    let other : p ≢ start_prod d.grammar = λ is. c.items-test.true (c.from.ensures ∙ is ∙ sym (c.from-start.ensures ∙ rw c.grm.ensures at c.start_prod.ensures.number)) in
+    record {
+      completion = λ can is.
+          elim (l.invariant.completing can is).kernel.begun as (λ _. ⊥) [
+            | inl past ↦ omega (arith, past, c.if-dot-eq0.true)
+            | inr start ↦ other start
+          ];
+    }
+
+pub returns-then-place-dot : goal.returns-then-place-dot
+returns-then-place-dot g c =
+    let index = g.StorageT.StorageIndex.index in
+    let d = c.args.self.now.data.now in
+    let st = states_of index c.args.stack.now in
+    let l = c.items in
+    let p = index l.prod.0 in
+    let tokens = tokens_of index l.tokens.items in
+    record {
+      completion = λ can is.
+          let deep = completing_deep d c.stable-table.ensures.checked st is l.place p l.dot tokens (l.invariant.completing can is) in
+          absurd (omega (arith, deep, c.if-place-dot.true));
+    }
+
+pub returns-then-not-has_state-2 : goal.returns-then-not-has_state-2
+returns-then-not-has_state-2 g c =
+    let index = g.StorageT.StorageIndex.index in
+    let d = c.args.self.now.data.now in
+    let stack = c.args.stack.now in
+    let st = states_of index stack in
+    let l = c.items in
+    let base = c.index-stack-place-in-items.result in
+    let inside = l.invariant.within in
+    let n = l.place - l.dot in
+    let at = state_at index stack n base (omega (arith, inside, length-map stack (λ x. index x.0))) c.index-stack-place-in-items.is in
+    record {
+      completion = λ can is.
+          let yes = c.has_state-in-items.ensures.1 (state_known d c.stable-table.ensures.checked st is n (index base.0) at) in
+          absurd (cc);
+    }
+
+pub returns-in_default : goal.returns-in_default
+returns-in_default g c =
+    let index = g.StorageT.StorageIndex.index in
+    let d = c.args.self.now.data.now in
+    let stack = c.args.stack.now in
+    let st = states_of index stack in
+    let l = c.items in
+    let p = index l.prod.0 in
+    let base = c.index-stack-place-in-items.result in
+    let inside = l.invariant.within in
+    let n = l.place - l.dot in
+    let at = state_at index stack n base (omega (arith, inside, length-map stack (λ x. index x.0))) c.index-stack-place-in-items.is in
+    let other : p ≢ start_prod d.grammar = λ is. c.items-test.true (c.from.ensures ∙ is ∙ sym (c.from-start.ensures ∙ rw c.grm.ensures at c.start_prod.ensures.number)) in
+    record {
+      completion = λ can is.
+          let core = completing_base d c.stable-table.ensures.checked st is l.place p l.dot (tokens_of index l.tokens.items) (l.invariant.completing can is) (index base.0) at in
+          let none = (rw c.in_default.is at c.in_ok-next.ensures.some) can core other in
+          absurd (cc);
+    }
+
+pub items-preserved : goal.items-preserved
+items-preserved g c =
+    let index = g.StorageT.StorageIndex.index in
+    let d = c.args.self.now.data.now in
+    let stack = c.args.stack.now in
+    let st = states_of index stack in
+    let l = c.items in
+    let p = index l.prod.0 in
+    let base = c.index-stack-place-in-items.result in
+    let inside = l.invariant.within in
+    let n = l.place - l.dot in
+    let at = state_at index stack n base (omega (arith, inside, length-map stack (λ x. index x.0))) c.index-stack-place-in-items.is in
+    let low = c.has_state-in-items.ensures.0 c.if-not-has_state-2.false in
+    let opened = rw c.in-Some.is at c.in_ok-next.ensures.opened in
+    record {
+      within = omega (arith, inside);
+      known = opened.known;
+      dot = opened.dot;
+      completing = λ can is.
+          completing_next d c.stable-table.ensures.checked st is l.place p l.dot (tokens_of index l.tokens.items) (l.invariant.completing can is) can (index base.0)
+          (index c.in-Some.next.0) c.in-Some.at (tokens_of index c.opened.new.tokens.items) low at l.invariant.known opened;
+    }
+
+pub items-smaller : goal.items-smaller
+items-smaller g c = omega (arith, c.if-dot-eq0.false, c.if-place-dot.false)
+
+pub returns : goal.returns
+returns g c =
+    let index = g.StorageT.StorageIndex.index in
+    let d = c.args.self.now.data.now in
+    let st = states_of index c.args.stack.now in
+    let l = c.items in
+    let p = index l.prod.0 in
+    let is_start : p ≡ start_prod d.grammar = sym c.from.ensures ∙ c.items-test.false ∙ c.from-start.ensures ∙ rw c.grm.ensures at c.start_prod.ensures.number in
+    record {
+      completion = λ can is.
+          completing_done d c.stable-table.ensures.checked st is l.place p l.dot (tokens_of index l.tokens.items) (l.invariant.completing can is) is_start;
+    }
+
+pub offset_bounds-stack-place-in-items : goal.offset_bounds-stack-place-in-items
+offset_bounds-stack-place-in-items g c =
+    let inside = c.items.invariant.within in omega (arith, inside, length-map c.args.stack.now (λ x. g.StorageT.StorageIndex.index x.0))
+
+pub bounds-stack-place-in-items : goal.bounds-stack-place-in-items
+bounds-stack-place-in-items g c =
+    let inside = c.items.invariant.within in omega (arith, inside, length-map c.args.stack.now (λ x. g.StorageT.StorageIndex.index x.0))
+
+pub opened-requires-clause-prod : goal.opened-requires-clause-prod
+opened-requires-clause-prod g c = c.items.invariant.known
+
+pub push_rest-requires : goal.push_rest-requires
+push_rest-requires g c = record { shortest = rw c.grm-grm.ensures c.requires.shortest }
