@@ -10,9 +10,9 @@ ghost use Rattle.lrpar_parse_completion.specs.Trying.{AreTried, IsFewest, IsInse
 
 use lrpar_grammar::span::{StIdx, StorageIndex, TIdx};
 use lrpar_parse_lexemes::lex_api::Lexeme;
-use lrpar_parse_repair::counter::Counter;
+use lrpar_parse_repair::engine::Engine;
 use lrpar_parse_repair::repair::{RecoveryPoint, RepairStep};
-use lrpar_parse_repair::trial::Trial;
+use lrpar_table_check::check::Overlay;
 use std::alloc::{AllocError, Global};
 
 /// A repair: how many tokens of a completion are inserted, and the place up to which lexemes are deleted.
@@ -147,12 +147,9 @@ impl<'a, 'p, StorageT: StorageIndex, LexemeT: Lexeme<StorageT>> Search<'a, 'p, S
         ensures { let at = self.now.point.now in IfOk result (λ goes_on. IsTrue goes_on ↔
             CanGoOn (token_by StorageT.index LexemeT.parts) at.checked.grammar at.checked.table at.lexemes at.shifts (states_of StorageT.index stack.now) place) }
     {
-        let mut states = Counter::new(alloc, stack);
-        states.set_back();
-        Trial::new(self.point.data(), self.point.lexemes(), self.point.shifts()).can_go_on(
-            &mut states,
-            place,
-        )
+        let engine = Engine::new(self.point.data(), self.point.lexemes(), self.point.shifts());
+        let mut states = Overlay::new(alloc, stack);
+        engine.can_go_on(&mut states, place)
     }
 
     /// The steps of the repair: the inserted tokens, and then a deletion of each lexeme before its place.
