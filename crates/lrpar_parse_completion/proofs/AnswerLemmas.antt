@@ -1,18 +1,14 @@
 -- The answer of a completion. Over its own table, if that is built, there is a completion of the stack of an error point, and it goes on at
 -- the end, if it is inserted whole. So a nearest place is found, and its repair works.
-use Rattle.std.proofs.Common.{◌≡◌, ◌<◌, ◌≤◌, ◌∙◌, refl, sym, ap, subst, arith, ℕ, List, [], ◌∷◌, length, take, All, Option}
+use Rattle.std.proofs.Common.{◌≡◌, refl, sym, subst, arith, ℕ, List, [], ◌∷◌, length, All, Option}
 use Rattle.std.specs.List.{Contains}
 use Rattle.std.proofs.lemmas.List.Elements.{All-cons, All-head, All-nil}
-use Rattle.lrpar_grammar.specs.Grammar.{Grammar}
-use Rattle.lrpar_table_rows.specs.Table.{Table}
 use Rattle.lrpar_table_build.specs.Built.{IsBuilt}
-use Rattle.lrpar_table_check.specs.Checked.{Checked, IsChecked}
+use Rattle.lrpar_table_check.specs.Checked.{Checked}
 use Rattle.lrpar_table_sentences.specs.Choices.{ChoiceOf}
-use Rattle.lrpar_table_stacks.specs.Path.{NeverSticks}
 use Rattle.lrpar_table_stacks.specs.Stack.{IsStack}
 use Rattle.lrpar_table_stacks.proofs.PathLemmas.{never_sticks}
 use Rattle.lrpar_table_stacks.proofs.StackLemmas.{stack_has_path}
-use Rattle.lrpar_parse_repair.specs.AlwaysRepairs.{SomeWorks}
 use Rattle.lrpar_parse_repair.specs.Asked.{Asked, IsStop}
 use Rattle.lrpar_parse_repair.specs.Sequences.{PlainStep, Works}
 use Rattle.lrpar_parse_completion.specs.Answer.{Completer, IsCompleted, IsNearestRepair, IsReady}

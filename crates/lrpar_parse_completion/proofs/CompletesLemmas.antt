@@ -6,25 +6,25 @@
 -- At the start the item is there by C1, and the complete one accepts by C5. For `A: . v`, for which `B: u . A w` waits, C2 gives the item
 -- by that of B; the complete item reduces by C5, C4 gives the goto, and the trees of w are followed from there, as in CompleteLemmas.
 -- One symbol more on the stack: C3 and C4 carry the item to the state above.
-use Rattle.std.proofs.Common.{◌≡◌, ◌≢◌, ◌<◌, ◌≤◌, ◌+◌, ◌-◌, ◌∙◌, refl, sym, ap, subst, arith, add-one, ℕ, zero, suc, List, [], ◌∷◌, ◌++◌, length, drop, slice_get, Option, Some}
-use Rattle.std.proofs.lemmas.List.{append-nil, append_assoc, length-drop}
+use Rattle.std.proofs.Common.{◌≡◌, ◌≢◌, ◌<◌, ◌+◌, ◌∙◌, refl, sym, ap, subst, arith, add-one, ℕ, List, [], ◌∷◌, ◌++◌, length, drop, slice_get, Option, Some}
+use Rattle.std.proofs.lemmas.List.{append_assoc, length-drop}
 use Rattle.lrpar_grammar.specs.Grammar.{Grammar, GrammarSymbol, IsWellFormed, Nonterminal, Terminal, end_token, prod_len, prods_len, rule_of, start_prod, symbols_of}
 use Rattle.lrpar_grammar.specs.Tree.{Forest, forest_leaves, forest_productions}
 use Rattle.lrpar_table_first.specs.First.{IsFirst}
 use Rattle.lrpar_table_rows.specs.Graph.{Graph, HasItem}
 use Rattle.lrpar_table_rows.specs.Safe.{GoesBy, HasShape}
-use Rattle.lrpar_table_rows.specs.Table.{Table, ShiftTo, ReduceBy, Accepts, IsClosed, action_of, goto_of, states_len}
+use Rattle.lrpar_table_rows.specs.Table.{Table, ShiftTo, ReduceBy, Accepts, IsClosed, states_len}
 use Rattle.lrpar_table_rows.proofs.GraphLemmas.{state_in_range}
 use Rattle.lrpar_table_conditions.specs.Complete.{IsComplete, StepsOn}
 use Rattle.lrpar_table_conditions.specs.declared.completeness.CompletenessCondition.TheVariants.{C1, C2, C3, C4, C5}
-use Rattle.lrpar_table_conditions.proofs.FirstTokenLemmas.{AreBetween, at_drop, between_all, between_split, between_token, first_token, forest_begins}
+use Rattle.lrpar_table_conditions.proofs.FirstTokenLemmas.{AreBetween, at_drop, between_all, between_split, between_token, forest_begins}
 use Rattle.lrpar_table_sentences.specs.Texts.{AreTreesOf}
 use Rattle.lrpar_table_stacks.specs.Reduction.{IsSettled, top_action}
-use Rattle.lrpar_table_stacks.specs.Run.{Accepted, Far, FarEnd, accepts, token_at}
+use Rattle.lrpar_table_stacks.specs.Run.{Accepted, Far, accepts, token_at}
 use Rattle.lrpar_table_stacks.specs.Stack.{top_of}
 use Rattle.lrpar_table_stacks.proofs.RunLemmas.{token_at_end}
 use Rattle.lrpar_table_stacks.proofs.StepLemmas.{action_by_top}
-use Rattle.lrpar_table_build.proofs.ReachedLemmas.{known_by_symbol, no_added_rule}
+use Rattle.lrpar_table_build.proofs.ReachedLemmas.{no_added_rule}
 use Rattle.lrpar_table_check.proofs.CompleteLemmas.{forest_runs, reduces_upper, reduction_first, top_more}
 use Rattle.lrpar_parse_completion.specs.Completing.{Completes, IsCompletion, IsTail, AtStart, Opened, Moved}
 

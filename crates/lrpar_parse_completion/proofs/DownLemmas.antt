@@ -1,10 +1,10 @@
 -- Down a stack: if the top state has an item with k symbols before its dot, these are the top symbols of the stack, and the state below
 -- them has the item with its dot at the start. By S4 a state has the core with the dot one symbol before, if the state above it has the
 -- core; by S2 the bottom has no core with a symbol before the dot. So what comes after the production is the same on both stacks.
-use Rattle.std.proofs.Common.{◌≡◌, ◌<◌, ◌+◌, ◌-◌, ◌∙◌, inl, inr, refl, sym, ap, subst, arith, add-one, ℕ, zero, suc, List, [], ◌∷◌, ◌++◌, length, take, slice_get, get_or, Option, Some, None}
+use Rattle.std.proofs.Common.{◌≡◌, ◌<◌, ◌+◌, ◌∙◌, inl, inr, refl, sym, ap, subst, arith, ℕ, zero, suc, List, [], ◌∷◌, ◌++◌, length, take, slice_get, get_or, Option, Some, None}
 use Rattle.std.proofs.lemmas.List.{take_more}
 use Rattle.std.proofs.lemmas.Option.{get_or_from_slice_get, slice_get-get_or, slice_get_within}
-use Rattle.lrpar_grammar.specs.Grammar.{Grammar, GrammarSymbol, Nonterminal, Terminal, start_prod, symbols_of}
+use Rattle.lrpar_grammar.specs.Grammar.{Grammar, GrammarSymbol, Nonterminal, Terminal, start_prod}
 use Rattle.lrpar_table_rows.specs.Graph.{Graph, HasCore}
 use Rattle.lrpar_table_rows.specs.Safe.{GoesBy, IsSafe}
 use Rattle.lrpar_table_rows.specs.Table.{IsClosed, Table, states_len}

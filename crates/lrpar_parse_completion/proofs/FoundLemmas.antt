@@ -1,17 +1,16 @@
 -- The rules that items wait for, as they are found. One more may be put at the end of the list: then it wasn't marked before, and is
 -- marked now. So the list has each rule once, and has at most as many as the grammar.
-use Rattle.std.proofs.Common.{◌≡◌, ◌<◌, ◌≤◌, ◌+◌, ◌-◌, ◌∙◌, ◌⊎◌, inl, inr, refl, sym, ap, subst, arith, ℕ, zero, suc, Bool, true, false, cond, not, IsTrue, replicate, List, [], ◌∷◌, ◌++◌, length, drop, take, get_or, slice_get, set, Option, Some, None, length-append}
-use Rattle.std.specs.Prelude.{map}
+use Rattle.std.proofs.Common.{◌≡◌, ◌<◌, ◌≤◌, ◌+◌, ◌∙◌, ◌⊎◌, inl, inr, refl, sym, ap, subst, arith, ℕ, zero, suc, Bool, true, false, cond, not, replicate, List, [], ◌∷◌, ◌++◌, length, take, get_or, slice_get, set, Option, Some, None, length-append}
 use Rattle.std.specs.List.{Contains}
 use Rattle.std.proofs.Math.Seq.{take-append_seam}
 use Rattle.std.proofs.lemmas.Bool.{cases_eq, cases_lt, false≢true}
-use Rattle.std.proofs.lemmas.List.{append-nil, append_assoc, get_or-replicate, get_or-set_other, get_or_past, length-map, length-replicate, length-set, map-append, take-append-le}
+use Rattle.std.proofs.lemmas.List.{append-nil, append_assoc, get_or-replicate, get_or-set_other, get_or_past, length-replicate, length-set, map-append, take-append-le}
 use Rattle.std.proofs.lemmas.List.Elements.{Contains-append_left, Contains-append_right}
 use Rattle.std.proofs.lemmas.List.Folds.{sum_by-replicate}
 use Rattle.std.proofs.lemmas.List.Sums.{sum_by-set}
 use Rattle.std.proofs.lemmas.Option.{get_or_from_slice_get, slice_get-get_or, slice_get-map, slice_get_within}
 use Rattle.std.specs.Option.{option_map}
-use Rattle.lrpar_grammar.specs.Grammar.{Grammar, GrammarSymbol, IsWellFormed, Nonterminal, prods_len, rule_of, rules_len, symbols_of}
+use Rattle.lrpar_grammar.specs.Grammar.{Grammar, IsWellFormed, Nonterminal, prods_len, rule_of, rules_len, symbols_of}
 use Rattle.lrpar_table_rows.proofs.ItemLemmas.{Contains-image, Contains-preimage}
 use Rattle.lrpar_table_build.proofs.ReachedLemmas.{head_after, symbol_listed}
 use Rattle.lrpar_table_sentences.specs.Reachable.{is_marked, unmarked}

@@ -1,11 +1,11 @@
 -- The search for the nearest place: the stacks after the first tokens, the places that were tried, and the steps of a repair.
-use Rattle.std.proofs.Common.{◌≡◌, ◌≢◌, ◌<◌, ◌≤◌, ◌+◌, ◌-◌, ◌∙◌, ◌⊎◌, ◌↔◌, inl, inr, refl, sym, ap, subst, arith, add-one, ℕ, zero, suc, Bool, true, false, IsTrue, List, [], ◌∷◌, ◌++◌, All, length, drop, take, get_or, slice_get, Option, Some, None, length-append}
-use Rattle.std.specs.Prelude.{MatchOption, map, replicate}
+use Rattle.std.proofs.Common.{◌≡◌, ◌<◌, ◌≤◌, ◌+◌, ◌∙◌, ◌⊎◌, inl, inr, refl, sym, ap, subst, arith, ℕ, zero, suc, true, false, List, [], ◌∷◌, ◌++◌, All, length, drop, take, get_or, slice_get, Option, Some, None, length-append}
+use Rattle.std.specs.Prelude.{map, replicate}
 use Rattle.std.proofs.lemmas.Bool.{cases_eq, cases_lt}
-use Rattle.std.proofs.lemmas.List.{append-nil, append_assoc, map-append, take_all, take_more}
+use Rattle.std.proofs.lemmas.List.{append-nil, append_assoc, map-append, take_more}
 use Rattle.std.proofs.lemmas.List.Elements.{All-append, All-cons, All-get_or, All-nil}
 use Rattle.std.proofs.lemmas.Option.{get_or_from_slice_get, slice_get_within}
-use Rattle.lrpar_grammar.specs.Grammar.{Grammar, end_token}
+use Rattle.lrpar_grammar.specs.Grammar.{Grammar}
 use Rattle.lrpar_table_rows.specs.Table.{Table}
 use Rattle.lrpar_table_stacks.specs.Reduction.{Feeds}
 use Rattle.lrpar_table_stacks.specs.Stack.{IsStack}
@@ -15,7 +15,7 @@ use Rattle.lrpar_parse_repair.specs.Sequences.{PlainStep, PlainInsert, PlainDele
 use Rattle.lrpar_parse_repair.specs.declared.repair_step.RepairStep.{RepairStep}
 use Rattle.lrpar_parse_repair.specs.declared.repair_step.RepairStep.TheVariants.{Delete, Insert}
 use Rattle.lrpar_grammar_places.specs.declared.span.TIdx.{TIdx}
-use Rattle.lrpar_parse_completion.specs.Nearest.{FeedsAll, GoesOnAt, IsNearest, MayBeTried, inserts_deletes}
+use Rattle.lrpar_parse_completion.specs.Nearest.{FeedsAll, GoesOnAt, IsNearest, inserts_deletes}
 use Rattle.lrpar_parse_completion.specs.Trying.{AreTried, IsFewest, IsInserted}
 use Rattle.lrpar_parse_completion.proofs.FeedLemmas.{feeds_all_more, feeds_all_one_way, feeds_all_split}
 

@@ -1,7 +1,7 @@
 -- From the rule of a production up to the item of a state by which it was opened, and down the stack from there. Each step appends a
 -- minimal sentence of what comes after a rule; so what was appended, and what comes after the item's production, is what comes after the
 -- rule from which the way began.
-use Rattle.std.proofs.Common.{◌≡◌, ◌≢◌, ◌<◌, ◌≤◌, ◌+◌, ◌-◌, ◌∙◌, ◌⊎◌, ◌↔◌, inl, inr, refl, sym, ap, subst, arith, add-one, ℕ, zero, suc, List, [], ◌∷◌, ◌++◌, length, drop, take, get_or, slice_get, Option, Some, None}
+use Rattle.std.proofs.Common.{◌≡◌, ◌≢◌, ◌<◌, ◌≤◌, ◌+◌, ◌-◌, ◌∙◌, ◌⊎◌, ◌↔◌, inl, inr, refl, sym, ap, subst, arith, add-one, ℕ, zero, suc, List, [], ◌∷◌, ◌++◌, length, drop, take, get_or, slice_get, Option, Some}
 use Rattle.std.specs.Prelude.{map}
 use Rattle.std.specs.List.{Contains}
 use Rattle.std.specs.Option.{option_map}
@@ -23,10 +23,10 @@ use Rattle.lrpar_table_check.specs.Checked.{Checked, IsChecked}
 use Rattle.lrpar_table_sentences.specs.Reachable.{IsReachableRule, IsReachableSymbol}
 use Rattle.lrpar_table_sentences.specs.Texts.{AreShortestTrees, HaveTrees}
 use Rattle.lrpar_table_sentences.proofs.AfterLemmas.{have_trees, prod_reached}
-use Rattle.lrpar_table_stacks.specs.Stack.{IsStack, states_of, top_of}
+use Rattle.lrpar_table_stacks.specs.Stack.{IsStack, states_of}
 use Rattle.lrpar_parse_completion.specs.Completing.{IsCompletion, IsTail, IsTailOfRule, Opened}
 use Rattle.lrpar_parse_completion.specs.Opening.{ArePushed, CanComplete, IsKernelCore, IsOpenedBy}
-use Rattle.lrpar_parse_completion.specs.Waiting.{AreLinks, AreWaiting, IsLink, IsOwnCore, LinkOf, rules_in}
+use Rattle.lrpar_parse_completion.specs.Waiting.{AreLinks, AreWaiting, IsOwnCore, LinkOf, rules_in}
 use Rattle.lrpar_parse_completion.proofs.DownLemmas.{Down, down, low_in, start_tail}
 use Rattle.lrpar_parse_completion.proofs.WaitingLemmas.{core_reached, kernel_or_start, links_have_trees, take_get, waited_for}
 

@@ -1,13 +1,11 @@
 -- The rules that items of a state wait for. Each is reachable, so the symbols after it have minimal sentences. In a table that is built, a
 -- state's item set is the closure of its kernel items, or of the start item; so the rule of each item with its dot at the start is one
 -- for which an item of the state waits, but for the start item.
-use Rattle.std.proofs.Common.{◌≡◌, ◌≢◌, ◌<◌, ◌≤◌, ◌+◌, ◌∙◌, ◌⊎◌, inl, inr, refl, sym, ap, subst, arith, add-one, ℕ, zero, suc, List, [], ◌∷◌, ◌++◌, length, drop, take, get_or, slice_get, Option, Some}
-use Rattle.std.specs.Prelude.{map}
+use Rattle.std.proofs.Common.{◌≡◌, ◌≢◌, ◌<◌, ◌+◌, ◌∙◌, ◌⊎◌, inl, inr, refl, sym, ap, subst, arith, add-one, ℕ, zero, suc, List, [], ◌∷◌, length, drop, take, get_or, slice_get, Some}
 use Rattle.std.specs.List.{Contains}
 use Rattle.lrpar_grammar.specs.Grammar.{Grammar, GrammarSymbol, IsWellFormed, Nonterminal, end_token, rule_of, start_prod, symbols_of}
-use Rattle.lrpar_table_rows.specs.Graph.{Graph, HasCore, HasItem, ItemOf, graph_len, item_at, items_of}
+use Rattle.lrpar_table_rows.specs.Graph.{Graph, HasCore, HasItem, ItemOf, graph_len, item_at}
 use Rattle.lrpar_table_rows.specs.Table.{Table}
-use Rattle.lrpar_table_rows.proofs.GraphLemmas.{state_in_range}
 use Rattle.lrpar_table_rows.proofs.ItemLemmas.{Contains-preimage}
 use Rattle.lrpar_table_conditions.proofs.FirstTokenLemmas.{at_drop}
 use Rattle.lrpar_table_items.specs.Canonical.{AreSame, IsCanonical, sets_of}
@@ -16,7 +14,7 @@ use Rattle.lrpar_table_build.proofs.ReachedLemmas.{closure_each}
 use Rattle.lrpar_table_sentences.specs.Reachable.{EachReachableHasTree, IsReachableRule}
 use Rattle.lrpar_table_sentences.specs.Texts.{HaveTrees}
 use Rattle.lrpar_table_sentences.proofs.AfterLemmas.{after_reached, have_trees, item_reached, rest_reached}
-use Rattle.lrpar_parse_completion.specs.Waiting.{AreLinks, AreWaiting, HasRuleAfter, IsLink, IsOwnCore, LinkOf, rules_in}
+use Rattle.lrpar_parse_completion.specs.Waiting.{AreLinks, AreWaiting, HasRuleAfter, LinkOf, rules_in}
 
 -- an element of the first ones is in its place in the list
 pub take_get : {A : Type 0} (xs : List A) (n i : ℕ) (x : A) → i < length (take n xs) → get_or (take n xs) i x ≡ x → (i < n) × (slice_get xs i ≡ Some x)

@@ -1,4 +1,4 @@
-use Rattle.std.proofs.Common.{◌+◌, List, map, subst, sym}
+use Rattle.std.proofs.Common.{◌+◌, List, subst, sym}
 use Rattle.std.proofs.lemmas.Result.{IfOk-weaker}
 use Rattle.lrpar_grammar.specs.Grammar.{GrammarSymbol, symbols_of}
 use Rattle.lrpar_grammar.specs.Symbols.{symbol_of}

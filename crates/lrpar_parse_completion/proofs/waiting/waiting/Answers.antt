@@ -1,9 +1,8 @@
-use Rattle.std.proofs.Common.{◌≡◌, ◌<◌, ◌≤◌, ◌+◌, ◌∙◌, ℕ, Bool, List, [], Some, ap, arith, inl, inr, length, refl, slice_get, subst, sym, length-append}
-use Rattle.std.specs.List.{Contains}
+use Rattle.std.proofs.Common.{◌<◌, ℕ, List, ap, arith, inl, inr, length, subst, sym, length-append}
 use Rattle.std.proofs.lemmas.List.{length-map}
 use Rattle.std.proofs.lemmas.Option.{slice_get_within}
-use Rattle.lrpar_grammar.specs.Grammar.{rules_len, start_prod}
-use Rattle.lrpar_parse_completion.specs.Waiting.{AreCounted, AreFound, HasRuleAfter, IsClosedAt, IsOwnCore, LinkOf, link_of, links_of, rules_in}
+use Rattle.lrpar_grammar.specs.Grammar.{start_prod}
+use Rattle.lrpar_parse_completion.specs.Waiting.{AreCounted, AreFound, HasRuleAfter, IsOwnCore, LinkOf, link_of, links_of}
 use Rattle.lrpar_parse_completion.proofs.FoundLemmas.{after_kept, closed_all, closed_more, counted_none, found_none, link_at, link_contained, link_rule_low}
 use Rattle.lrpar_parse_completion.proofs.waiting.waiting.Goals as goal
 

@@ -1,7 +1,7 @@
-use Rattle.std.proofs.Common.{◌≡◌, ◌≢◌, ◌<◌, ◌≤◌, ◌+◌, ◌-◌, ◌∙◌, ◌⊎◌, ℕ, List, [], Some, ap, arith, drop, inl, inr, length, map, refl, slice_get, subst, sym}
+use Rattle.std.proofs.Common.{◌≡◌, ◌≢◌, ◌-◌, ◌∙◌, List, [], arith, inl, inr, length, map, subst, sym}
 use Rattle.std.proofs.lemmas.Bool.{eqb-false, eqb-true}
 use Rattle.std.proofs.lemmas.List.{length-map}
-use Rattle.lrpar_grammar.specs.Grammar.{GrammarSymbol, prod_len, prods_len, start_prod, symbols_of}
+use Rattle.lrpar_grammar.specs.Grammar.{GrammarSymbol, start_prod, symbols_of}
 use Rattle.lrpar_grammar.specs.Symbols.{symbol_of}
 use Rattle.lrpar_table_stacks.specs.Expected.{tokens_of}
 use Rattle.lrpar_table_sentences.specs.Texts.{HaveTrees}

@@ -1,6 +1,5 @@
-use Rattle.std.proofs.Common.{◌≡◌, ◌<◌, ◌≤◌, ◌∙◌, ℕ, arith, inl, length, subst, sym}
+use Rattle.std.proofs.Common.{◌≡◌, ◌∙◌, ℕ, arith, inl, length, subst, sym}
 use Rattle.std.proofs.lemmas.Bool.{eqb-false, eqb-true}
-use Rattle.lrpar_grammar.specs.Grammar.{start_prod}
 use Rattle.lrpar_table_conditions.proofs.CoreLemmas.{core_in_shape}
 use Rattle.lrpar_parse_completion.specs.Opening.{IsKernelCore}
 use Rattle.lrpar_parse_completion.proofs.OpenLemmas.{begun_is, begun_none, start_core}

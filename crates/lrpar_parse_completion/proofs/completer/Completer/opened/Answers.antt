@@ -1,15 +1,12 @@
-use Rattle.std.proofs.Common.{◌≡◌, ◌≢◌, ◌<◌, ◌≤◌, ◌+◌, ◌++◌, ◌∷◌, ◌-◌, ◌∙◌, ◌⊎◌, ℕ, List, [], Some, ap, arith, drop, inl, inr, length, map, refl, slice_get, subst, sym, take}
+use Rattle.std.proofs.Common.{◌≡◌, ◌<◌, ◌≤◌, ◌+◌, ◌++◌, ◌∷◌, ◌-◌, ◌∙◌, ℕ, List, [], arith, length, refl, subst, sym, take}
 use Rattle.std.specs.List.{Contains}
 use Rattle.std.proofs.lemmas.List.{length-map, take_all}
-use Rattle.lrpar_grammar.specs.Grammar.{GrammarSymbol, Nonterminal, prod_len, prods_len, rule_of, start_prod, symbols_of}
-use Rattle.lrpar_grammar.specs.Symbols.{symbol_of}
+use Rattle.lrpar_grammar.specs.Grammar.{Nonterminal, prod_len, rule_of, symbols_of}
 use Rattle.lrpar_table_stacks.specs.Expected.{tokens_of}
-use Rattle.lrpar_table_sentences.specs.Texts.{HaveTrees}
-use Rattle.lrpar_parse_completion.specs.Opening.{ArePushed}
 use Rattle.lrpar_parse_completion.specs.Waiting.{IsOwnCore, LinkOf, link_of, links_of, rules_in}
 use Rattle.lrpar_parse_completion.proofs.CompletesLemmas.{length_at}
 use Rattle.lrpar_parse_completion.proofs.FoundLemmas.{link_at}
-use Rattle.lrpar_parse_completion.proofs.OpenLemmas.{Climbs, climbs_none, climbs_on, climbs_out, later_link, link_trees, links_to, none_listed, not_last, opened_waits, own_begun, own_link, rest_of}
+use Rattle.lrpar_parse_completion.proofs.OpenLemmas.{Climbs, climbs_none, climbs_on, climbs_out, later_link, link_trees, links_to, none_listed, not_last, opened_waits, own_begun, own_link}
 use Rattle.lrpar_parse_completion.proofs.completer.Completer.opened.Goals as goal
 
 pub links-init : goal.links-init

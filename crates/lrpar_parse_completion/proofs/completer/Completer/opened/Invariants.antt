@@ -1,6 +1,6 @@
-use Rattle.std.proofs.Common.{◌≡◌, ◌≢◌, ◌<◌, ◌≤◌, length, take}
+use Rattle.std.proofs.Common.{◌≢◌, ◌≤◌, length, take}
 use Rattle.std.specs.List.{Contains}
-use Rattle.lrpar_grammar.specs.Grammar.{prods_len, rule_of, rules_len, start_prod}
+use Rattle.lrpar_grammar.specs.Grammar.{rule_of, start_prod}
 use Rattle.lrpar_table_rows.specs.Graph.{HasCore}
 use Rattle.lrpar_table_stacks.specs.Expected.{tokens_of}
 use Rattle.lrpar_parse_completion.specs.Opening.{CanComplete}

@@ -1,4 +1,4 @@
-use Rattle.std.proofs.Common.{◌≡◌, ◌<◌, ◌≤◌, arith}
+use Rattle.std.proofs.Common.{◌<◌, arith}
 use Rattle.std.proofs.lemmas.Result.{IfOk-weaker}
 use Rattle.lrpar_grammar.specs.Grammar.{end_token}
 use Rattle.lrpar_parse_completion.proofs.FeedLemmas.{inserted_by}

@@ -1,7 +1,7 @@
-use Rattle.std.proofs.Common.{◌≡◌, ◌<◌, ◌≤◌, ◌∙◌, ap, arith, length, refl, subst, sym, take}
+use Rattle.std.proofs.Common.{◌≡◌, ◌≤◌, arith, length, subst}
 use Rattle.std.proofs.lemmas.List.{length-map}
 use Rattle.lrpar_table_stacks.specs.Expected.{tokens_of}
-use Rattle.lrpar_table_stacks.specs.Stack.{IsStack, states_of}
+use Rattle.lrpar_table_stacks.specs.Stack.{states_of}
 use Rattle.lrpar_parse_lexemes.specs.Views.{token_by}
 use Rattle.lrpar_parse_completion.specs.Trying.{stacks_of}
 use Rattle.lrpar_parse_completion.proofs.FeedLemmas.{stack_at}

@@ -1,8 +1,8 @@
-use Rattle.std.proofs.Common.{◌≡◌, ◌<◌, ◌≤◌, ◌+◌, ◌⊎◌, ◌∙◌, ℕ, Bool, List, ap, arith, false, inl, inr, length, min, refl, subst, sym, take, true}
+use Rattle.std.proofs.Common.{◌≡◌, ◌<◌, ◌≤◌, ◌+◌, ◌⊎◌, ◌∙◌, ℕ, Bool, ap, arith, false, inl, inr, length, min, refl, subst, sym, take, true}
 use Rattle.std.proofs.lemmas.Bool.{cases_lt}
 use Rattle.std.proofs.lemmas.List.{length-map, length-take}
 use Rattle.lrpar_table_stacks.specs.Expected.{tokens_of}
-use Rattle.lrpar_table_stacks.specs.Stack.{IsStack, states_of}
+use Rattle.lrpar_table_stacks.specs.Stack.{states_of}
 use Rattle.lrpar_parse_completion.specs.Trying.{AreTried, IsInserted, stacks_of}
 use Rattle.lrpar_parse_completion.proofs.FeedLemmas.{stacks_pushed, token_front}
 use Rattle.lrpar_parse_completion.proofs.NearestLemmas.{Trying, trying_ends, trying_first, trying_more, trying_stops}

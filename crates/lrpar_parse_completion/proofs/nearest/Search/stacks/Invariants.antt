@@ -1,4 +1,3 @@
-use Rattle.std.proofs.Common.{◌≡◌, take}
 use Rattle.lrpar_table_stacks.specs.Expected.{tokens_of}
 use Rattle.lrpar_table_stacks.specs.Stack.{states_of}
 use Rattle.lrpar_parse_completion.specs.Trying.{stacks_of}

@@ -1,4 +1,4 @@
-use Rattle.std.proofs.Common.{◌≡◌, ◌<◌, ◌≤◌, ◌+◌, ◌-◌, ◌∙◌, ℕ, ap, arith, length, refl, subst, sym, take}
+use Rattle.std.proofs.Common.{◌≡◌, ◌<◌, ◌+◌, ◌-◌, ℕ, arith, length, refl, subst, take}
 use Rattle.std.proofs.lemmas.List.{length-map, length-take}
 use Rattle.lrpar_table_stacks.specs.Expected.{tokens_of}
 use Rattle.lrpar_parse_repair.specs.PlainSteps.{plain_steps}

@@ -1,8 +1,6 @@
-use Rattle.std.proofs.Common.{◌≡◌, ◌+◌, ◌-◌, ◌++◌, take}
-use Rattle.std.specs.Prelude.{map}
+use Rattle.std.proofs.Common.{◌≡◌, ◌-◌, take}
 use Rattle.lrpar_table_stacks.specs.Expected.{tokens_of}
 use Rattle.lrpar_parse_repair.specs.PlainSteps.{plain_steps}
-use Rattle.lrpar_parse_repair.specs.Sequences.{PlainInsert}
 use Rattle.lrpar_parse_completion.specs.Nearest.{inserts_deletes}
 use Rattle.lrpar_parse_completion.proofs.nearest.Search.steps.Given as goal
 

@@ -1,4 +1,4 @@
-use Rattle.std.proofs.Common.{◌≡◌, ◌<◌, ◌+◌, ℕ, List, arith, get_or, inl, refl, subst, sym}
+use Rattle.std.proofs.Common.{◌<◌, List, arith, get_or, inl, subst, sym}
 use Rattle.lrpar_table_conditions.proofs.CoreLemmas.{core_in_shape}
 use Rattle.lrpar_table_rows.proofs.GraphLemmas.{all_begun}
 use Rattle.lrpar_table_rows.proofs.TestLemmas.{each_more}

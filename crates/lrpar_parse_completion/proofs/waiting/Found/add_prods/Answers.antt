@@ -1,4 +1,4 @@
-use Rattle.std.proofs.Common.{◌<◌, ◌+◌, ◌∙◌, ℕ, All, List, arith, get_or, inr, map, refl, subst, sym}
+use Rattle.std.proofs.Common.{ℕ, All, List, arith, get_or, inr, map, refl, subst, sym}
 use Rattle.std.specs.List.{Contains}
 use Rattle.std.proofs.lemmas.List.Elements.{All-map}
 use Rattle.lrpar_grammar.specs.Grammar.{rule_of}

@@ -1,4 +1,4 @@
-use Rattle.std.proofs.Common.{◌≡◌, ◌<◌, ◌∙◌, ℕ, inl, inr, refl, subst, sym}
+use Rattle.std.proofs.Common.{◌≡◌, ◌∙◌, ℕ, inl, inr, refl, subst, sym}
 use Rattle.lrpar_grammar.specs.Grammar.{start_prod}
 use Rattle.lrpar_parse_completion.specs.Waiting.{HasRuleAfter, IsOwnCore, links_of}
 use Rattle.lrpar_parse_completion.proofs.FoundLemmas.{added_found, counted_more, grows_none}
