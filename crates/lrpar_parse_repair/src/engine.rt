@@ -24,9 +24,12 @@ use std::alloc::{AllocError, Global};
 /// by reductions and shifts alone, also if it returns `None` or `false`, and by no more reductions than the tokens that it feeds may cost.
 #[derive(Drop)]
 pub struct Engine<'a, StorageT: StorageIndex, LexemeT> {
-    checked: &'a ParserData<StorageT>,
-    lexemes: &'a [LexemeT],
-    shifts: usize,
+    /// The grammar with its checked table.
+    pub checked: &'a ParserData<StorageT>,
+    /// All lexemes of the parse.
+    pub lexemes: &'a [LexemeT],
+    /// How many lexemes must follow a repair.
+    pub shifts: usize,
 }
 
 impl<'a, StorageT: StorageIndex, LexemeT: Lexeme<StorageT>> Engine<'a, StorageT, LexemeT> {
