@@ -45,6 +45,6 @@ returns g c =
     let within = c.lexemes-place-end.ensures.stop.within in
     let long = ap (λ xs. length xs) c.lexemes-place-end.ensures.lexemes in
     let last : c.loop-place.place ≡ length at.lexemes =
-    omega (arith, within, long) in
+    omega (arith, c.loop-place-test.false, c.loop-place.auto.place-end, within, long) in
     let none = subst (NoneNearer token at tokens most) last c.loop-place.invariant in
     rw c.lexemes-place.ensures.lexemes (nearest_at_end token at tokens most c.in-Some-2.inserted within none found)
