@@ -5,7 +5,7 @@ use Rattle.lrpar_parse_completion.proofs.NearestLemmas.{NoneNearer, nearest_at_e
 use Rattle.lrpar_parse_completion.proofs.nearest.Search.nearest.Goals as goal
 
 pub loop-place-init : goal.loop-place-init
-loop-place-init g c = λ i n after low. absurd (omega (arith, after, low, c.place-place.ensures.place))
+loop-place-init g c = λ i n after low. absurd (omega (arith, after, low))
 
 pub first_going_on-requires-clause-tried : goal.first_going_on-requires-clause-tried
 first_going_on-requires-clause-tried g c = rw c.deref.ensures.value c.in_ok-stacks.ensures
@@ -27,7 +27,7 @@ returns-in-Some g c =
     let tokens = tokens_of index c.args.self.now.tokens.now in
     let j = c.loop-place.place in
     let found = rw c.in-Some.is at c.in_ok-inserted.ensures in
-    let after : at.place ≤ j = omega (arith, c.place-place.ensures.place, c.loop-place.auto.place) in
+    let after : at.place ≤ j = omega arith in
     let low : j < length at.lexemes = rw (sym c.lexemes-place-end.ensures.lexemes) c.loop-place-test.true in
     nearest_before token at tokens c.args.self.now.most j c.in-Some.inserted after low c.loop-place.invariant found.first.0 found.first.1
 
@@ -42,9 +42,9 @@ returns g c =
     let tokens = tokens_of index c.args.self.now.tokens.now in
     let most = c.args.self.now.most in
     let found = rw c.in-Some-2.is at c.in_ok-inserted-2.ensures in
-    let within = c.place-place.ensures.stop.within in
+    let within = c.lexemes-place-end.ensures.stop.within in
     let long = ap (λ xs. length xs) c.lexemes-place-end.ensures.lexemes in
     let last : c.loop-place.place ≡ length at.lexemes =
-    omega (arith, c.loop-place-test.false, c.loop-place.auto.place-end, c.place-place.ensures.place, within, long) in
+    omega (arith, c.loop-place-test.false, c.loop-place.auto.place-end, within, long) in
     let none = subst (NoneNearer token at tokens most) last c.loop-place.invariant in
     rw c.lexemes-place.ensures.lexemes (nearest_at_end token at tokens most c.in-Some-2.inserted within none found)
