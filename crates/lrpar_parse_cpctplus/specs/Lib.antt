@@ -12,6 +12,7 @@ pub mod Configurations
 pub mod Chains
 pub mod Listing
 pub mod Ways
+pub mod Graph
 pub mod Walking
 pub mod Tallied
 pub mod SearchView
