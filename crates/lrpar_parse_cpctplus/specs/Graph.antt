@@ -48,3 +48,9 @@ module _ {X : Type 0} (token : X → ℕ) (costs : List ℕ) (at : Asked X) (c :
   pub record AreEndings (nodes : List Configured) (endings : List PlainEnding) : Type 0 where
     pub exact : (ending : PlainEnding) → Contains endings ending ↔ IsEndingAmong nodes ending
     pub once : AllPairs (λ one other. one ≢ other) endings
+
+  -- each last step from one of the configurations is that of an ending
+  abbrev pub HaveEndings : List Configured → List PlainEnding → Type 0
+  HaveEndings nodes endings =
+      (k : ℕ) (u : Configured) (step : PlainStep) (v : Configured) → slice_get nodes k ≡ Some u → IsLastStep token costs at c u step v
+      → (ending : PlainEnding) × Contains endings ending × (ending.from ≡ k) × (ending.step ≡ step)
