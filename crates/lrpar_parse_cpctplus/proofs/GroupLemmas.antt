@@ -239,10 +239,10 @@ module _ (avoided : List Bool) (end n : ℕ) (links : List PlainLink) (endings :
         under = h.under;
         groups = down_to avoided end n links endings h.high low (far - low) (h.repairs ++ group)
             (λ ending m above.
-                elim (compare ending.reach far) as (λ _. low + (far - low) ≤ ending.reach) [
-                  | inl less ↦ let past = none ending m less in absurd (omega (arith, past, above))
-                  | inr other ↦ elim other as (λ _. low + (far - low) ≤ ending.reach) [ inl same ↦ omega (arith, gap, same) | inr over ↦ omega (arith, gap, over) ]
-                ])
+            elim (compare ending.reach far) as (λ _. low + (far - low) ≤ ending.reach) [
+              | inl less ↦ let past = none ending m less in absurd (omega (arith, past, above))
+              | inr other ↦ elim other as (λ _. low + (far - low) ≤ ending.reach) [ inl same ↦ omega (arith, gap, same) | inr over ↦ omega (arith, gap, over) ]
+            ])
             (subst (λ (m : ℕ). AreGroups avoided end n links endings h.high m (h.repairs ++ group)) (sym gap) here);
         are = added
             ∙ ap (λ (l : List (List PlainStep)). added_first most l group) (h.are ∙ sym (added_from_none most h.repairs))

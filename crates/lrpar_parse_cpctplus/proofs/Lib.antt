@@ -31,3 +31,4 @@ pub mod GroupLemmas
 pub mod NodeLemmas
 pub mod CountLemmas
 pub mod ChoiceLemmas
+pub mod FurthestLemmas

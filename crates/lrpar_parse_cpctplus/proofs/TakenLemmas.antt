@@ -1,5 +1,5 @@
 -- Lists that are put together from others, their members and their order; and the first ones of a list that has all things in order.
-use Rattle.std.proofs.Common.{◌≡◌, ◌<◌, ◌≤◌, ◌-◌, ◌+◌, ◌∙◌, ◌⊎◌, ◌&&◌, inl, inr, ℕ, zero, suc, List, [], ◌∷◌, ◌++◌, Bool, true, false, IsTrue, cond, filter, flat_map, length, take, Option, Some, refl, sym, subst, ap, arith, All, AllPairs, Contains}
+use Rattle.std.proofs.Common.{◌≡◌, ◌<◌, ◌≤◌, ◌-◌, ◌+◌, ◌∙◌, ◌⊎◌, ◌&&◌, inl, inr, ℕ, zero, suc, List, [], ◌∷◌, ◌++◌, Bool, true, false, IsTrue, cond, filter, flat_map, length, take, Option, Some, None, refl, sym, subst, ap, arith, All, AllPairs, Contains}
 use Rattle.std.specs.Prelude.{slice_get}
 use Rattle.std.proofs.lemmas.List.{append-nil, append_assoc, length-append, length-take, take_all}
 use Rattle.std.proofs.lemmas.List.Elements.{All-take}
@@ -87,7 +87,7 @@ module _ {A : Type 0} where
         | inr later ↦ let more = place_of xs x later in (suc more.0, more.1)
       ]
 
-  no_none : (x : A) → ¬ (slice_get [] 0 ≡ Some x)
+  no_none : (x : A) → ¬ (None ≡ Some x)
   no_none x e = cc
 
   pub at_place_in : (xs : List A) (k : ℕ) (x : A) → slice_get xs k ≡ Some x → IsIn x xs
