@@ -90,7 +90,11 @@ same_either false x = refl
 abbrev pub one_rest : Numbers
 one_rest = record { clean = 1; avoided = 0; any = 1 }
 
-ends_here : (class : Class) → number_of one_rest class ≡ counted (cond (true && allows_none class) ([] ∷ []) ([] : List (List PlainStep)))
+-- the rest without steps, if it is allowed
+abbrev at_end : Bool → List (List PlainStep)
+at_end b = cond b ([] ∷ []) []
+
+ends_here : (class : Class) → number_of one_rest class ≡ counted (at_end (true && allows_none class))
 ends_here Clean = refl
 ends_here Avoided = refl
 ends_here Any = refl
@@ -100,10 +104,10 @@ module _ (avoided : List Bool) (end : ℕ) (next : ℕ → List PlainLink) where
   pub end_counts : (form : Form) → count_of (record { after_delete = one_rest; after_other = one_rest }) form ≡ counted (rests avoided end next 0 form end)
   end_counts form =
       ap (λ (numbers : Numbers). number_of numbers form.class) (same_either form.deleted one_rest) ∙ ends_here form.class
-      ∙ ap (λ (b : Bool). counted (cond (b && allows_none form.class) ([] ∷ []) ([] : List (List PlainStep)))) (sym (eq-eqb end end refl))
+      ∙ ap (λ (b : Bool). counted (at_end (b && allows_none form.class))) (sym (eq-eqb end end refl))
 
   pub none_elsewhere : (form : Form) (u : ℕ) → u ≢ end → rests avoided end next 0 form u ≡ []
-  none_elsewhere form u other = ap (λ (b : Bool). cond (b && allows_none form.class) ([] ∷ []) []) (ne_eqb u end other)
+  none_elsewhere form u other = ap (λ (b : Bool). at_end (b && allows_none form.class)) (ne_eqb u end other)
 
   -- the layer of no steps
   pub first_is_layer : (old new : Layer) (counts : Counts) → counts ≡ record { after_delete = one_rest; after_other = one_rest }

@@ -47,8 +47,8 @@ module _ {A B : Type 0} (f : A → List B) where
       pairs_joined R (f x) (flat_map f xs) (each x (inl refl))
       (pairs_of_parts R S xs (pairs_tail S x xs rising) (λ y m. each y (inr m)) cross)
       (λ a b m n.
-          let from = in_part xs b n in
-          cross x from.0 (all_members (S x) xs (pairs_head S x xs rising) from.0 from.1) a b m from.2)
+      let from = in_part xs b n in
+      cross x from.0 (all_members (S x) xs (pairs_head S x xs rising) from.0 from.1) a b m from.2)
 
 -- the members that pass a test
 module _ {A : Type 0} (p : A → Bool) where
@@ -179,11 +179,12 @@ module _ {A : Type 0} where
       ∙ ap (λ (l : List A). before ++ l) (take_joined n xs ys)
 
   pub added_none : (most : ℕ) (before : List A) → added_first most before [] ≡ before
-  added_none most before = ap (λ (l : List A). before ++ l) (take_none (most - length before)) ∙ append-nil before
+  added_none most before = ap (λ (l : List A). before ++ l) (take_none (most - length before) [] refl) ∙ append-nil before
     where
-      take_none : (n : ℕ) → take n ([] : List A) ≡ []
-      take_none zero = refl
-      take_none (suc n) = refl
+      take_none : (n : ℕ) (xs : List A) → xs ≡ [] → take n xs ≡ []
+      take_none zero xs e = refl
+      take_none (suc n) [] e = refl
+      take_none (suc n) (x ∷ xs) e = absurd (let f : x ∷ xs ≡ [] = e in cc)
 
   pub added_from_none : (most : ℕ) (xs : List A) → added_first most [] xs ≡ take most xs
   added_from_none most xs = ap (λ (m : ℕ). take m xs) (let e : most - 0 ≡ most = omega arith in e)
