@@ -2,12 +2,12 @@
 use Rattle.std.proofs.Common.{◌≡◌, ◌≢◌, ◌<◌, ◌≤◌, ◌==◌, ◌+◌, ◌-◌, ◌^◌, ◌∙◌, ◌&&◌, ◌↔◌, ◌⊎◌, inl, inr, ℕ, zero, suc, List, [], ◌∷◌, ◌++◌, Bool, true, false, IsTrue, Option, Some, None, MatchOption, cond, flat_map, get_or, is_some, length, map, min, take, refl, sym, subst, ap, arith, Contains}
 use Rattle.std.specs.Prelude.{nat_eq}
 use Rattle.std.specs.HashMap.{get}
-use Rattle.std.proofs.lemmas.Bool.{cases_eq, eq-eqb, ne_eqb}
-use Rattle.std.proofs.lemmas.List.{append-nil, length-append, length-map, map_more}
+use Rattle.std.proofs.lemmas.Bool.{cases_eq, cases_lt, eq-eqb, ne_eqb}
+use Rattle.std.proofs.lemmas.List.{append-nil, get_or_append_left, get_or_push, length-append, length_push, map_more}
 use Rattle.std.proofs.lemmas.List.Concat.{flat_map-append}
 use Rattle.std.proofs.lemmas.List.Elements.{Contains-append_left, Contains-push}
 use Rattle.lrpar_parse_repair.specs.Sequences.{PlainStep}
-use Rattle.lrpar_parse_cpctplus.specs.Counted.{AreCounts, AreNumbers, IsLayer, IsPartOfLayer, count_at, count_in, count_of, counted, number_of}
+use Rattle.lrpar_parse_cpctplus.specs.Counted.{AreCounts, AreLayers, AreNumbers, IsLayer, IsPartOfLayer, count_at, count_in, count_of, counted, number_of}
 use Rattle.lrpar_parse_cpctplus.specs.Forming.{allows_none, form_after, form_of}
 use Rattle.lrpar_parse_cpctplus.specs.Graph.{PlainLink}
 use Rattle.lrpar_parse_cpctplus.specs.LinkView.{plain_link}
@@ -21,7 +21,7 @@ use Rattle.lrpar_parse_cpctplus.specs.declared.layer.Layer.{Layer}
 use Rattle.lrpar_parse_cpctplus.specs.declared.layer.Numbers.{Numbers}
 use Rattle.lrpar_parse_cpctplus.specs.declared.link.Link.{Link}
 use Rattle.lrpar_parse_cpctplus.proofs.MemberLemmas.{contained, is_in}
-use Rattle.lrpar_parse_cpctplus.proofs.RestLemmas.{no_rests_of_none, rests_by}
+use Rattle.lrpar_parse_cpctplus.proofs.RestLemmas.{no_more_rests, no_rests_of_none, rests_by}
 
 -- counts of lists that are joined
 pub counted_joined : {A : Type 0} (xs ys : List A) (m n : ℕ) → m ≡ counted xs → n ≡ counted ys → min (m + n) (2 ^ 64 - 1) ≡ counted (xs ++ ys)
@@ -219,3 +219,47 @@ there_still old new node counts got u h =
     either : (b : Bool) → IsTrue (is_some (cond b (Some counts) (get nat_eq old.counts u)))
     either true = refl
     either false = h
+
+-- one layer more
+pub layers_more : (begin : ℕ → Form → ℕ → List (List PlainStep)) (layers more : List Layer) (layer : Layer) → more ≡ layers ++ layer ∷ []
+    → ((s : ℕ) (d : Layer) → s < length layers → IsLayer (begin s) (get_or layers s d)) → IsLayer (begin (length layers)) layer
+    → (s : ℕ) (d : Layer) → s < length more → IsLayer (begin s) (get_or more s d)
+layers_more begin layers more layer pushed each last s d within =
+    let long : length more ≡ length layers + 1 = ap (λ (l : List Layer). length l) pushed ∙ length_push layers layer in
+    elim (cases_lt s (length layers)) as (λ _. IsLayer (begin s) (get_or more s d)) [
+      | inl below ↦
+          subst (λ (l : List Layer). IsLayer (begin s) (get_or l s d)) (sym pushed)
+          (subst (λ (k : Layer). IsLayer (begin s) k) (sym (get_or_append_left layers (layer ∷ []) d s below)) (each s d below))
+      | inr past ↦
+          let same : length layers ≡ s = omega (arith, long, within, past) in
+          let at : get_or more s d ≡ layer = ap (λ (l : List Layer). get_or l s d) pushed ∙ get_or_push layers layer d s same in
+          subst (λ (k : Layer). IsLayer (begin s) k) (sym at) (subst (λ (n : ℕ). IsLayer (begin n) layer) same last)
+    ]
+
+-- where nothing has a number of steps, nothing has more
+pub none_longer : (avoided : List Bool) (end : ℕ) (next : ℕ → List PlainLink) (m gap : ℕ) → ((form : Form) (u : ℕ) → rests avoided end next m form u ≡ [])
+    → (form : Form) (u : ℕ) → rests avoided end next (m + gap) form u ≡ []
+none_longer avoided end next m zero none form u =
+    subst (λ (n : ℕ). rests avoided end next n form u ≡ []) (let e : m ≡ m + 0 = omega arith in e) (none form u)
+none_longer avoided end next m (suc gap) none form u =
+    let e : suc (m + gap) ≡ m + suc gap = omega arith in
+    subst (λ (n : ℕ). rests avoided end next n form u ≡ []) e (no_more_rests avoided end next (m + gap) (none_longer avoided end next m gap none) form u)
+
+-- all layers, if the last ones are as many as were asked for, or the next one would be empty
+pub are_layers : (avoided : List Bool) (end : ℕ) (next : ℕ → List PlainLink) (longest : ℕ) (layers : List Layer) (layer : Layer)
+    → ((s : ℕ) (d : Layer) → s < length layers → IsLayer (rests avoided end next s) (get_or layers s d)) → length layers ≤ longest + 1
+    → IsLayer (rests avoided end next (length layers)) layer → (longest < length layers) ⊎ (layer.nodes.items ≡ [])
+    → AreLayers (rests avoided end next) longest layers
+are_layers avoided end next longest layers layer each few is ended = record {
+  each = each;
+  few = few;
+  others = λ s above below form u.
+      elim ended as (λ _. rests avoided end next s form u ≡ []) [
+        | inl all ↦ absurd (omega (arith, all, above, below))
+        | inr none ↦
+            let gap : length layers + (s - length layers) ≡ s = omega (arith, above) in
+            subst (λ (n : ℕ). rests avoided end next n form u ≡ []) gap
+            (none_longer avoided end next (length layers) (s - length layers)
+            (nothing_begins (rests avoided end next (length layers)) layer is none) form u)
+      ];
+}
