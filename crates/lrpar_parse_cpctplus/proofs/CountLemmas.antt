@@ -3,9 +3,10 @@ use Rattle.std.proofs.Common.{◌≡◌, ◌≢◌, ◌<◌, ◌≤◌, ◌==◌
 use Rattle.std.specs.Prelude.{nat_eq}
 use Rattle.std.specs.HashMap.{get}
 use Rattle.std.proofs.lemmas.Bool.{cases_eq, cases_lt, eq-eqb, ne_eqb}
-use Rattle.std.proofs.lemmas.List.{append-nil, get_or_append_left, get_or_push, length-append, length_push, map_more}
+use Rattle.std.proofs.lemmas.List.{append-nil, get_or_append_left, get_or_push, length-append, length-map, length_push, map_more, take_all}
 use Rattle.std.proofs.lemmas.List.Concat.{flat_map-append}
 use Rattle.std.proofs.lemmas.List.Elements.{Contains-append_left, Contains-push}
+use Rattle.lrpar_parse_repair.specs.PlainSteps.{plain_step}
 use Rattle.lrpar_parse_repair.specs.Sequences.{PlainStep}
 use Rattle.lrpar_parse_cpctplus.specs.Counted.{AreCounts, AreLayers, AreNumbers, IsLayer, IsPartOfLayer, count_at, count_in, count_of, counted, number_of}
 use Rattle.lrpar_parse_cpctplus.specs.Forming.{allows_none, form_after, form_of}
@@ -263,3 +264,24 @@ are_layers avoided end next longest layers layer each few is ended = record {
             (nothing_begins (rests avoided end next (length layers)) layer is none) form u)
       ];
 }
+
+module _ {S : Type 0} (index : S → ℕ) (avoided : List Bool) (end : ℕ) (next : ℕ → List PlainLink) (s : ℕ) (form : Form) where
+  -- as many as after the links so far, and one more
+  pub pulled_by : (layer : Layer) → IsLayer (rests avoided end next s) layer → (links : List (Link S)) (i : ℕ) (link : Link S) (after : Form) (sum many more : ℕ)
+      → i < length links → link ≡ get_or links i link → sum ≡ counted (flat_map (rests_by avoided end next s form) (map (plain_link index) (take i links)))
+      → after ≡ form_after avoided form (plain_step index link.step) → many ≡ count_in layer after link.to → more ≡ min (sum + many) (2 ^ 64 - 1)
+      → more ≡ counted (flat_map (rests_by avoided end next s form) (map (plain_link index) (take (i + 1) links)))
+  pulled_by layer is links i link after sum many more below read so form_is count joined =
+      let rest = rests avoided end next s (form_after avoided form (plain_step index link.step)) link.to in
+      let by_count : many ≡ counted (rests avoided end next s after link.to) = count ∙ count_is (rests avoided end next s) layer is link.to after in
+      let part : many ≡ counted (rests_by avoided end next s form (plain_link index link)) =
+      by_count ∙ ap (λ (f : Form). counted (rests avoided end next s f link.to)) form_is
+      ∙ ap (λ (n : ℕ). min n (2 ^ 64 - 1)) (sym (length-map rest (λ (steps : List PlainStep). plain_step index link.step ∷ steps))) in
+      joined ∙ pulled_more index (rests_by avoided end next s form) links i link sum many below read so part
+
+  pub pulled_all : (node : ℕ) (links : List (Link S)) (i sum : ℕ) → length links ≤ i → map (plain_link index) links ≡ next node
+      → sum ≡ counted (flat_map (rests_by avoided end next s form) (map (plain_link index) (take i links))) → sum ≡ counted (rests avoided end next (suc s) form node)
+  pulled_all node links i sum past are so =
+      so
+      ∙ ap (λ (l : List (Link S)). counted (flat_map (rests_by avoided end next s form) (map (plain_link index) l))) (take_all i links past)
+      ∙ ap (λ (l : List PlainLink). counted (flat_map (rests_by avoided end next s form) l)) are
