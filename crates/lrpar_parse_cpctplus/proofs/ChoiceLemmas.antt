@@ -1,5 +1,5 @@
 -- The repair at a place of a list that is put together of parts; and lists of which the first ones are added one after the other.
-use Rattle.std.proofs.Common.{◌≡◌, ◌<◌, ◌≤◌, ◌+◌, ◌-◌, ◌^◌, ◌∙◌, ◌⊎◌, ◌↔◌, inl, inr, ℕ, zero, suc, List, [], ◌∷◌, ◌++◌, Bool, true, false, IsTrue, Option, Some, None, IfSome, Vec, cond, flat_map, get_or, length, map, min, take, refl, sym, subst, ap, arith, All, Contains}
+use Rattle.std.proofs.Common.{◌≡◌, ◌<◌, ◌≤◌, ◌+◌, ◌-◌, ◌^◌, ◌∙◌, ◌⊎◌, ◌==◌, ◌&&◌, inl, inr, ℕ, zero, suc, List, [], ◌∷◌, ◌++◌, Bool, true, false, IsTrue, Option, Some, None, IfSome, Vec, cond, flat_map, get_or, length, map, min, take, refl, sym, subst, ap, ap₂, arith, All, Contains}
 use Rattle.std.proofs.lemmas.List.{append-nil, append_assoc, get_or-map, length-append, length-map, map-append, take-map, take_all, take_more}
 use Rattle.std.proofs.lemmas.List.Concat.{get_or-flat_map}
 use Rattle.std.proofs.lemmas.List.Elements.{Contains-append_left, Contains-push}
@@ -7,20 +7,24 @@ use Rattle.std.specs.declared.alloc.Global.{Global}
 use Rattle.lrpar_parse_repair.specs.PlainSteps.{plain_sequences, plain_step, plain_steps}
 use Rattle.lrpar_parse_repair.specs.Sequences.{PlainStep}
 use Rattle.lrpar_parse_repair.specs.declared.repair_step.RepairStep.{RepairStep}
-use Rattle.lrpar_parse_cpctplus.specs.Chosen.{IsBelow, IsFurthestBelow, above}
-use Rattle.lrpar_parse_cpctplus.specs.Counted.{counted}
-use Rattle.lrpar_parse_cpctplus.specs.Forming.{form_after, form_of}
+use Rattle.lrpar_parse_cpctplus.specs.Chosen.{IsChoice}
+use Rattle.lrpar_parse_cpctplus.specs.Counted.{AreLayers, IsLayer, count_in, counted}
+use Rattle.lrpar_parse_cpctplus.specs.Forming.{allows_none, form_after, form_of}
 use Rattle.lrpar_parse_cpctplus.specs.Graph.{PlainLink}
 use Rattle.lrpar_parse_cpctplus.specs.LinkView.{plain_link}
-use Rattle.lrpar_parse_cpctplus.specs.Rests.{added_first, rests, shorter}
+use Rattle.lrpar_parse_cpctplus.specs.Rests.{added_first, in_order, rests, shorter}
 use Rattle.lrpar_parse_cpctplus.specs.Tallied.{IsIn}
 use Rattle.lrpar_parse_cpctplus.specs.declared.form.Class.{Class}
 use Rattle.lrpar_parse_cpctplus.specs.declared.form.Form.{Form}
+use Rattle.lrpar_parse_cpctplus.specs.declared.form.Class.TheVariants.{Clean, Avoided}
+use Rattle.lrpar_parse_cpctplus.specs.declared.layer.Layer.{Layer}
 use Rattle.lrpar_parse_cpctplus.specs.declared.link.Link.{Link}
-use Rattle.lrpar_parse_cpctplus.proofs.CountLemmas.{flat_more, plain_more}
+use Rattle.lrpar_parse_cpctplus.specs.declared.listing.Choice.{Choice}
+use Rattle.lrpar_parse_cpctplus.proofs.CountLemmas.{count_is, flat_more, plain_more}
 use Rattle.lrpar_parse_cpctplus.proofs.DistanceLemmas.{compare}
 use Rattle.lrpar_parse_cpctplus.proofs.MemberLemmas.{contained, is_in}
 use Rattle.lrpar_parse_cpctplus.proofs.RestLemmas.{rests_by}
+use Rattle.lrpar_parse_cpctplus.proofs.TakenLemmas.{added_joined}
 
 module _ {S : Type 0} (index : S → ℕ) (avoided : List Bool) (end : ℕ) (next : ℕ → List PlainLink) (s : ℕ) (form : Form) where
   -- the place in the part of one link
@@ -105,3 +109,104 @@ no_longer avoided end next class m (suc gap) none =
     ∙ ap (λ (l : List (List PlainStep)). shorter avoided end next class (m + gap) ++ l) (none (m + gap) (omega arith) (omega arith))
     ∙ append-nil (shorter avoided end next class (m + gap))
     ∙ no_longer avoided end next class m gap (λ s above below. none s above (omega (arith, below)))
+
+module _ {S : Type 0} (index : S → ℕ) (avoided : List Bool) (end : ℕ) (next : ℕ → List PlainLink) (s : ℕ) (form : Form) where
+  -- the sequence at the place begins with this link
+  pub is_choice : (layer : Layer) → IsLayer (rests avoided end next s) layer → (node : ℕ) (links : List (Link S)) (i : ℕ) (link : Link S) (after : Form)
+      (place left many : ℕ) → i < length links → link ≡ get_or links i link → map (plain_link index) links ≡ next node
+      → left + length (flat_map (rests_by avoided end next s form) (map (plain_link index) (take i links))) ≡ place → left ≤ place
+      → after ≡ form_after avoided form (plain_step index link.step) → many ≡ count_in layer after link.to → left < many
+      → IsChoice index (rests avoided end next s) (rests avoided end next (suc s) form node) place
+      (record { step = link.step; node = link.to; form = after; place = left })
+  is_choice layer is node links i link after place left many below read are sum less form_is count within =
+      let by_count : many ≡ counted (rests avoided end next s after link.to) = count ∙ count_is (rests avoided end next s) layer is link.to after in
+      let by_form : left < counted (rests avoided end next s (form_after avoided form (plain_step index link.step)) link.to) =
+      subst (λ (f : Form). left < counted (rests avoided end next s f link.to)) form_is (omega (arith, by_count, within)) in
+      record {
+        within = omega (arith, by_count, within);
+        no_more = less;
+        is = λ d.
+            ap (λ (l : List PlainLink). get_or (flat_map (rests_by avoided end next s form) l) place d) (sym are)
+            ∙ place_by index avoided end next s form links i link place left d below read sum by_form
+            ∙ ap (λ (f : Form). plain_step index link.step ∷ get_or (rests avoided end next s f link.to) left d) (sym form_is);
+      }
+
+  -- or it comes after those of the link
+  pub past_link : (layer : Layer) → IsLayer (rests avoided end next s) layer → (links : List (Link S)) (i : ℕ) (link : Link S) (after : Form)
+      (place left many rest : ℕ) → i < length links → link ≡ get_or links i link
+      → left + length (flat_map (rests_by avoided end next s form) (map (plain_link index) (take i links))) ≡ place → left < 2 ^ 64 - 1
+      → after ≡ form_after avoided form (plain_step index link.step) → many ≡ count_in layer after link.to → many ≤ left → rest + many ≡ left
+      → rest + length (flat_map (rests_by avoided end next s form) (map (plain_link index) (take (i + 1) links))) ≡ place
+  past_link layer is links i link after place left many rest below read sum fits form_is count past less =
+      let by_count : many ≡ counted (rests avoided end next s (form_after avoided form (plain_step index link.step)) link.to) =
+      count ∙ count_is (rests avoided end next s) layer is link.to after ∙ ap (λ (f : Form). counted (rests avoided end next s f link.to)) form_is in
+      place_past index avoided end next s form links i link place left many rest below read sum by_count past fits less
+
+  -- or there are no more
+  pub past_all : (node : ℕ) (links : List (Link S)) (i place left : ℕ) → length links ≤ i → map (plain_link index) links ≡ next node
+      → left + length (flat_map (rests_by avoided end next s form) (map (plain_link index) (take i links))) ≡ place
+      → length (rests avoided end next (suc s) form node) ≤ place
+  past_all node links i place left past are sum =
+      let long : length (flat_map (rests_by avoided end next s form) (map (plain_link index) (take i links))) ≡ length (rests avoided end next (suc s) form node) =
+      ap (λ (l : List (Link S)). length (flat_map (rests_by avoided end next s form) (map (plain_link index) l))) (take_all i links past)
+      ∙ ap (λ (l : List PlainLink). length (flat_map (rests_by avoided end next s form) l)) are in
+      omega (arith, long, sum)
+
+-- the repair so far and one step more
+pub goes_on : {S : Type 0} (index : S → ℕ) (begin : ℕ → Form → ℕ → List (List PlainStep)) (all : List (List PlainStep)) (start left after : ℕ) (form : Form)
+    (node place : ℕ) (choice : Choice S) (repair more : List (RepairStep S)) → left ≡ suc after → more ≡ repair ++ choice.step ∷ []
+    → IsChoice index (begin after) (begin (suc after) form node) place choice
+    → ((d : List PlainStep) → get_or all start d ≡ plain_steps index repair ++ get_or (begin left form node) place d) → (d : List PlainStep)
+    → get_or all start d ≡ plain_steps index more ++ get_or (begin after choice.form choice.node) choice.place d
+goes_on index begin all start left after form node place choice repair more one pushed is so d =
+    so d
+    ∙ ap (λ (n : ℕ). plain_steps index repair ++ get_or (begin n form node) place d) one
+    ∙ ap (λ (l : List PlainStep). plain_steps index repair ++ l) (is.is d)
+    ∙ step_more index repair more choice.step (get_or (begin after choice.form choice.node) choice.place d) pushed
+
+last_none : (b : Bool) (place : ℕ) (d : List PlainStep) → place < length (cond b ([] ∷ []) []) → get_or (cond b ([] ∷ []) []) place d ≡ []
+last_none true zero d within = refl
+last_none true (suc place) d within = absurd (omega (arith, within))
+last_none false place d within = absurd (omega (arith, within))
+
+-- no step is left
+pub ends_there : {S : Type 0} (index : S → ℕ) (avoided : List Bool) (end : ℕ) (next : ℕ → List PlainLink) (all : List (List PlainStep)) (start left : ℕ)
+    (form : Form) (node place : ℕ) (repair : List (RepairStep S)) → left ≡ 0 → place < length (rests avoided end next left form node)
+    → ((d : List PlainStep) → get_or all start d ≡ plain_steps index repair ++ get_or (rests avoided end next left form node) place d)
+    → (d : List PlainStep) → get_or all start d ≡ plain_steps index repair
+ends_there index avoided end next all start left form node place repair none within so d =
+    let inside = subst (λ (n : ℕ). place < length (rests avoided end next n form node)) none within in
+    so d
+    ∙ ap (λ (n : ℕ). plain_steps index repair ++ get_or (rests avoided end next n form node) place d) none
+    ∙ ap (λ (l : List PlainStep). plain_steps index repair ++ l) (last_none ((node == end) && allows_none form.class) place d inside)
+    ∙ append-nil (plain_steps index repair)
+
+module _ (avoided : List Bool) (end : ℕ) (next : ℕ → List PlainLink) where
+  -- those of one number of steps more
+  pub class_more : (class : Class) (most steps : ℕ) (before now more : List (List PlainStep))
+      → now ≡ added_first most before (shorter avoided end next class steps) → more ≡ added_first most now (rests avoided end next steps (form_of class false) 0)
+      → more ≡ added_first most before (shorter avoided end next class (steps + 1))
+  class_more class most steps before now more so added =
+      let turned : suc steps ≡ steps + 1 = omega arith in
+      added
+      ∙ ap (λ (l : List (List PlainStep)). added_first most l (rests avoided end next steps (form_of class false) 0)) so
+      ∙ added_joined most before (shorter avoided end next class steps) (rests avoided end next steps (form_of class false) 0)
+      ∙ ap (λ (n : ℕ). added_first most before (shorter avoided end next class n)) turned
+
+  as_many : (longest : ℕ) (layers : List Layer) (class : Class) → AreLayers (rests avoided end next) longest layers
+      → shorter avoided end next class (length layers) ≡ shorter avoided end next class (longest + 1)
+  as_many longest layers class are =
+      let gap : length layers + (longest + 1 - length layers) ≡ longest + 1 = omega (arith, are.few) in
+      sym (no_longer avoided end next class (length layers) (longest + 1 - length layers)
+      (λ s above below. are.others s above (omega (arith, below, are.few)) (form_of class false) 0))
+      ∙ ap (λ (n : ℕ). shorter avoided end next class n) gap
+
+  -- both classes
+  pub both_classes : (longest most : ℕ) (layers : List Layer) (before now more : List (List PlainStep)) → AreLayers (rests avoided end next) longest layers
+      → now ≡ added_first most before (shorter avoided end next Clean (length layers))
+      → more ≡ added_first most now (shorter avoided end next Avoided (length layers)) → more ≡ added_first most before (in_order avoided end next (longest + 1))
+  both_classes longest most layers before now more are one other =
+      other
+      ∙ ap (λ (l : List (List PlainStep)). added_first most l (shorter avoided end next Avoided (length layers))) one
+      ∙ added_joined most before (shorter avoided end next Clean (length layers)) (shorter avoided end next Avoided (length layers))
+      ∙ ap₂ (λ (xs ys : List (List PlainStep)). added_first most before (xs ++ ys)) (as_many longest layers Clean are) (as_many longest layers Avoided are)
