@@ -3,9 +3,9 @@ use Rattle.std.proofs.Common.{◌≡◌, ◌≢◌, ◌<◌, ◌≤◌, ◌==◌
 use Rattle.std.specs.Prelude.{nat_eq}
 use Rattle.std.specs.HashMap.{get}
 use Rattle.std.proofs.lemmas.Bool.{cases_eq, cases_lt, eq-eqb, ne_eqb}
-use Rattle.std.proofs.lemmas.List.{append-nil, get_or_append_left, get_or_push, length-append, length-map, length_push, map_more, take_all}
+use Rattle.std.proofs.lemmas.List.{append-nil, get_or_append_left, get_or_push, length-append, length-map, length_push, map_more, take_all, take_more}
 use Rattle.std.proofs.lemmas.List.Concat.{flat_map-append}
-use Rattle.std.proofs.lemmas.List.Elements.{Contains-append_left, Contains-push}
+use Rattle.std.proofs.lemmas.List.Elements.{Contains-append_left, Contains-push, Contains-push_cases}
 use Rattle.lrpar_parse_repair.specs.PlainSteps.{plain_step}
 use Rattle.lrpar_parse_repair.specs.Sequences.{PlainStep}
 use Rattle.lrpar_parse_cpctplus.specs.Counted.{AreCounts, AreLayers, AreNumbers, IsLayer, IsPartOfLayer, count_at, count_in, count_of, counted, number_of}
@@ -285,3 +285,14 @@ module _ {S : Type 0} (index : S → ℕ) (avoided : List Bool) (end : ℕ) (nex
       so
       ∙ ap (λ (l : List (Link S)). counted (flat_map (rests_by avoided end next s form) (map (plain_link index) l))) (take_all i links past)
       ∙ ap (λ (l : List PlainLink). counted (flat_map (rests_by avoided end next s form) l)) are
+
+-- the numbers of a list so far, and one more
+pub number_more : (xs : List ℕ) (i : ℕ) → i < length xs → (y : ℕ) → Contains (take (i + 1) xs) y → Contains (take i xs) y ⊎ (get_or xs i 0 ≡ y)
+number_more xs i below y m =
+    Contains-push_cases (take i xs) (get_or xs i 0) y (subst (λ (l : List ℕ). Contains l y) (take_more xs i 0 below) m)
+
+pub no_number : (y : ℕ) → ¬ (Contains [] y)
+no_number y m = is_in y [] m
+
+pub all_numbers_taken : (xs : List ℕ) (i : ℕ) → length xs ≤ i → (y : ℕ) → Contains xs y → Contains (take i xs) y
+all_numbers_taken xs i past y m = subst (λ (l : List ℕ). Contains l y) (sym (take_all i xs past)) m
