@@ -1,6 +1,6 @@
 -- The repair at a place of a list that is put together of parts; and lists of which the first ones are added one after the other.
 use Rattle.std.proofs.Common.{◌≡◌, ◌<◌, ◌≤◌, ◌+◌, ◌-◌, ◌^◌, ◌∙◌, ◌⊎◌, ◌==◌, ◌&&◌, inl, inr, ℕ, zero, suc, List, [], ◌∷◌, ◌++◌, Bool, true, false, IsTrue, Option, Some, None, IfSome, Vec, cond, flat_map, get_or, length, map, min, take, refl, sym, subst, ap, ap₂, arith, All, Contains}
-use Rattle.std.proofs.lemmas.List.{append-nil, append_assoc, get_or-map, length-append, length-map, map-append, take-map, take_all, take_more}
+use Rattle.std.proofs.lemmas.List.{append-nil, append_assoc, get_or-map, length-append, length-map, length-take-le, map-append, take-map, take_all, take_more}
 use Rattle.std.proofs.lemmas.List.Concat.{get_or-flat_map}
 use Rattle.std.proofs.lemmas.List.Elements.{Contains-append_left, Contains-push}
 use Rattle.std.specs.declared.alloc.Global.{Global}
@@ -23,7 +23,7 @@ use Rattle.lrpar_parse_cpctplus.specs.declared.listing.Choice.{Choice}
 use Rattle.lrpar_parse_cpctplus.proofs.CountLemmas.{count_is, flat_more, plain_more}
 use Rattle.lrpar_parse_cpctplus.proofs.DistanceLemmas.{compare}
 use Rattle.lrpar_parse_cpctplus.proofs.MemberLemmas.{contained, is_in}
-use Rattle.lrpar_parse_cpctplus.proofs.RestLemmas.{rests_by}
+use Rattle.lrpar_parse_cpctplus.proofs.RestLemmas.{at_end, rests_by}
 use Rattle.lrpar_parse_cpctplus.proofs.TakenLemmas.{added_joined}
 
 module _ {S : Type 0} (index : S → ℕ) (avoided : List Bool) (end : ℕ) (next : ℕ → List PlainLink) (s : ℕ) (form : Form) where
@@ -65,7 +65,7 @@ module _ {S : Type 0} (index : S → ℕ) (avoided : List Bool) (end : ℕ) (nex
 -- the first ones so far are all that are added
 pub all_added : {A : Type 0} (most place many : ℕ) (before xs : List A) → many ≡ counted xs → most ≤ 2 ^ 64 - 1 → place ≤ most - length before
     → (many ≤ place) ⊎ (most ≤ length before + place) → before ++ take place xs ≡ added_first most before xs
-all_added most place many before xs is fits within ended =
+all_added {A = A} most place many before xs is fits within ended =
     elim (compare place (most - length before)) as (λ _. before ++ take place xs ≡ before ++ take (most - length before) xs) [
       | inl less ↦
           let all : length xs ≤ place =
@@ -89,6 +89,14 @@ module _ {S : Type 0} (index : S → ℕ) where
       ∙ append_assoc before (take place xs) (plain_steps index repair.items ∷ [])
       ∙ ap (λ (y : List PlainStep). before ++ (take place xs ++ y ∷ [])) (sym is)
       ∙ ap (λ (l : List (List PlainStep)). before ++ l) (sym (take_more xs place [] below))
+
+  -- as many as before, and those at the places so far
+  pub sequences_long : (xs : List (List PlainStep)) (place : ℕ) (listed before : List (Vec (RepairStep S) Global)) → place < length xs
+      → plain_sequences index listed ≡ plain_sequences index before ++ take place xs → length listed ≡ length before + place
+  sequences_long xs place listed before below so =
+      let f : Vec (RepairStep S) Global → List PlainStep = λ steps. plain_steps index steps.items in
+      sym (length-map listed f) ∙ ap (λ (l : List (List PlainStep)). length l) so ∙ length-append (plain_sequences index before) (take place xs)
+      ∙ ap₂ (λ (m n : ℕ). m + n) (length-map before f) (length-take-le place xs (omega (arith, below)))
 
   -- one step more
   pub step_more : (repair more : List (RepairStep S)) (step : RepairStep S) (rest : List PlainStep) → more ≡ repair ++ step ∷ []
@@ -164,7 +172,7 @@ goes_on index begin all start left after form node place choice repair more one 
     ∙ ap (λ (l : List PlainStep). plain_steps index repair ++ l) (is.is d)
     ∙ step_more index repair more choice.step (get_or (begin after choice.form choice.node) choice.place d) pushed
 
-last_none : (b : Bool) (place : ℕ) (d : List PlainStep) → place < length (cond b ([] ∷ []) []) → get_or (cond b ([] ∷ []) []) place d ≡ []
+last_none : (b : Bool) (place : ℕ) (d : List PlainStep) → place < length (at_end b) → get_or (at_end b) place d ≡ []
 last_none true zero d within = refl
 last_none true (suc place) d within = absurd (omega (arith, within))
 last_none false place d within = absurd (omega (arith, within))
@@ -210,3 +218,11 @@ module _ (avoided : List Bool) (end : ℕ) (next : ℕ → List PlainLink) where
       ∙ ap (λ (l : List (List PlainStep)). added_first most l (shorter avoided end next Avoided (length layers))) one
       ∙ added_joined most before (shorter avoided end next Clean (length layers)) (shorter avoided end next Avoided (length layers))
       ∙ ap₂ (λ (xs ys : List (List PlainStep)). added_first most before (xs ++ ys)) (as_many longest layers Clean are) (as_many longest layers Avoided are)
+
+-- how many of a form there are, by a layer of a list
+pub many_at : (begin : ℕ → Form → ℕ → List (List PlainStep)) (layers : List Layer) (steps many node : ℕ) (layer : Layer) (form given : Form)
+    → ((s : ℕ) (d : Layer) → s < length layers → IsLayer (begin s) (get_or layers s d)) → steps < length layers → layer ≡ get_or layers steps layer
+    → form ≡ given → many ≡ count_in layer form node → many ≡ counted (begin steps given node)
+many_at begin layers steps many node layer form given each within read is count =
+    let here = subst (λ (k : Layer). IsLayer (begin steps) k) (sym read) (each steps layer within) in
+    count ∙ count_is (begin steps) layer here node form ∙ ap (λ (f : Form). counted (begin steps f node)) is

@@ -1,5 +1,5 @@
 -- How many rests of repairs begin at a node: as many as after its links together; and which nodes have any of a number of steps.
-use Rattle.std.proofs.Common.{◌≡◌, ◌≢◌, ◌<◌, ◌≤◌, ◌==◌, ◌+◌, ◌-◌, ◌^◌, ◌∙◌, ◌&&◌, ◌↔◌, ◌⊎◌, inl, inr, ℕ, zero, suc, List, [], ◌∷◌, ◌++◌, Bool, true, false, IsTrue, Option, Some, None, MatchOption, cond, flat_map, get_or, is_some, length, map, min, take, refl, sym, subst, ap, arith, Contains}
+use Rattle.std.proofs.Common.{◌≡◌, ◌≢◌, ◌<◌, ◌≤◌, ◌==◌, ◌+◌, ◌-◌, ◌^◌, ◌∙◌, ◌&&◌, ◌↔◌, ◌⊎◌, inl, inr, ℕ, zero, suc, List, [], ◌∷◌, ◌++◌, Bool, true, false, IsTrue, Option, Some, None, MatchOption, OnOk, Ok, Err, Result, cond, flat_map, get_or, is_some, length, map, min, take, refl, sym, subst, ap, arith, Contains}
 use Rattle.std.specs.Prelude.{nat_eq}
 use Rattle.std.specs.HashMap.{get}
 use Rattle.std.proofs.lemmas.Bool.{cases_eq, cases_lt, eq-eqb, ne_eqb}
@@ -22,7 +22,7 @@ use Rattle.lrpar_parse_cpctplus.specs.declared.layer.Layer.{Layer}
 use Rattle.lrpar_parse_cpctplus.specs.declared.layer.Numbers.{Numbers}
 use Rattle.lrpar_parse_cpctplus.specs.declared.link.Link.{Link}
 use Rattle.lrpar_parse_cpctplus.proofs.MemberLemmas.{contained, is_in}
-use Rattle.lrpar_parse_cpctplus.proofs.RestLemmas.{no_more_rests, no_rests_of_none, rests_by}
+use Rattle.lrpar_parse_cpctplus.proofs.RestLemmas.{at_end, no_more_rests, no_rests_of_none, rests_by}
 
 -- counts of lists that are joined
 pub counted_joined : {A : Type 0} (xs ys : List A) (m n : ℕ) → m ≡ counted xs → n ≡ counted ys → min (m + n) (2 ^ 64 - 1) ≡ counted (xs ++ ys)
@@ -90,10 +90,6 @@ same_either false x = refl
 
 abbrev pub one_rest : Numbers
 one_rest = record { clean = 1; avoided = 0; any = 1 }
-
--- the rest without steps, if it is allowed
-abbrev at_end : Bool → List (List PlainStep)
-at_end b = cond b ([] ∷ []) []
 
 ends_here : (class : Class) → number_of one_rest class ≡ counted (at_end (true && allows_none class))
 ends_here Clean = refl
@@ -296,3 +292,12 @@ no_number y m = is_in y [] m
 
 pub all_numbers_taken : (xs : List ℕ) (i : ℕ) → length xs ≤ i → (y : ℕ) → Contains xs y → Contains (take i xs) y
 all_numbers_taken xs i past y m = subst (λ (l : List ℕ). Contains l y) (sym (take_all i xs past)) m
+
+-- what holds if a step succeeds
+pub if_done : {T E : Type 0} (r : Result T E) (P Q : Type 0) → (P → Q) → OnOk r P → OnOk r Q
+if_done (Ok x) P Q both p = both p
+if_done (Err e) P Q both p = tt
+
+pub if_both_done : {T E : Type 0} (r : Result T E) (P Q R : Type 0) → (P → Q → R) → OnOk r P → OnOk r Q → OnOk r R
+if_both_done (Ok x) P Q R both p q = both p q
+if_both_done (Err e) P Q R both p q = tt

@@ -180,3 +180,6 @@ module _ {S : Type 0} (index : S → ℕ) where
             let to : link.to ≡ linked.len = ap (λ (l : PlainLink). l.to) of.1 in
             (omega (arith, within, from), omega (arith, to))
       ])
+
+pub not_both : (b : Bool) → b ≡ true → b ≡ false → ⊥
+not_both b yes_it no_it = let f : true ≡ false = sym yes_it ∙ no_it in cc

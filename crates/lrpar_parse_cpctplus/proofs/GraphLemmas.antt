@@ -32,6 +32,9 @@ use Rattle.lrpar_parse_cpctplus.proofs.WayLemmas.{edge_one_way, ways_are_chains}
 abbrev link_of : ℕ → PlainStep → ℕ → PlainLink
 link_of from step to = record { from = from; step = step; to = to }
 
+abbrev ending_by : ℕ → ℕ → PlainStep → PlainEnding
+ending_by reach from step = record { reach = reach; from = from; step = step }
+
 module _ {X : Type 0} (token : X → ℕ) (costs : List ℕ) (at : Asked X) (c : ℕ) where
   -- from v a parse goes on to this place
   abbrev pub GoesOnTo : Configured → ℕ → Type 0
@@ -228,10 +231,14 @@ module _ {X : Type 0} (token : X → ℕ) (costs : List ℕ) (at : Asked X) (c :
               let tail = one_at_place nodes other.from a.0 b.0 (subst (λ (k : ℕ). slice_get nodes k ≡ Some a.0) from a.2) b.2 in
               let edge = subst (λ (x : PlainStep). IsLink token costs at b.0 x a.1) step (subst (λ (w : Configured). IsLink token costs at w one.step a.1) tail a.4) in
               let head = edge_one_way token at b.0 a.1 b.1 other.step edge.edge b.4.edge in
-              let to = one_place nodes one.to other.to b.1 graph.nearer.once (subst (λ (w : Configured). slice_get nodes one.to ≡ Some w) head a.3) b.3 in cc
+              let to = one_place nodes one.to other.to b.1 graph.nearer.once (subst (λ (w : Configured). slice_get nodes one.to ≡ Some w) head a.3) b.3 in
+              ap (λ (n : ℕ). link_of n one.step one.to) from ∙ ap (λ (x : PlainStep). link_of other.from x one.to) step
+              ∙ ap (λ (n : ℕ). link_of other.from other.step n) to
 
           same_ending : (one other : PlainEnding) → one.reach ≡ other.reach → one.from ≡ other.from → one.step ≡ other.step → one ≡ other
-          same_ending one other reach from step = cc
+          same_ending one other reach from step =
+              ap (λ (n : ℕ). ending_by n one.from one.step) reach ∙ ap (λ (n : ℕ). ending_by other.reach n one.step) from
+              ∙ ap (λ (x : PlainStep). ending_by other.reach other.from x) step
 
           link_no_ending : (link : PlainLink) (ending : PlainEnding) → IsLinkAmong token costs at c nodes link → IsEndingAmong token costs at c nodes ending
               → ending.from ≡ link.from → ending.step ≡ link.step → ⊥

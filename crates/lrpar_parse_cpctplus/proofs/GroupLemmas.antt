@@ -222,7 +222,7 @@ pub record AreListed (avoided : List Bool) (end n : ℕ) (links : List PlainLink
 module _ (avoided : List Bool) (end n : ℕ) (links : List PlainLink) (endings : List PlainEnding) (most : ℕ) where
   -- at the start none is listed
   pub none_listed : (low : ℕ) → ((ending : PlainEnding) → Contains endings ending → ending.reach < low) → AreListed avoided end n links endings most low []
-  none_listed low under = record { high = low; repairs = []; under = under; groups = no_place; are = sym (added_from_none most []) ∙ added_none most [] }
+  none_listed low under = record { high = low; repairs = []; under = under; groups = no_place; are = sym (added_none most []) ∙ added_from_none most [] }
 
   -- one group more, and then down to the next place that has an ending
   pub more_listed : (far low : ℕ) (listed more group : List (List PlainStep)) → low ≤ far

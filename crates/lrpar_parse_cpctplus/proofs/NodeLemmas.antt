@@ -92,7 +92,7 @@ module _ {A : Type 0} where
       ap (λ (b : Bool). cond b (x ∷ filter p xs) (filter p xs)) (none x (inl refl)) ∙ none_kept p xs (λ y m. none y (inr m))
 
 module _ {S : Type 0} (end : ℕ) (links : List (Link S)) (i : ℕ) (link : Link S) (below : i < length links) (read : link ≡ get_or links i link) (within : AreWithin end links) where
-  link_within : (link.from ≤ end) × (link.to ≤ end)
+  pub link_within : (link.from ≤ end) × (link.to ≤ end)
   link_within = subst (λ (l : Link S). (l.from ≤ end) × (l.to ≤ end)) (sym read) (within i link below)
 
   -- one link more

@@ -82,44 +82,47 @@ module _ (avoided : List Bool) where
       )
 
 -- at the end there is the rest without steps, if it is allowed
-only_none : (b : Bool) (steps : List PlainStep) → IsIn steps (cond b ([] ∷ []) []) → IsTrue b × (steps ≡ [])
+abbrev pub at_end : Bool → List (List PlainStep)
+at_end b = cond b ([] ∷ []) []
+
+only_none : (b : Bool) (steps : List PlainStep) → IsIn steps (at_end b) → IsTrue b × (steps ≡ [])
 only_none true steps m = (refl, elim m as (λ _. steps ≡ []) [ inl e ↦ e | inr none ↦ absurd none ])
 only_none false steps m = absurd m
 
-none_there : (b : Bool) → IsTrue b → IsIn [] (cond b ([] ∷ []) [])
+none_there : (b : Bool) → IsTrue b → IsIn [] (at_end b)
 none_there true h = inl refl
 none_there false h = absurd (not_true h)
 
-one_rises : (b : Bool) → AllPairs IsEarlier (cond b ([] ∷ []) [])
+one_rises : (b : Bool) → AllPairs IsEarlier (at_end b)
 one_rises true = AllPairs-cons IsEarlier [] [] (All-nil (IsEarlier [])) (pairs_none IsEarlier)
 one_rises false = pairs_none IsEarlier
 
-module _ (avoided : List Bool) (end : ℕ) (next : ℕ → List PlainLink) where
-  -- the steps lead from node u to the end
-  abbrev pub IsPath : ℕ → List PlainStep → Type 0
-  IsPath u [] = u ≡ end
-  IsPath u (x ∷ steps) = (link : PlainLink) × IsIn link (next u) × (link.step ≡ x) × IsPath link.to steps
+-- the steps lead from node u to the end
+abbrev pub IsPath : ℕ → (ℕ → List PlainLink) → ℕ → List PlainStep → Type 0
+IsPath end next u [] = u ≡ end
+IsPath end next u (x ∷ steps) = (link : PlainLink) × IsIn link (next u) × (link.step ≡ x) × IsPath end next link.to steps
 
+module _ (avoided : List Bool) (end : ℕ) (next : ℕ → List PlainLink) where
   -- the rests after a link
   abbrev pub rests_by : ℕ → Form → PlainLink → List (List PlainStep)
   rests_by s form link = map (λ (steps : List PlainStep). link.step ∷ steps) (rests avoided end next s (form_after avoided form link.step) link.to)
 
   pub rests_are_paths : (s : ℕ) (form : Form) (u : ℕ) (steps : List PlainStep) → IsIn steps (rests avoided end next s form u)
-      → (length steps ≡ s) × IsPath u steps × IsTrue (are_allowed avoided form steps)
+      → (length steps ≡ s) × IsPath end next u steps × IsTrue (are_allowed avoided form steps)
   rests_are_paths zero form u steps m =
       let only = only_none ((u == end) && allows_none form.class) steps m in
       let both = both_hold (u == end) (allows_none form.class) only.0 in
-      subst (λ (l : List PlainStep). (length l ≡ 0) × IsPath u l × IsTrue (are_allowed avoided form l)) (sym only.1) (refl, eqb-true u end both.0, both.1)
+      subst (λ (l : List PlainStep). (length l ≡ 0) × IsPath end next u l × IsTrue (are_allowed avoided form l)) (sym only.1) (refl, eqb-true u end both.0, both.1)
   rests_are_paths (suc s) form u steps m =
       let from = in_part (rests_by s form) (next u) steps m in
       let link = from.0 in
       let after = form_after avoided form link.step in
       let of = in_image (λ (rest : List PlainStep). link.step ∷ rest) (rests avoided end next s after link.to) steps from.2 in
       let more = rests_are_paths s after link.to of.0 of.2 in
-      subst (λ (l : List PlainStep). (length l ≡ suc s) × IsPath u l × IsTrue (are_allowed avoided form l)) (sym of.1)
+      subst (λ (l : List PlainStep). (length l ≡ suc s) × IsPath end next u l × IsTrue (are_allowed avoided form l)) (sym of.1)
       (ap suc more.0, (link, from.1, refl, more.1), more.2)
 
-  pub paths_are_rests : (steps : List PlainStep) (form : Form) (u : ℕ) → IsPath u steps → IsTrue (are_allowed avoided form steps)
+  pub paths_are_rests : (steps : List PlainStep) (form : Form) (u : ℕ) → IsPath end next u steps → IsTrue (are_allowed avoided form steps)
       → IsIn steps (rests avoided end next (length steps) form u)
   paths_are_rests [] form u path allowed =
       none_there ((u == end) && allows_none form.class) (holds_both (u == end) (allows_none form.class) (eq-eqb u end path) allowed)
@@ -172,11 +175,11 @@ module _ (avoided : List Bool) (end : ℕ) (next : ℕ → List PlainLink) where
 
   -- those with fewer than n steps
   pub in_shorter : (class : Class) (n : ℕ) (steps : List PlainStep) → IsIn steps (shorter avoided end next class n)
-      → (length steps < n) × IsPath 0 steps × IsTrue (are_allowed avoided (form_of class false) steps)
+      → (length steps < n) × IsPath end next 0 steps × IsTrue (are_allowed avoided (form_of class false) steps)
   in_shorter class zero steps m = absurd m
   in_shorter class (suc n) steps m =
       elim (in_either steps (shorter avoided end next class n) (rests avoided end next n (form_of class false) 0) m)
-      as (λ _. (length steps < suc n) × IsPath 0 steps × IsTrue (are_allowed avoided (form_of class false) steps)) [
+      as (λ _. (length steps < suc n) × IsPath end next 0 steps × IsTrue (are_allowed avoided (form_of class false) steps)) [
         | inl before ↦ let more = in_shorter class n steps before in (omega (arith, more.0), more.1, more.2)
         | inr last ↦ let path = rests_are_paths n (form_of class false) 0 steps last in (omega (arith, path.0), path.1, path.2)
       ]
@@ -195,15 +198,15 @@ module _ (avoided : List Bool) (end : ℕ) (next : ℕ → List PlainLink) where
         ]
       ]
 
-  pub in_all : (n : ℕ) (steps : List PlainStep) → IsIn steps (in_order avoided end next n) → (length steps < n) × IsPath 0 steps × FitAfter false steps
+  pub in_all : (n : ℕ) (steps : List PlainStep) → IsIn steps (in_order avoided end next n) → (length steps < n) × IsPath end next 0 steps × FitAfter false steps
   in_all n steps m =
       elim (in_either steps (shorter avoided end next Clean n) (shorter avoided end next Avoided n) m)
-      as (λ _. (length steps < n) × IsPath 0 steps × FitAfter false steps) [
+      as (λ _. (length steps < n) × IsPath end next 0 steps × FitAfter false steps) [
         | inl one ↦ let h = in_shorter Clean n steps one in (h.0, h.1, ((allowed_by avoided Clean false steps).0 h.2).1)
         | inr other ↦ let h = in_shorter Avoided n steps other in (h.0, h.1, ((allowed_by avoided Avoided false steps).0 h.2).1)
       ]
 
-  all_by : (n : ℕ) (steps : List PlainStep) (b : Bool) → has_avoided avoided steps ≡ b → length steps < n → IsPath 0 steps → FitAfter false steps
+  all_by : (n : ℕ) (steps : List PlainStep) (b : Bool) → has_avoided avoided steps ≡ b → length steps < n → IsPath end next 0 steps → FitAfter false steps
       → IsIn steps (in_order avoided end next n)
   all_by n steps true e below path fits =
       let allowed = (allowed_by avoided Avoided false steps).1 (e, fits) in
@@ -214,11 +217,11 @@ module _ (avoided : List Bool) (end : ℕ) (next : ℕ → List PlainLink) where
       in_left steps (shorter avoided end next Clean n) (shorter avoided end next Avoided n)
       (shorter_in Clean n steps below (paths_are_rests steps (form_of Clean false) 0 path allowed))
 
-  pub all_in : (n : ℕ) (steps : List PlainStep) → length steps < n → IsPath 0 steps → FitAfter false steps → IsIn steps (in_order avoided end next n)
+  pub all_in : (n : ℕ) (steps : List PlainStep) → length steps < n → IsPath end next 0 steps → FitAfter false steps → IsIn steps (in_order avoided end next n)
   all_in n steps below path fits = all_by n steps (has_avoided avoided steps) refl below path fits
 
   clean_is : (b : Bool) → IsTrue (not b) → b ≡ false
-  clean_is true h = h
+  clean_is true h = let e : false ≡ true = h in sym e
   clean_is false h = refl
 
   has_none_avoided : (n : ℕ) (steps : List PlainStep) → IsIn steps (shorter avoided end next Clean n) → has_avoided avoided steps ≡ false

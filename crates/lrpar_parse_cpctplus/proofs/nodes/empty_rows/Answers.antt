@@ -19,6 +19,6 @@ loop-preserved g c =
 pub returns : goal.returns
 returns g c =
     let all : c.loop.counter ≡ c.args.end = omega arith in
-    rw c.in_ok-push.ensures.items
-    (rows_empty c.args.end _ (omega (arith, length_push c.loop.rows.items c.new.result, c.loop.invariant.len, all))
-    (All-push (λ (row : Vec g.row.T.Denot Global). row.items ≡ []) c.loop.rows.items c.new.result c.loop.invariant.empty c.new.ensures.items))
+    rw c.in_ok-push-2.ensures.items
+    (rows_empty c.args.end _ (omega (arith, length_push c.loop.rows.items c.new-2.result, c.loop.invariant.len, all))
+    (All-push (λ (row : Vec g.row.T.Denot Global). row.items ≡ []) c.loop.rows.items c.new-2.result c.loop.invariant.empty c.new-2.ensures.items))

@@ -1,4 +1,4 @@
-use Rattle.std.proofs.Common.{◌⊎◌, inl, inr, IsTrue, is_some, subst, ℕ}
+use Rattle.std.proofs.Common.{◌⊎◌, inl, inr, IsTrue, is_some, subst, sym, List, ℕ}
 use Rattle.std.specs.Prelude.{nat_eq}
 use Rattle.std.specs.HashMap.{get}
 use Rattle.std.specs.List.{Contains}
@@ -28,6 +28,6 @@ returns g c = record {
   sources = λ u m.
       c.loop-source.invariant.there u
       (all_numbers_taken c.nodes_into-sources.result.now c.loop-source.source-index c.loop-source-test.false u
-      (subst (λ l. Contains l u) (sym c.nodes_into-sources.ensures) m));
+      (subst (λ (l : List ℕ). Contains l u) (sym c.nodes_into-sources.ensures) m));
   stay = λ u h. c.loop-source.invariant.stay u h;
 }

@@ -1,4 +1,4 @@
-use Rattle.std.proofs.Common.{◌⊎◌, inl, inr, IsTrue, is_some, subst, suc, ℕ}
+use Rattle.std.proofs.Common.{◌⊎◌, ◌+◌, inl, inr, IsTrue, List, is_some, subst, suc, sym, take, ℕ}
 use Rattle.std.specs.Prelude.{nat_eq}
 use Rattle.std.specs.HashMap.{get}
 use Rattle.std.specs.List.{Contains}
@@ -16,13 +16,17 @@ pub loop-node-preserved : goal.loop-node-preserved
 loop-node-preserved g c =
     let index = g.StorageT.StorageIndex.index in
     let l = c.loop-node in
+    let items = c.deref-node-items.result.now in
+    let same = c.deref-node-items.ensures.value in
     record {
       part = λ s is. c.in_ok-add_sources.ensures.part s is (l.invariant.part s is);
       sources = λ node u m n.
-          elim (number_more c.args.layer.now.nodes.items l.node-index c.loop-node-test.true node m)
+          elim (number_more items l.node-index c.loop-node-test.true node (subst (λ (xs : List ℕ). Contains (take (l.node-index + 1) xs) node) (sym same) m))
           as (λ _. IsTrue (is_some (get nat_eq c.add_sources.new.next.counts u))) [
-            | inl before ↦ c.in_ok-add_sources.ensures.stay u (l.invariant.sources node u before n)
-            | inr same ↦ c.in_ok-add_sources.ensures.sources u (subst (λ (k : ℕ). Contains (sources_of index c.args.self.now k) u) (sym same) n)
+            | inl before ↦
+                c.in_ok-add_sources.ensures.stay u
+                (l.invariant.sources node u (subst (λ (xs : List ℕ). Contains (take l.node-index xs) node) same before) n)
+            | inr here ↦ c.in_ok-add_sources.ensures.sources u (subst (λ (k : ℕ). Contains (sources_of index c.args.self.now k) u) (sym here) n)
           ];
     }
 
@@ -31,5 +35,6 @@ returns g c s is =
     let index = g.StorageT.StorageIndex.index in
     let nodes = c.args.self.now in
     let l = c.loop-node in
+    let past = rw c.deref-node-items.ensures.value at c.loop-node-test.false in
     is_next_layer nodes.avoided.now nodes.end (links_of index nodes) s c.args.layer.now l.next is (l.invariant.part s is) (λ u link m there.
-    l.invariant.sources link.to u (all_numbers_taken c.args.layer.now.nodes.items l.node-index c.loop-node-test.false link.to there) (c.requires u link m))
+    l.invariant.sources link.to u (all_numbers_taken c.args.layer.now.nodes.items l.node-index past link.to there) (c.requires.back u link m))

@@ -14,7 +14,7 @@ invariant-steps g l =
       within : l.place < length (rests l.left l.form l.node);
       fits : l.place < 2 ^ 64 - 1;
       fewer : l.left ≤ l.steps;
-      is : (d : List PlainStep) → get_or (rests l.steps (form_of l.class false) 0) l.fn.place d
+      is : (d : List PlainStep) → get_or (rests l.steps (form_of l.fn.class false) 0) l.fn.place d
           ≡ plain_steps index l.repair.items ++ get_or (rests l.left l.form l.node) l.place d;
     }
 
