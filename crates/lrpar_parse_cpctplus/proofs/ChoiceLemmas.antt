@@ -219,10 +219,16 @@ module _ (avoided : List Bool) (end : ℕ) (next : ℕ → List PlainLink) where
       ∙ added_joined most before (shorter avoided end next Clean (length layers)) (shorter avoided end next Avoided (length layers))
       ∙ ap₂ (λ (xs ys : List (List PlainStep)). added_first most before (xs ++ ys)) (as_many longest layers Clean are) (as_many longest layers Avoided are)
 
--- how many of a form there are, by a layer of a list
+-- a layer of a list
+pub layer_at : (begin : ℕ → Form → ℕ → List (List PlainStep)) (layers : List Layer) (steps : ℕ) (layer : Layer)
+    → ((s : ℕ) (d : Layer) → s < length layers → IsLayer (begin s) (get_or layers s d)) → steps < length layers → layer ≡ get_or layers steps layer
+    → IsLayer (begin steps) layer
+layer_at begin layers steps layer each within read = subst (λ (k : Layer). IsLayer (begin steps) k) (sym read) (each steps layer within)
+
+-- how many of a form there are there
 pub many_at : (begin : ℕ → Form → ℕ → List (List PlainStep)) (layers : List Layer) (steps many node : ℕ) (layer : Layer) (form given : Form)
     → ((s : ℕ) (d : Layer) → s < length layers → IsLayer (begin s) (get_or layers s d)) → steps < length layers → layer ≡ get_or layers steps layer
     → form ≡ given → many ≡ count_in layer form node → many ≡ counted (begin steps given node)
 many_at begin layers steps many node layer form given each within read is count =
-    let here = subst (λ (k : Layer). IsLayer (begin steps) k) (sym read) (each steps layer within) in
+    let here = layer_at begin layers steps layer each within read in
     count ∙ count_is (begin steps) layer here node form ∙ ap (λ (f : Form). counted (begin steps f node)) is

@@ -21,7 +21,7 @@ use Rattle.lrpar_parse_cpctplus.specs.Order.{IsStepBefore}
 use Rattle.lrpar_parse_cpctplus.specs.Rests.{AreByNodes, DifferInSteps}
 use Rattle.lrpar_parse_cpctplus.specs.Tallied.{IsIn}
 use Rattle.lrpar_parse_cpctplus.specs.declared.link.Link.{Link}
-use Rattle.lrpar_parse_cpctplus.proofs.FirstLemmas.{all_members, image_in, in_image, pairs_between}
+use Rattle.lrpar_parse_cpctplus.proofs.FirstLemmas.{all_members, image_in, in_image, members_all, pairs_between}
 use Rattle.lrpar_parse_cpctplus.proofs.FoundLemmas.{less_by_order}
 use Rattle.lrpar_parse_cpctplus.proofs.MemberLemmas.{contained, is_in}
 use Rattle.lrpar_parse_cpctplus.proofs.OrderLemmas.{pairs_map, pairs_mapped, stable_pairs}
@@ -172,6 +172,9 @@ module _ {S : Type 0} (index : S → ℕ) where
     module _ (end : ℕ) (within : AreWithin end links) where
       link_in : (link : Link S) → IsIn link sorted → (link.from ≤ end) × (link.to ≤ end)
       link_in link m = all_members (λ (l : Link S). (l.from ≤ end) × (l.to ≤ end)) links within link (sorted_in link m)
+
+      pub sorted_within : AreWithin end sorted
+      sorted_within = members_all (λ (l : Link S). (l.from ≤ end) × (l.to ≤ end)) sorted link_in
 
       no_from : (u : ℕ) → end < u → links_by_from sorted u ≡ []
       no_from u past =

@@ -11,4 +11,4 @@ returns g c =
     IfOk-weaker c.ranked_repairs.result _ _
     (λ repairs ranked.
     are_first_repairs wanted.avoided.now wanted.most wanted.lists_all (plain_graph index c.args.linked.now) (plain_sequences index repairs.items) ranked)
-    c.ranked_repairs.ensures
+    c.ranked_repairs.ensures.ranked

@@ -1,4 +1,5 @@
 use Rattle.std.proofs.Common.{◌≡◌, ◌<◌, ◌+◌, ◌∙◌, ◌⊎◌, [], inl, inr, ap, arith, length, subst, suc, sym, ℕ}
+use Rattle.std.proofs.lemmas.Bool.{eqb-true}
 use Rattle.std.proofs.lemmas.List.{length_push, nil_from_length}
 use Rattle.lrpar_parse_cpctplus.specs.Counted.{IsLayer}
 use Rattle.lrpar_parse_cpctplus.specs.NodesView.{links_of, rests_of}
@@ -29,8 +30,8 @@ returns g c =
     let l = c.steps in
     let ended : (c.args.longest < length l.layers.items) ⊎ (l.layer.nodes.items ≡ []) =
     elim c.steps-test.branch as (λ _. (c.args.longest < length l.layers.items) ⊎ (l.layer.nodes.items ≡ [])) [
-      | then-steps-test+else-not-is_empty w ↦ inr (nil_from_length l.layer.nodes.items ?)
-      | else-steps-test w ↦ inl ?
+      | then-steps-test+else-not-is_empty w ↦ inr (nil_from_length l.layer.nodes.items (eqb-true (length l.layer.nodes.items) 0 (sym w.if-not-is_empty.ensures)))
+      | else-steps-test w ↦ inl (omega (arith, w.steps-test.false, c.len.ensures))
     ] in
     are_layers nodes.avoided.now nodes.end (links_of g.StorageT.StorageIndex.index nodes) c.args.longest l.layers.items l.layer l.invariant.each l.invariant.few
     l.invariant.next ended

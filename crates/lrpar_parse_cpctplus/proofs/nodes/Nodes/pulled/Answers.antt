@@ -7,8 +7,8 @@ loop-link-preserved g c s is =
     let index = g.StorageT.StorageIndex.index in
     let nodes = c.args.self.now in
     pulled_by index nodes.avoided.now nodes.end (links_of index nodes) s c.args.form c.args.layer.now is c.links_from-links.result.now c.loop-link.link-index
-    c.link-item.result c.after-after.result c.loop-link.sum c.count.result c.saturating_add.result c.loop-link-test.true c.link-item.is (c.loop-link.invariant s is)
-    c.after-after.ensures c.count.ensures c.saturating_add.ensures
+    c.link-item.result c.after-after.result c.loop-link.sum c.count.result c.saturating_add-sum.result c.loop-link-test.true c.link-item.is (c.loop-link.invariant s is)
+    c.after-after.ensures c.count.ensures c.saturating_add-sum.ensures
 
 pub returns : goal.returns
 returns g c s is =

@@ -1,5 +1,4 @@
-use Rattle.std.proofs.Common.{◌≡◌, ◌+◌, ◌∙◌, [], ap, arith, false, length}
-use Rattle.std.proofs.lemmas.List.{length-append, length-map, length-take-le}
+use Rattle.std.proofs.Common.{◌<◌, [], arith, false, length}
 use Rattle.lrpar_parse_repair.specs.PlainSteps.{plain_sequences}
 use Rattle.lrpar_parse_cpctplus.specs.Forming.{form_of}
 use Rattle.lrpar_parse_cpctplus.specs.NodesView.{rests_of}
@@ -14,7 +13,7 @@ places-preserved g c =
     let l = c.places in
     let many = many_at begin c.args.layers.now c.args.steps c.count-many.result 0 c.index-layers-steps.result c.new.result (form_of c.args.class false) c.requires.layers
     c.requires.steps c.index-layers-steps.is c.new.ensures c.count-many.ensures in
-    let below = omega (arith, c.places-test.true, many) in
+    let below : l.place < length xs = omega (arith, c.places-test.true, many) in
     let long = sequences_long index xs l.place l.listed.items c.args.listed.now.items below l.invariant.listed in
     record {
       listed = sequence_more index xs l.place l.listed.items c.push.new.self.items c.in_ok-repair.repair (plain_sequences index c.args.listed.now.items) below
