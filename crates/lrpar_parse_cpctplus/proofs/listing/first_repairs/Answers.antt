@@ -8,7 +8,9 @@ pub returns : goal.returns
 returns g c =
     let index = g.StorageT.StorageIndex.index in
     let wanted = c.args.wanted.now in
-    IfOk-weaker c.ranked_repairs.result _ _
-    (λ repairs ranked.
-    are_first_repairs wanted.avoided.now wanted.most wanted.lists_all (plain_graph index c.args.linked.now) (plain_sequences index repairs.items) ranked)
-    c.ranked_repairs.ensures.ranked
+    record {
+      first = IfOk-weaker c.ranked_repairs.result _ _
+          (λ repairs ranked.
+          are_first_repairs wanted.avoided.now wanted.most wanted.lists_all (plain_graph index c.args.linked.now) (plain_sequences index repairs.items) ranked)
+          c.ranked_repairs.ensures.ranked;
+    }
