@@ -1,8 +1,7 @@
 -- The repair at a place of a list that is put together of parts; and lists of which the first ones are added one after the other.
-use Rattle.std.proofs.Common.{◌≡◌, ◌<◌, ◌≤◌, ◌+◌, ◌-◌, ◌^◌, ◌∙◌, ◌⊎◌, ◌==◌, ◌&&◌, inl, inr, ℕ, zero, suc, List, [], ◌∷◌, ◌++◌, Bool, true, false, IsTrue, Option, Some, None, IfSome, Vec, cond, flat_map, get_or, length, map, min, take, refl, sym, subst, ap, ap₂, arith, All, Contains}
+use Rattle.std.proofs.Common.{◌≡◌, ◌<◌, ◌≤◌, ◌+◌, ◌-◌, ◌^◌, ◌∙◌, ◌⊎◌, ◌==◌, ◌&&◌, inl, inr, ℕ, zero, suc, List, [], ◌∷◌, ◌++◌, Bool, true, false, Vec, flat_map, get_or, length, map, take, refl, sym, subst, ap, ap₂, arith}
 use Rattle.std.proofs.lemmas.List.{append-nil, append_assoc, get_or-map, length-append, length-map, length-take-le, map-append, take-map, take_all, take_more}
 use Rattle.std.proofs.lemmas.List.Concat.{get_or-flat_map}
-use Rattle.std.proofs.lemmas.List.Elements.{Contains-append_left, Contains-push}
 use Rattle.std.specs.declared.alloc.Global.{Global}
 use Rattle.lrpar_parse_repair.specs.PlainSteps.{plain_sequences, plain_step, plain_steps}
 use Rattle.lrpar_parse_repair.specs.Sequences.{PlainStep}
@@ -13,7 +12,6 @@ use Rattle.lrpar_parse_cpctplus.specs.Forming.{allows_none, form_after, form_of}
 use Rattle.lrpar_parse_cpctplus.specs.Graph.{PlainLink}
 use Rattle.lrpar_parse_cpctplus.specs.LinkView.{plain_link}
 use Rattle.lrpar_parse_cpctplus.specs.Rests.{added_first, in_order, rests, shorter}
-use Rattle.lrpar_parse_cpctplus.specs.Tallied.{IsIn}
 use Rattle.lrpar_parse_cpctplus.specs.declared.form.Class.{Class}
 use Rattle.lrpar_parse_cpctplus.specs.declared.form.Form.{Form}
 use Rattle.lrpar_parse_cpctplus.specs.declared.form.Class.TheVariants.{Clean, Avoided}
@@ -22,7 +20,6 @@ use Rattle.lrpar_parse_cpctplus.specs.declared.link.Link.{Link}
 use Rattle.lrpar_parse_cpctplus.specs.declared.listing.Choice.{Choice}
 use Rattle.lrpar_parse_cpctplus.proofs.CountLemmas.{count_is, flat_more, plain_more}
 use Rattle.lrpar_parse_cpctplus.proofs.DistanceLemmas.{compare}
-use Rattle.lrpar_parse_cpctplus.proofs.MemberLemmas.{contained, is_in}
 use Rattle.lrpar_parse_cpctplus.proofs.RestLemmas.{at_end, rests_by}
 use Rattle.lrpar_parse_cpctplus.proofs.TakenLemmas.{added_joined}
 

@@ -1,13 +1,13 @@
 -- The graph of a search by numbers: its paths from the error point to the end, if the end is that of the last steps after which a parse
 -- goes on to some place, are the repairs of least cost after which it does.
-use Rattle.std.proofs.Common.{◌≡◌, ◌≢◌, ◌<◌, ◌==◌, ◌+◌, ◌∙◌, ◌↔◌, ◌⊎◌, inl, inr, ℕ, List, [], ◌∷◌, Bool, false, filter, length, map, Option, Some, refl, sym, subst, ap, arith, AllPairs, Contains}
+use Rattle.std.proofs.Common.{◌≡◌, ◌≢◌, ◌==◌, ◌+◌, ◌∙◌, ◌⊎◌, inl, inr, ℕ, List, [], ◌∷◌, false, filter, length, map, Some, refl, sym, subst, ap, arith, AllPairs, Contains}
 use Rattle.std.specs.Prelude.{slice_get}
 use Rattle.std.proofs.lemmas.Bool.{eq-eqb, eqb-true}
 use Rattle.std.proofs.lemmas.List.Kept.{AllPairs-filter}
 use Rattle.std.proofs.lemmas.Option.{slice_get_within}
 use Rattle.lrpar_parse_repair.specs.Asked.{Asked, IsStop}
 use Rattle.lrpar_parse_repair.specs.Sequences.{PlainStep}
-use Rattle.lrpar_parse_cpctplus.specs.Chains.{IsChain, IsChainToEnd, IsEnd, IsLastStep, IsLink}
+use Rattle.lrpar_parse_cpctplus.specs.Chains.{IsChain, IsEnd, IsLastStep, IsLink}
 use Rattle.lrpar_parse_cpctplus.specs.Cheapest.{IsLeastCost, RepairsAt}
 use Rattle.lrpar_parse_cpctplus.specs.Configurations.{Configured, IsNearer, LeadTo, root_of}
 use Rattle.lrpar_parse_cpctplus.specs.Costs.{AreCosts}
@@ -16,7 +16,7 @@ use Rattle.lrpar_parse_cpctplus.specs.Reaching.{GoesAsFar, Reaches}
 use Rattle.lrpar_parse_cpctplus.specs.Rests.{AreByNodes, DifferInSteps, ending_link, with_endings}
 use Rattle.lrpar_parse_cpctplus.specs.Tallied.{IsIn}
 use Rattle.lrpar_parse_cpctplus.specs.Ways.{FitAfter, IsWay}
-use Rattle.lrpar_parse_cpctplus.proofs.ChainLemmas.{CostAtLeast, chain_runs, least_cost, repairs_are_chains}
+use Rattle.lrpar_parse_cpctplus.proofs.ChainLemmas.{CostAtLeast, chain_runs, repairs_are_chains}
 use Rattle.lrpar_parse_cpctplus.proofs.DistanceLemmas.{nearer_distance}
 use Rattle.lrpar_parse_cpctplus.proofs.EndLemmas.{end_has_repair, goes_as_far_from}
 use Rattle.lrpar_parse_cpctplus.proofs.FirstLemmas.{image_in, in_either, in_image, in_left, in_right, pairs_between, pairs_joined}

@@ -1,6 +1,6 @@
 -- The repairs of a graph by groups, those first after which a parse goes on further: the first ones of all groups, or of the first group
 -- alone, are those that may be listed.
-use Rattle.std.proofs.Common.{◌≡◌, ◌<◌, ◌≤◌, ◌+◌, ◌-◌, ◌∙◌, ◌⊎◌, inl, inr, ℕ, zero, suc, List, [], ◌∷◌, ◌++◌, Bool, true, false, IsTrue, length, take, refl, sym, subst, ap, arith, AllPairs, Contains}
+use Rattle.std.proofs.Common.{◌≡◌, ◌<◌, ◌≤◌, ◌+◌, ◌-◌, ◌∙◌, ◌⊎◌, inl, inr, ℕ, zero, suc, List, [], ◌++◌, Bool, true, false, IsTrue, length, take, refl, sym, subst, ap, arith, AllPairs, Contains}
 use Rattle.std.proofs.lemmas.List.{length-take}
 use Rattle.lrpar_parse_repair.specs.Asked.{Asked}
 use Rattle.lrpar_parse_repair.specs.Sequences.{PlainStep}

@@ -1,13 +1,12 @@
 -- Lists that are put together from others, their members and their order; and the first ones of a list that has all things in order.
-use Rattle.std.proofs.Common.{◌≡◌, ◌<◌, ◌≤◌, ◌-◌, ◌+◌, ◌∙◌, ◌⊎◌, ◌&&◌, inl, inr, ℕ, zero, suc, List, [], ◌∷◌, ◌++◌, Bool, true, false, IsTrue, cond, filter, flat_map, length, take, Option, Some, None, refl, sym, subst, ap, arith, All, AllPairs, Contains}
+use Rattle.std.proofs.Common.{◌≡◌, ◌≤◌, ◌-◌, ◌+◌, ◌∙◌, ◌⊎◌, ◌&&◌, inl, inr, ℕ, zero, suc, List, [], ◌∷◌, ◌++◌, Bool, true, false, IsTrue, cond, filter, flat_map, length, take, Some, None, refl, sym, subst, ap, arith, All, AllPairs, Contains}
 use Rattle.std.specs.Prelude.{slice_get}
-use Rattle.std.proofs.lemmas.List.{append-nil, append_assoc, length-append, length-take, take_all}
+use Rattle.std.proofs.lemmas.List.{append-nil, append_assoc, length-append, length-take}
 use Rattle.std.proofs.lemmas.List.Elements.{All-take}
 use Rattle.std.proofs.lemmas.List.Kept.{AllPairs-cons}
 use Rattle.lrpar_parse_cpctplus.specs.Listing.{AreFirst}
 use Rattle.lrpar_parse_cpctplus.specs.Rests.{added_first}
 use Rattle.lrpar_parse_cpctplus.specs.Tallied.{IsIn}
-use Rattle.lrpar_parse_cpctplus.proofs.DistanceLemmas.{compare}
 use Rattle.lrpar_parse_cpctplus.proofs.FirstLemmas.{all_members, in_either, in_left, in_right, members_all, pairs_joined}
 use Rattle.lrpar_parse_cpctplus.proofs.MemberLemmas.{contained, is_in}
 use Rattle.lrpar_parse_cpctplus.proofs.OrderLemmas.{pairs_head, pairs_none, pairs_tail}

@@ -1,5 +1,5 @@
 -- The repair at a place of a list, step by step; and the furthest of some places.
-use Rattle.std.specs.Prelude.{◌≡◌, ◌<◌, ◌≤◌, ◌+◌, ℕ, List, ◌∷◌, Option, Some, None, MatchOption, IfSome, length, slice_index_or}
+use Rattle.std.specs.Prelude.{◌≡◌, ◌<◌, ◌≤◌, ◌+◌, ℕ, List, ◌∷◌, Option, Some, None, IfSome, length, slice_index_or}
 use Rattle.std.specs.List.{All, Contains}
 use Rattle.lrpar_parse_repair.specs.PlainSteps.{plain_step}
 use Rattle.lrpar_parse_repair.specs.Sequences.{PlainStep}

@@ -1,5 +1,5 @@
 -- Which rests of repairs are meant, step by step: a class of them, and whether the step before them is a Delete.
-use Rattle.std.specs.Prelude.{◌||◌, Bool, true, false, List, [], ◌∷◌, cond, slice_index_or}
+use Rattle.std.specs.Prelude.{Bool, true, false, List, cond, slice_index_or}
 use Rattle.lrpar_parse_repair.specs.Sequences.{PlainStep, PlainInsert, PlainDelete, PlainShift}
 use Rattle.lrpar_parse_cpctplus.specs.declared.form.Class.{Class}
 use Rattle.lrpar_parse_cpctplus.specs.declared.form.Class.TheVariants.{Clean, Avoided, Any, Nothing}

@@ -8,7 +8,7 @@ use lrpar_grammar::span::StorageIndex;
 use lrpar_parse_repair::repair::RepairStep;
 
 /// Which of the rests of repairs are meant, by the tokens that they insert.
-#[derive(Clone, Copy, Debug, PartialEq, Eq)]
+#[derive(Clone, Copy)]
 pub(crate) enum Class {
     /// Those that insert no token to be avoided.
     Clean,
@@ -21,7 +21,7 @@ pub(crate) enum Class {
 }
 
 /// Which of the rests of repairs are meant, and whether the step before them is a Delete.
-#[derive(Clone, Copy, Debug, PartialEq, Eq)]
+#[derive(Clone, Copy)]
 pub(crate) struct Form {
     pub(crate) class: Class,
     pub(crate) deleted: bool,

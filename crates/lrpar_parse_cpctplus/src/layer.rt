@@ -8,7 +8,7 @@ use std::alloc::{AllocError, Global};
 use std::collections::HashMap;
 
 /// How many rests of repairs there are, by their classes.
-#[derive(Clone, Copy, Debug)]
+#[derive(Clone, Copy)]
 pub(crate) struct Numbers {
     pub(crate) clean: usize,
     pub(crate) avoided: usize,
@@ -30,7 +30,7 @@ impl Numbers {
 }
 
 /// How many there are after a Delete, and after another step or none.
-#[derive(Clone, Copy, Debug)]
+#[derive(Clone, Copy)]
 pub(crate) struct Counts {
     pub(crate) after_delete: Numbers,
     pub(crate) after_other: Numbers,

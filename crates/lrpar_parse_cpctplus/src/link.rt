@@ -3,7 +3,7 @@ use lrpar_grammar::span::StorageIndex;
 use lrpar_parse_repair::repair::RepairStep;
 
 /// A step from one configuration to another, by their numbers, whose distances differ by what the step costs.
-#[derive(Clone, Copy, Debug)]
+#[derive(Clone, Copy)]
 pub(crate) struct Link<StorageT: Copy> {
     pub(crate) from: usize,
     pub(crate) step: RepairStep<StorageT>,
@@ -11,7 +11,7 @@ pub(crate) struct Link<StorageT: Copy> {
 }
 
 /// The last step of a repair: from the configuration with this number, and how far a parse goes on after it.
-#[derive(Clone, Copy, Debug)]
+#[derive(Clone, Copy)]
 pub(crate) struct Ending<StorageT: Copy> {
     pub(crate) reach: u128,
     pub(crate) from: usize,

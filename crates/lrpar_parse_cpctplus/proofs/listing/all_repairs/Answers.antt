@@ -1,4 +1,4 @@
-use Rattle.std.proofs.Common.{◌≡◌, ◌≤◌, ◌∙◌, inl, inr, Some, ap, arith, length, map, subst, ◌+◌, ℕ}
+use Rattle.std.proofs.Common.{inl, inr, Some, ap, arith, map, subst, ◌+◌}
 use Rattle.std.proofs.lemmas.List.{length-map}
 use Rattle.lrpar_parse_repair.specs.PlainSteps.{plain_sequences, plain_steps}
 use Rattle.lrpar_parse_cpctplus.specs.Chosen.{above}

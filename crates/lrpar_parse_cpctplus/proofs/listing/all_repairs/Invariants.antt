@@ -1,8 +1,6 @@
-use Rattle.std.proofs.Common.{◌≡◌, ◌<◌, ◌≤◌, ◌+◌, ℕ, List, [], map, Contains}
+use Rattle.std.proofs.Common.{◌+◌, map}
 use Rattle.lrpar_parse_repair.specs.PlainSteps.{plain_sequences}
-use Rattle.lrpar_parse_repair.specs.Sequences.{PlainStep}
 use Rattle.lrpar_parse_cpctplus.specs.Chosen.{above}
-use Rattle.lrpar_parse_cpctplus.specs.Graph.{PlainEnding}
 use Rattle.lrpar_parse_cpctplus.specs.LinkView.{plain_ending, plain_link}
 use Rattle.lrpar_parse_cpctplus.proofs.GroupLemmas.{AreListed}
 use Rattle.lrpar_parse_cpctplus.proofs.listing.all_repairs.Given as goal

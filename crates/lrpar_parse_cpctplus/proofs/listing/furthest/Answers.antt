@@ -1,4 +1,3 @@
-use Rattle.std.proofs.Common.{◌≡◌, ◌∙◌, false, sym, true}
 use Rattle.lrpar_parse_cpctplus.proofs.FurthestLemmas.{furthest_kept, furthest_taken, none_furthest, not_both}
 use Rattle.lrpar_parse_cpctplus.proofs.listing.furthest.Goals as goal
 use Rattle.lrpar_parse_cpctplus.proofs.listing.furthest.Goals.{then-is_below+then-is_above, else-is_below, else-is_below-via-then-is_below+else-is_above, else-is_below-via-else-is_below}

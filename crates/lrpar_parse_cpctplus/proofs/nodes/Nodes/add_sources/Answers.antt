@@ -1,4 +1,4 @@
-use Rattle.std.proofs.Common.{◌⊎◌, inl, inr, IsTrue, is_some, subst, sym, List, ℕ}
+use Rattle.std.proofs.Common.{inl, inr, IsTrue, is_some, subst, sym, List, ℕ}
 use Rattle.std.specs.Prelude.{nat_eq}
 use Rattle.std.specs.HashMap.{get}
 use Rattle.std.specs.List.{Contains}

@@ -1,4 +1,4 @@
-use Rattle.std.proofs.Common.{List, subst, sym}
+use Rattle.std.proofs.Common.{List, subst}
 use Rattle.lrpar_parse_cpctplus.specs.LinkView.{AreRows, froms_by_to, links_by_from}
 use Rattle.lrpar_parse_cpctplus.specs.declared.link.Link.{Link}
 use Rattle.lrpar_parse_cpctplus.proofs.NodeLemmas.{are_by_nodes, lead_back, sorted_within}

@@ -1,4 +1,4 @@
-use Rattle.std.proofs.Common.{◌⊎◌, ◌+◌, inl, inr, IsTrue, List, is_some, subst, suc, sym, take, ℕ}
+use Rattle.std.proofs.Common.{◌+◌, inl, inr, IsTrue, List, is_some, subst, suc, sym, take, ℕ}
 use Rattle.std.specs.Prelude.{nat_eq}
 use Rattle.std.specs.HashMap.{get}
 use Rattle.std.specs.List.{Contains}

@@ -1,4 +1,3 @@
-use Rattle.std.proofs.lemmas.Result.{IfOk-weaker}
 use Rattle.lrpar_parse_repair.specs.PlainSteps.{plain_sequences}
 use Rattle.lrpar_parse_cpctplus.specs.NodesView.{links_of}
 use Rattle.lrpar_parse_cpctplus.proofs.ChoiceLemmas.{both_classes}
