@@ -12,7 +12,7 @@ use lrpar_grammar::span::StorageIndex;
 use std::alloc::{AllocError, Global};
 
 impl<'a, StorageT: StorageIndex> Nodes<'a, StorageT> {
-    ghost use Rattle.lrpar_parse_cpctplus.specs.NodesView.{LeadBack, links_of, rests_of, sources_of};
+    ghost use Rattle.lrpar_parse_cpctplus.specs.NodesView.{LeadBack, rests_of, sources_of};
 
     /// One layer for each number of steps, as long as any rest has so many; but none of more than `longest` steps.
     pub(crate) fn layers(&self, alloc: Global, longest: usize) -> Result<Vec<Layer>, AllocError>

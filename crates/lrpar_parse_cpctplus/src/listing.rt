@@ -1,6 +1,5 @@
 //! The repairs that a search has found, in their order.
 ghost use Rattle.std.specs.Prelude.{◌≡◌, ◌<◌, ◌≤◌, ◌+◌, ◌-◌, ◌^◌, ◌↔◌, ℕ, List, suc, true, false, IfOk, IsTrue, MatchOption, OnOk, length, map, slice_index_or};
-ghost use Rattle.std.specs.List.{Contains};
 ghost use Rattle.lrpar_parse_repair.specs.PlainSteps.{plain_sequences, plain_steps};
 ghost use Rattle.lrpar_parse_repair.specs.Sequences.{PlainStep};
 ghost use Rattle.lrpar_parse_cpctplus.specs.Chosen.{IsBelow, IsChoice, IsFurthestBelow, above};

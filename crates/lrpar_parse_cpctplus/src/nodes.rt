@@ -1,6 +1,5 @@
 //! The nodes of a graph by numbers: the links from each in the order of their steps, and from where links lead to it.
-ghost use Rattle.std.specs.Prelude.{◌≡◌, ◌≤◌, [], IfOk, map};
-ghost use Rattle.std.specs.List.{All};
+ghost use Rattle.std.specs.Prelude.{◌≡◌, [], IfOk, map};
 ghost use Rattle.lrpar_parse_repair.specs.PlainSteps.{plain_step};
 ghost use Rattle.lrpar_parse_cpctplus.specs.LinkView.{AreInStepOrder, AreRows, AreWithin, froms_by_to, links_by_from, plain_link, step_rank};
 ghost use Rattle.lrpar_parse_cpctplus.specs.Rests.{AreByNodes};
