@@ -16,6 +16,7 @@ use Rattle.lrpar_parse_cpctplus.proofs.ChainLemmas.{CostAtLeast, least_cost}
 use Rattle.lrpar_parse_cpctplus.proofs.DistanceLemmas.{compare}
 use Rattle.lrpar_parse_cpctplus.proofs.FirstLemmas.{first_none, in_either, in_left, in_right, pairs_between, pairs_joined}
 use Rattle.lrpar_parse_cpctplus.proofs.GraphLemmas.{GoesTo, chain_is_path, differ_in_steps, ending_has_repair, far_chain_goes, goes_far_chain, path_is_chain, repair_has_ending}
+use Rattle.lrpar_parse_cpctplus.proofs.LengthLemmas.{repairs_are_short}
 use Rattle.lrpar_parse_cpctplus.proofs.OrderLemmas.{pairs_none}
 use Rattle.lrpar_parse_cpctplus.proofs.ReachLemmas.{goes_one_far}
 use Rattle.lrpar_parse_cpctplus.proofs.RestLemmas.{all_in, all_rise, in_all}
@@ -30,27 +31,27 @@ module _ {X : Type 0} (token : X → ℕ) (settings : Settings) (at : Asked X) (
   Goes far steps = GoesTo token settings.costs at c far steps
 
   module _ (far : ℕ) (next : ℕ → List PlainLink) (by_nodes : AreByNodes (with_endings (length nodes) far graph.links graph.endings) next) where
-    group_goes : (steps : List PlainStep) → IsIn steps (in_order settings.avoided (length nodes) next (graph.longest + 1)) → Goes far steps
+    group_goes : (steps : List PlainStep) → IsIn steps (in_order settings.avoided (length nodes) next (length nodes + 1)) → Goes far steps
     group_goes steps m =
-        let h = in_all settings.avoided (length nodes) next (graph.longest + 1) steps m in
+        let h = in_all settings.avoided (length nodes) next (length nodes + 1) steps m in
         far_chain_goes token settings.costs at c is.stop is.costs_of_tokens is.least far steps h.2
         (path_is_chain token settings.costs at c nodes graph.links graph.endings is.costs_of_tokens least is.links is.endings far next by_nodes steps 0 (root_of at)
         is.links.nearer.first h.1)
 
-    goes_group : (steps : List PlainStep) → Goes far steps → IsIn steps (in_order settings.avoided (length nodes) next (graph.longest + 1))
+    goes_group : (steps : List PlainStep) → Goes far steps → IsIn steps (in_order settings.avoided (length nodes) next (length nodes + 1))
     goes_group steps h =
         let chain = goes_far_chain token settings.costs at c is.stop is.costs_of_tokens is.least far steps h in
-        all_in settings.avoided (length nodes) next (graph.longest + 1) steps (let long = is.longest steps h.0 in omega (arith, long))
+        all_in settings.avoided (length nodes) next (length nodes + 1) steps (let long = repairs_are_short token settings.costs at is.costs_of_tokens c nodes is.stop is.least is.links.nearer steps h.0 in omega (arith, long))
         (chain_is_path token settings.costs at c nodes graph.links graph.endings is.costs_of_tokens least is.links is.endings far next by_nodes is.measured steps 0
         (root_of at) is.links.nearer.first chain.1)
         chain.0
 
-    group_rises : AllPairs (IsListedBefore token at settings.avoided) (in_order settings.avoided (length nodes) next (graph.longest + 1))
+    group_rises : AllPairs (IsListedBefore token at settings.avoided) (in_order settings.avoided (length nodes) next (length nodes + 1))
     group_rises =
-        let group = in_order settings.avoided (length nodes) next (graph.longest + 1) in
+        let group = in_order settings.avoided (length nodes) next (length nodes + 1) in
         pairs_between (IsPreferred settings.avoided) (IsListedBefore token at settings.avoided) group
         (all_rise settings.avoided (length nodes) next
-        (by_nodes.rising (differ_in_steps token settings.costs at c nodes graph.links graph.endings is.costs_of_tokens least is.links is.endings far)) (graph.longest + 1))
+        (by_nodes.rising (differ_in_steps token settings.costs at c nodes graph.links graph.endings is.costs_of_tokens least is.links is.endings far)) (length nodes + 1))
         (λ xs ys m n before. (far, far, (group_goes xs m).1, (group_goes ys n).1, inr (refl, before)))
 
   -- the repairs after which a parse goes on to this place, in order
@@ -59,7 +60,7 @@ module _ {X : Type 0} (token : X → ℕ) (settings : Settings) (at : Asked X) (
     all : (steps : List PlainStep) → Goes far steps → IsIn steps repairs
     ordered : AllPairs (IsListedBefore token at settings.avoided) repairs
 
-  one_place : (far : ℕ) (repairs : List (List PlainStep)) → IsGroup settings.avoided (length nodes) (graph.longest + 1) graph.links graph.endings far repairs
+  one_place : (far : ℕ) (repairs : List (List PlainStep)) → IsGroup settings.avoided (length nodes) (length nodes + 1) graph.links graph.endings far repairs
       → AreAllAt far repairs
   one_place far repairs h =
       subst (λ (l : List (List PlainStep)). AreAllAt far l) (sym h.2)
@@ -83,7 +84,7 @@ module _ {X : Type 0} (token : X → ℕ) (settings : Settings) (at : Asked X) (
     ordered : AllPairs (IsListedBefore token at settings.avoided) repairs
 
   groups_between : (high low : ℕ) (repairs : List (List PlainStep))
-      → AreGroups settings.avoided (length nodes) (graph.longest + 1) graph.links graph.endings high low repairs → AreAllBetween high low repairs
+      → AreGroups settings.avoided (length nodes) (length nodes + 1) graph.links graph.endings high low repairs → AreAllBetween high low repairs
   groups_between high _ _ no_place = record {
     each = λ steps m. absurd m;
     all = λ steps far above below h. absurd (omega (arith, above, below));
@@ -128,7 +129,7 @@ module _ {X : Type 0} (token : X → ℕ) (settings : Settings) (at : Asked X) (
   -- whether a repair that costs c may be listed
   may_all : IsTrue settings.lists_all → (high low : ℕ) (repairs : List (List PlainStep))
       → ((ending : PlainEnding) → Contains graph.endings ending → ending.reach < high)
-      → AreGroups settings.avoided (length nodes) (graph.longest + 1) graph.links graph.endings high low repairs
+      → AreGroups settings.avoided (length nodes) (length nodes + 1) graph.links graph.endings high low repairs
       → (low ≡ 0) ⊎ (settings.most ≤ length repairs)
       → AreFirst settings.most (MayBeListed token settings at c) (IsListedBefore token at settings.avoided) (take settings.most repairs)
   may_all all high low repairs above groups enough =
@@ -154,7 +155,7 @@ module _ {X : Type 0} (token : X → ℕ) (settings : Settings) (at : Asked X) (
       ])
 
   may_furthest : settings.lists_all ≡ false → (reach : ℕ) (repairs : List (List PlainStep)) → IsFurthest graph.endings reach
-      → IsGroup settings.avoided (length nodes) (graph.longest + 1) graph.links graph.endings reach repairs
+      → IsGroup settings.avoided (length nodes) (length nodes + 1) graph.links graph.endings reach repairs
       → AreFirst settings.most (MayBeListed token settings at c) (IsListedBefore token at settings.avoided) (take settings.most repairs)
   may_furthest not reach repairs furthest group =
       let h = one_place reach repairs group in
@@ -184,20 +185,20 @@ module _ {X : Type 0} (token : X → ℕ) (settings : Settings) (at : Asked X) (
       none ending.0 ending.1)
 
   ranked_first : (lists_all : Bool) (repairs : List (List PlainStep)) → settings.lists_all ≡ lists_all
-      → AreRanked settings.avoided (length nodes) (graph.longest + 1) graph.links graph.endings settings.most lists_all repairs
+      → AreRanked settings.avoided (length nodes) (length nodes + 1) graph.links graph.endings settings.most lists_all repairs
       → AreFirst settings.most (MayBeListed token settings at c) (IsListedBefore token at settings.avoided) repairs
   ranked_first _ _ e (of_places high low repairs above groups enough) = may_all e high low repairs above groups enough
   ranked_first _ _ e (of_furthest reach repairs furthest group) = may_furthest e reach repairs furthest group
   ranked_first _ _ e (of_none none) = may_none none
 
 pub are_first_repairs : {X : Type 0} (avoided : List Bool) (most : ℕ) (lists_all : Bool) (graph : PlainGraph) (repairs : List (List PlainStep))
-    → AreRanked avoided graph.len (graph.longest + 1) graph.links graph.endings most lists_all repairs
+    → AreRanked avoided graph.len (graph.len + 1) graph.links graph.endings most lists_all repairs
     → AreFirstRepairs X avoided most lists_all graph repairs
 are_first_repairs avoided most lists_all graph repairs ranked token settings at c nodes e f g is =
     ranked_first token settings at c nodes graph is lists_all repairs g
-    (subst (λ (n : ℕ). AreRanked settings.avoided n (graph.longest + 1) graph.links graph.endings settings.most lists_all repairs) (sym is.len)
-    (subst (λ (l : List Bool). AreRanked l graph.len (graph.longest + 1) graph.links graph.endings settings.most lists_all repairs) (sym e)
-    (subst (λ (n : ℕ). AreRanked avoided graph.len (graph.longest + 1) graph.links graph.endings n lists_all repairs) (sym f) ranked)))
+    (subst (λ (n : ℕ). AreRanked settings.avoided n (n + 1) graph.links graph.endings settings.most lists_all repairs) (sym is.len)
+    (subst (λ (l : List Bool). AreRanked l graph.len (graph.len + 1) graph.links graph.endings settings.most lists_all repairs) (sym e)
+    (subst (λ (n : ℕ). AreRanked avoided graph.len (graph.len + 1) graph.links graph.endings n lists_all repairs) (sym f) ranked)))
 
 -- places between which there is no ending
 pub down_to : (avoided : List Bool) (end n : ℕ) (links : List PlainLink) (endings : List PlainEnding) (high low : ℕ) (gap : ℕ) (repairs : List (List PlainStep))

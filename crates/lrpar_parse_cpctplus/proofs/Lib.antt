@@ -32,3 +32,4 @@ pub mod NodeLemmas
 pub mod CountLemmas
 pub mod ChoiceLemmas
 pub mod FurthestLemmas
+pub mod LengthLemmas

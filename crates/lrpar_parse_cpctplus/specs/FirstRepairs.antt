@@ -1,20 +1,18 @@
 -- What is listed from the graph of a search.
-use Rattle.std.specs.Prelude.{◌≡◌, ◌≤◌, ℕ, Bool, List, length}
+use Rattle.std.specs.Prelude.{◌≡◌, ℕ, Bool, List, length}
 use Rattle.lrpar_parse_repair.specs.Asked.{Asked, IsStop}
 use Rattle.lrpar_parse_repair.specs.Sequences.{PlainStep}
-use Rattle.lrpar_parse_cpctplus.specs.Cheapest.{IsLeastCost, RepairsAt}
+use Rattle.lrpar_parse_cpctplus.specs.Cheapest.{IsLeastCost}
 use Rattle.lrpar_parse_cpctplus.specs.Configurations.{Configured}
 use Rattle.lrpar_parse_cpctplus.specs.Costs.{AreCosts}
 use Rattle.lrpar_parse_cpctplus.specs.Graph.{AreEndings, HaveEndings, IsGraph, PlainEnding, PlainLink}
 use Rattle.lrpar_parse_cpctplus.specs.Listing.{AreFirst, IsListedBefore, MayBeListed, Settings}
 
--- a graph of a search by numbers: so many configurations, the links between them, the last steps, and a number of steps that no
--- repair exceeds
+-- a graph of a search by numbers: so many configurations, the links between them, and the last steps
 pub record PlainGraph : Type 0 where
   pub len : ℕ
   pub links : List PlainLink
   pub endings : List PlainEnding
-  pub longest : ℕ
 
 -- it is that of the configurations that are nearer than c, the least cost of a repair
 pub record IsGraphAt {X : Type 0} (token : X → ℕ) (costs : List ℕ) (at : Asked X) (c : ℕ) (nodes : List Configured) (graph : PlainGraph) : Type 0 where
@@ -25,7 +23,6 @@ pub record IsGraphAt {X : Type 0} (token : X → ℕ) (costs : List ℕ) (at : A
   pub links : IsGraph token costs at c nodes graph.links
   pub endings : AreEndings token costs at c nodes graph.endings
   pub measured : HaveEndings token costs at c nodes graph.endings
-  pub longest : (steps : List PlainStep) → RepairsAt token costs at c steps → length steps ≤ graph.longest
 
 -- these are the first repairs that may be listed, wherever the graph is that of an error point
 abbrev pub AreFirstRepairs : Type 0 → List Bool → ℕ → Bool → PlainGraph → List (List PlainStep) → Type 0

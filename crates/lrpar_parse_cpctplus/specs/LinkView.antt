@@ -26,7 +26,6 @@ plain_graph index linked = record {
   len = linked.len;
   links = map (plain_link index) linked.links.items;
   endings = map (plain_ending index) linked.endings.items;
-  longest = linked.longest;
 }
 
 -- the links and endings are between configurations of the graph, by their numbers

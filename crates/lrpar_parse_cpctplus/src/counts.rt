@@ -14,14 +14,14 @@ use std::alloc::{AllocError, Global};
 impl<'a, StorageT: StorageIndex> Nodes<'a, StorageT> {
     ghost use Rattle.lrpar_parse_cpctplus.specs.NodesView.{LeadBack, rests_of, sources_of};
 
-    /// One layer for each number of steps, as long as any rest has so many; but none of more than `longest` steps.
-    pub(crate) fn layers(&self, alloc: Global, longest: usize) -> Result<Vec<Layer>, AllocError>
+    /// One layer for each number of steps, as long as any rest has so many; but none of more steps than there are nodes before the end.
+    pub(crate) fn layers(&self, alloc: Global) -> Result<Vec<Layer>, AllocError>
         requires back { LeadBack StorageT.index self.now }
-        ensures { IfOk result (λ layers. AreLayers (rests_of StorageT.index self.now) longest layers.items) }
+        ensures { IfOk result (λ layers. AreLayers (rests_of StorageT.index self.now) self.now.end layers.items) }
     {
         let mut layers = Vec::new(alloc);
         let mut layer = self.first_layer(alloc)?;
-        'steps: while layers.len() <= longest && !layer.nodes.is_empty() {
+        'steps: while layers.len() <= self.end && !layer.nodes.is_empty() {
             let next = self.next_layer(alloc, &layer)?;
             layers.push(layer)?;
             layer = next;

@@ -19,11 +19,10 @@ pub(crate) struct Ending<StorageT: Copy> {
 }
 
 /// What a search finds: how many configurations there are, of which the first one is that of the error point; the links between
-/// them; the last steps of the repairs; and a number of steps that no repair exceeds.
+/// them; and the last steps of the repairs.
 #[derive(Drop)]
 pub(crate) struct Linked<StorageT: StorageIndex> {
     pub(crate) len: usize,
     pub(crate) links: Vec<Link<StorageT>>,
     pub(crate) endings: Vec<Ending<StorageT>>,
-    pub(crate) longest: usize,
 }

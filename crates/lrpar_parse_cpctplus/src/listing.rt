@@ -55,7 +55,7 @@ fn ranked_repairs<StorageT: StorageIndex>(
     linked: &Linked<StorageT>,
 ) -> Result<Vec<Vec<RepairStep<StorageT>>>, AllocError>
     requires numbered { IsNumbered linked.now }
-    ensures ranked { IfOk result (λ repairs. AreRanked wanted.now.avoided.now linked.now.len (linked.now.longest + 1)
+    ensures ranked { IfOk result (λ repairs. AreRanked wanted.now.avoided.now linked.now.len (linked.now.len + 1)
         (map (plain_link StorageT.index) linked.now.links.items) (map (plain_ending StorageT.index) linked.now.endings.items)
         wanted.now.most wanted.now.lists_all (plain_sequences StorageT.index repairs.items)) }
 {
@@ -73,7 +73,7 @@ fn all_repairs<StorageT: StorageIndex>(
     linked: &Linked<StorageT>,
 ) -> Result<Vec<Vec<RepairStep<StorageT>>>, AllocError>
     requires numbered { IsNumbered linked.now }
-    ensures ranked { IfOk result (λ repairs. AreRanked wanted.now.avoided.now linked.now.len (linked.now.longest + 1)
+    ensures ranked { IfOk result (λ repairs. AreRanked wanted.now.avoided.now linked.now.len (linked.now.len + 1)
         (map (plain_link StorageT.index) linked.now.links.items) (map (plain_ending StorageT.index) linked.now.endings.items)
         wanted.now.most true (plain_sequences StorageT.index repairs.items)) }
 {
@@ -96,7 +96,7 @@ fn furthest_repairs<StorageT: StorageIndex>(
     linked: &Linked<StorageT>,
 ) -> Result<Vec<Vec<RepairStep<StorageT>>>, AllocError>
     requires numbered { IsNumbered linked.now }
-    ensures ranked { IfOk result (λ repairs. AreRanked wanted.now.avoided.now linked.now.len (linked.now.longest + 1)
+    ensures ranked { IfOk result (λ repairs. AreRanked wanted.now.avoided.now linked.now.len (linked.now.len + 1)
         (map (plain_link StorageT.index) linked.now.links.items) (map (plain_ending StorageT.index) linked.now.endings.items)
         wanted.now.most false (plain_sequences StorageT.index repairs.items)) }
 {
@@ -154,14 +154,14 @@ fn push_group<StorageT: StorageIndex>(
     listed: &mut Vec<Vec<RepairStep<StorageT>>>,
 ) -> Result<(), AllocError>
     requires numbered { IsNumbered linked.now }
-    ensures group { OnOk result ((group : List (List PlainStep)) × IsGroup wanted.now.avoided.now linked.now.len (linked.now.longest + 1)
+    ensures group { OnOk result ((group : List (List PlainStep)) × IsGroup wanted.now.avoided.now linked.now.len (linked.now.len + 1)
         (map (plain_link StorageT.index) linked.now.links.items) (map (plain_ending StorageT.index) linked.now.endings.items) reach group
         × (plain_sequences StorageT.index listed.new.items ≡ added_first wanted.now.most (plain_sequences StorageT.index listed.old.items) group)) }
 {
     let links = links_to_end(alloc, linked, reach)?;
     let nodes = Nodes::new(alloc, wanted.avoided, linked.len, links)?;
-    let layers = nodes.layers(alloc, linked.longest)?;
-    nodes.push_all(alloc, &layers, linked.longest, wanted.most, listed)
+    let layers = nodes.layers(alloc)?;
+    nodes.push_all(alloc, &layers, wanted.most, listed)
 }
 
 // The links, and as links to the end the last steps after which a parse goes on to this place.
@@ -208,13 +208,12 @@ impl<'a, StorageT: StorageIndex> Nodes<'a, StorageT> {
         &self,
         alloc: Global,
         layers: &[Layer],
-        longest: usize,
         most: usize,
         listed: &mut Vec<Vec<RepairStep<StorageT>>>,
     ) -> Result<(), AllocError>
-        requires layers { AreLayers (rests_of StorageT.index self.now) longest layers.now }
+        requires layers { AreLayers (rests_of StorageT.index self.now) self.now.end layers.now }
         ensures { OnOk result (plain_sequences StorageT.index listed.new.items ≡ added_first most (plain_sequences StorageT.index listed.old.items)
-            (in_order self.now.avoided.now self.now.end (links_of StorageT.index self.now) (longest + 1))) }
+            (in_order self.now.avoided.now self.now.end (links_of StorageT.index self.now) (self.now.end + 1))) }
     {
         self.push_class(alloc, layers, Class::Clean, most, listed)?;
         self.push_class(alloc, layers, Class::Avoided, most, listed)

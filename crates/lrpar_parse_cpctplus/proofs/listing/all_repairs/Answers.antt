@@ -13,7 +13,7 @@ groups-init g c =
     let linked = c.args.linked.now in
     let found = rw c.deref.ensures.value at c.furthest-reach.ensures in
     rw c.new-listed.ensures.items
-    (none_listed c.args.wanted.now.avoided.now linked.len (linked.longest + 1) (map (plain_link index) linked.links.items)
+    (none_listed c.args.wanted.now.avoided.now linked.len (linked.len + 1) (map (plain_link index) linked.links.items)
     (map (plain_ending index) linked.endings.items) c.args.wanted.now.most (above c.furthest-reach.result)
     (λ ending m. under_found index linked.endings.items _ c.furthest-reach.result found ending m tt))
 
@@ -24,7 +24,7 @@ returns-then-len-wanted g c =
     let l = c.groups in
     let long = length-map l.listed.items (λ steps. plain_steps index steps.items) in
     record {
-      ranked = listed_ranked c.args.wanted.now.avoided.now linked.len (linked.longest + 1) (map (plain_link index) linked.links.items)
+      ranked = listed_ranked c.args.wanted.now.avoided.now linked.len (linked.len + 1) (map (plain_link index) linked.links.items)
           (map (plain_ending index) linked.endings.items) c.args.wanted.now.most (above l.reach) (plain_sequences index l.listed.items) l.invariant
           (inr (omega (arith, long, c.if-len-wanted.true, c.len.ensures)));
     }
@@ -41,8 +41,8 @@ groups-preserved g c =
     let after = c.furthest-reach-in-Some.result in
     let found = rw c.deref-in-Some.ensures.value at c.furthest-reach-in-Some.ensures in
     let group = c.in_ok-push_group.ensures.group in
-    let here = subst (λ o. AreListed wanted.avoided.now linked.len (linked.longest + 1) links endings wanted.most (above o) (plain_sequences index l.listed.items)) c.in-Some.is l.invariant in
-    more_listed wanted.avoided.now linked.len (linked.longest + 1) links endings wanted.most far (above after) (plain_sequences index l.listed.items)
+    let here = subst (λ o. AreListed wanted.avoided.now linked.len (linked.len + 1) links endings wanted.most (above o) (plain_sequences index l.listed.items)) c.in-Some.is l.invariant in
+    more_listed wanted.avoided.now linked.len (linked.len + 1) links endings wanted.most far (above after) (plain_sequences index l.listed.items)
     (plain_sequences index c.push_group.new.listed.items) group.0 (above_at_most (reaches_of index linked.endings.items) far after found)
     (λ ending m less. under_found index linked.endings.items (Some far) after found ending m less) group.1 group.2 here
 
@@ -52,7 +52,7 @@ returns g c =
     let linked = c.args.linked.now in
     let l = c.groups in
     record {
-      ranked = listed_ranked c.args.wanted.now.avoided.now linked.len (linked.longest + 1) (map (plain_link index) linked.links.items)
+      ranked = listed_ranked c.args.wanted.now.avoided.now linked.len (linked.len + 1) (map (plain_link index) linked.links.items)
           (map (plain_ending index) linked.endings.items) c.args.wanted.now.most (above l.reach) (plain_sequences index l.listed.items) l.invariant
           (inl (ap above c.in_default.is));
     }

@@ -9,7 +9,7 @@ use Rattle.lrpar_parse_cpctplus.proofs.listing.all_repairs.Given as goal
 abbrev pub invariant-groups : goal.invariant-groups
 invariant-groups g l =
     let index = g.StorageT.StorageIndex.index in
-    AreListed l.wanted.avoided.now l.linked.len (l.linked.longest + 1) (map (plain_link index) l.linked.links.items)
+    AreListed l.wanted.avoided.now l.linked.len (l.linked.len + 1) (map (plain_link index) l.linked.links.items)
     (map (plain_ending index) l.linked.endings.items) l.wanted.most (above l.reach) (plain_sequences index l.listed.items)
 
 abbrev pub decreases-groups : goal.decreases-groups

@@ -20,6 +20,6 @@ returns g c =
     let group = c.in_ok-push_group.ensures.group in
     let added = rw c.new-listed.ensures.items at group.2 in
     record {
-      ranked = group_ranked wanted.avoided.now linked.len (linked.longest + 1) (map (plain_link index) linked.links.items) (map (plain_ending index) linked.endings.items)
+      ranked = group_ranked wanted.avoided.now linked.len (linked.len + 1) (map (plain_link index) linked.links.items) (map (plain_ending index) linked.endings.items)
           wanted.most c.in-Some.far (plain_sequences index c.push_group.new.listed.items) group.0 (is_furthest index linked.endings.items c.in-Some.far found) group.1 added;
     }

@@ -28,12 +28,12 @@ pub returns : goal.returns
 returns g c =
     let nodes = c.args.self.now in
     let l = c.steps in
-    let ended : (c.args.longest < length l.layers.items) ⊎ (l.layer.nodes.items ≡ []) =
-    elim c.steps-test.branch as (λ _. (c.args.longest < length l.layers.items) ⊎ (l.layer.nodes.items ≡ [])) [
+    let ended : (c.args.self.now.end < length l.layers.items) ⊎ (l.layer.nodes.items ≡ []) =
+    elim c.steps-test.branch as (λ _. (c.args.self.now.end < length l.layers.items) ⊎ (l.layer.nodes.items ≡ [])) [
       | then-steps-test+else-not-is_empty w ↦
           let none : l.layer.nodes.len ≡ 0 = eqb-true l.layer.nodes.len 0 (sym w.if-not-is_empty.ensures) in
           inr (nil_from_length l.layer.nodes.items (omega (arith, none, l.layer.nodes.ok)))
       | else-steps-test w ↦ inl (omega (arith, w.steps-test.false, c.len.ensures))
     ] in
-    are_layers nodes.avoided.now nodes.end (links_of g.StorageT.StorageIndex.index nodes) c.args.longest l.layers.items l.layer l.invariant.each l.invariant.few
+    are_layers nodes.avoided.now nodes.end (links_of g.StorageT.StorageIndex.index nodes) c.args.self.now.end l.layers.items l.layer l.invariant.each l.invariant.few
     l.invariant.next ended

@@ -10,9 +10,9 @@ invariant-steps g l =
     let rests = rests_of g.StorageT.StorageIndex.index l.self in
     record {
       each : (s : ℕ) (d : Layer) → s < length l.layers.items → IsLayer (rests s) (get_or l.layers.items s d);
-      few : length l.layers.items ≤ l.longest + 1;
+      few : length l.layers.items ≤ l.self.end + 1;
       next : IsLayer (rests (length l.layers.items)) l.layer;
     }
 
 abbrev pub decreases-steps : goal.decreases-steps
-decreases-steps g l = l.longest + 1 - length l.layers.items
+decreases-steps g l = l.self.end + 1 - length l.layers.items

@@ -10,6 +10,6 @@ returns g c =
     let nodes = c.args.self.now in
     if_done c.push_class-2.result _ _
     (λ added.
-    both_classes nodes.avoided.now nodes.end (links_of index nodes) c.args.longest c.args.most c.args.layers.now (plain_sequences index c.args.listed.now.items)
+    both_classes nodes.avoided.now nodes.end (links_of index nodes) nodes.end c.args.most c.args.layers.now (plain_sequences index c.args.listed.now.items)
     (plain_sequences index c.push_class.new.listed.items) (plain_sequences index c.push_class-2.new.listed.items) c.requires.layers c.in_ok-push_class.ensures added)
     c.push_class-2.ensures
