@@ -33,3 +33,4 @@ pub mod CountLemmas
 pub mod ChoiceLemmas
 pub mod FurthestLemmas
 pub mod LengthLemmas
+pub mod FoundAtLemmas
