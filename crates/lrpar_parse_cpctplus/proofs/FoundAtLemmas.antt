@@ -1,5 +1,5 @@
 -- What a search says of its answer: the first repairs of its graph are those that are listed, and none is if no cost is found.
-use Rattle.std.proofs.Common.{◌≡◌, ◌≤◌, inr, inl, ℕ, List, [], length, refl, subst, arith}
+use Rattle.std.proofs.Common.{◌≡◌, ◌≤◌, inr, inl, ℕ, List, [], refl, subst, arith}
 use Rattle.lrpar_parse_repair.specs.Asked.{Asked}
 use Rattle.lrpar_parse_repair.specs.Sequences.{PlainStep}
 use Rattle.lrpar_parse_cpctplus.specs.Cheapest.{IsLeastCost}
