@@ -36,7 +36,7 @@ module _ {A : Type 0} where
   in_right x [] ys m = m
   in_right x (z ∷ xs) ys m = inr (in_right x xs ys m)
 
-  pairs_joined : (R : A → A → Type 0) (xs ys : List A) → AllPairs R xs → AllPairs R ys → ((x y : A) → IsIn x xs → IsIn y ys → R x y) → AllPairs R (xs ++ ys)
+  pub pairs_joined : (R : A → A → Type 0) (xs ys : List A) → AllPairs R xs → AllPairs R ys → ((x y : A) → IsIn x xs → IsIn y ys → R x y) → AllPairs R (xs ++ ys)
   pairs_joined R [] ys a b cross = b
   pairs_joined R (x ∷ xs) ys a b cross =
       let first : All (R x) (xs ++ ys) = members_all (R x) (xs ++ ys) (λ z m.
@@ -47,7 +47,7 @@ module _ {A : Type 0} where
       AllPairs-cons R x (xs ++ ys) first (pairs_joined R xs ys (pairs_tail R x xs a) b (λ z y m n. cross z y (inr m) n))
 
   -- another order of what is in both
-  pairs_between : (R S : A → A → Type 0) (xs : List A) → AllPairs R xs → ((x y : A) → IsIn x xs → IsIn y xs → R x y → S x y) → AllPairs S xs
+  pub pairs_between : (R S : A → A → Type 0) (xs : List A) → AllPairs R xs → ((x y : A) → IsIn x xs → IsIn y xs → R x y → S x y) → AllPairs S xs
   pairs_between R S [] a between = pairs_none S
   pairs_between R S (x ∷ xs) a between =
       let head = pairs_head R x xs a in

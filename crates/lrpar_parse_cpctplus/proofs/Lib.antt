@@ -24,3 +24,13 @@ pub mod FirstLemmas
 pub mod ListingLemmas
 pub mod RoundLemmas
 pub mod WayLemmas
+pub mod TakenLemmas
+pub mod RestLemmas
+pub mod GraphLemmas
+pub mod GroupLemmas
+pub mod NodeLemmas
+pub mod CountLemmas
+pub mod ChoiceLemmas
+pub mod FurthestLemmas
+pub mod LengthLemmas
+pub mod FoundAtLemmas

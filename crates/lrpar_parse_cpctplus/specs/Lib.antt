@@ -12,6 +12,14 @@ pub mod Configurations
 pub mod Chains
 pub mod Listing
 pub mod Ways
+pub mod Graph
+pub mod Forming
+pub mod Rests
+pub mod FirstRepairs
+pub mod LinkView
+pub mod NodesView
+pub mod Counted
+pub mod Chosen
 pub mod Walking
 pub mod Tallied
 pub mod SearchView

@@ -1,9 +1,15 @@
 //! The recoverer CPCT+: a search for the repairs of least cost.
 #![tactic(auto)]
 
+mod counts;
 mod cpct_plus;
 mod fault;
+mod form;
 pub mod laws;
+mod layer;
+mod link;
+mod listing;
+mod nodes;
 mod search;
 mod tally;
 mod walk;
