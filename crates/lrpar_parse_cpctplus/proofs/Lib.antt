@@ -24,3 +24,12 @@ pub mod FirstLemmas
 pub mod ListingLemmas
 pub mod RoundLemmas
 pub mod WayLemmas
+pub mod NumberLemmas
+pub mod LevelLemmas
+pub mod HeldLemmas
+pub mod GrowLemmas
+pub mod AttemptLemmas
+pub mod KnownLemmas
+pub mod EndingLemmas
+pub mod LevelStepLemmas
+pub mod ResultLemmas

@@ -3,7 +3,9 @@
 
 mod cpct_plus;
 mod fault;
+mod graph;
 pub mod laws;
+mod rounds;
 mod search;
 mod tally;
 mod walk;

@@ -2,6 +2,7 @@
 #![tactic(auto)]
 
 pub mod counter;
+pub mod engine;
 pub mod laws;
 pub mod listed_repairs;
 pub mod or;
