@@ -68,7 +68,7 @@ module _ {X : Type 0} (token : X → ℕ) (costs : List ℕ) (at : Asked X) (fir
   }
 
   -- what was reached stays
-  stays_at : (nodes new : List Configured) (n : ℕ) (v : Configured) → (more : List Configured) × (new ≡ nodes ++ more) → slice_get nodes n ≡ Some v
+  pub stays_at : (nodes new : List Configured) (n : ℕ) (v : Configured) → (more : List Configured) × (new ≡ nodes ++ more) → slice_get nodes n ≡ Some v
       → slice_get new n ≡ Some v
   stays_at nodes new n v more is = subst (λ (l : List Configured). slice_get l n ≡ Some v) (sym more.1) (at_left nodes more.0 n v is)
 
@@ -166,7 +166,7 @@ module _ {X : Type 0} (token : X → ℕ) (costs : List ℕ) (at : Asked X) (fir
     -- it leads to v
     module _ (v : Configured) (edge : IsEdge token at due.tail step v) (to : ℕ) (new : List Configured) (new_links : List PlainLink)
         (numbered : IsNumbered nodes v to new) (kept : IsKeptFrom first to links (link_with from step to) new_links) where
-      link : PlainLink
+      abbrev link : PlainLink
       link = link_with from step to
 
       stay : (more : List Configured) × (new ≡ nodes ++ more)

@@ -93,6 +93,6 @@ module _ {X : Type 0} (token : X → ℕ) (costs : List ℕ) (at : Asked X) wher
         let known = (knows_root token costs at stop each).all v near in
         (0, ap (λ (w : Configured). Some w) known.1.0);
     least = one_at_least token costs at stop each;
-    links = λ link. ((λ h. absurd (contains_none link h)), (λ h. absurd (no_link stop each link h)));
+    linked = λ link. ((λ h. absurd (contains_none link h)), (λ h. absurd (no_link stop each link h)));
     links_once = once_none;
   }

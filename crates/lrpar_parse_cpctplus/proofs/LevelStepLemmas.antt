@@ -35,7 +35,7 @@ module _ {X : Type 0} (token : X → ℕ) (costs : List ℕ) (at : Asked X) (nod
 
   -- links lead to what is there
   pub link_within : (link : PlainLink) → Contains links link → link.to < length nodes
-  link_within link h = let among = (round.links link).0 h in slice_get_within nodes link.to among.1 among.3
+  link_within link h = let among = (round.linked link).0 h in slice_get_within nodes link.to among.1 among.3
 
   module _ (attempts : List PlainAttempt) (tried : AreAttempts token costs at nodes firsts (length firsts) attempts) where
     -- the steps that are tried are due
@@ -210,7 +210,7 @@ module _ {X : Type 0} (token : X → ℕ) (costs : List ℕ) (at : Asked X) (nod
               | inl old ↦
                   elim (level_cases d link.from below level) as (λ _. Contains end_links link) [
                     | inl tail ↦
-                        grown.links_stay link ((round.links link).1 (u, v, was link.from u tail.1 h.2, was link.to v old.1 h.3, h.4))
+                        grown.links_stay link ((round.linked link).1 (u, v, was link.from u tail.1 h.2, was link.to v old.1 h.3, h.4))
                     | inr new ↦ absurd (omega (arith, from.2, new.0, old.2))
                   ]
               | inr new ↦
@@ -230,10 +230,10 @@ module _ {X : Type 0} (token : X → ℕ) (costs : List ℕ) (at : Asked X) (nod
                   let known = knows.all v (subst (λ (m : ℕ). IsNearer token costs at m v) long near) in
                   (known.1.0, known.1.1);
               least = subst (λ (m : ℕ). CostsAtLeast token costs at m) (sym long) least;
-              links = λ link. (
+              linked = λ link. (
                 (λ h.
                     elim (grown.links_from link h) as (λ _. IsLinkAmong token costs at end link) [
-                      | inl old ↦ old_link link ((round.links link).0 old)
+                      | inl old ↦ old_link link ((round.linked link).0 old)
                       | inr new ↦ new_link link new.0 new.1 new.2
                     ]),
                 has_link link,

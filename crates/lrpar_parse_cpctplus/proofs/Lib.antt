@@ -33,3 +33,6 @@ pub mod KnownLemmas
 pub mod EndingLemmas
 pub mod LevelStepLemmas
 pub mod ResultLemmas
+pub mod AddLemmas
+pub mod StepsLemmas
+pub mod SharedLemmas

@@ -61,7 +61,7 @@ module _ {X : Type 0} (token : X → ℕ) (costs : List ℕ) (at : Asked X) wher
         );
         once = once_pairs nodes round.once;
       };
-      exact = round.links;
+      exact = round.linked;
       once = once_pairs links round.links_once;
     }
 
@@ -75,7 +75,7 @@ module _ {X : Type 0} (token : X → ℕ) (costs : List ℕ) (at : Asked X) wher
           cost = length firsts;
           least = last_is_least token costs at (length firsts) round.least last.0 ending.step last.1 last.3;
           graph = round_graph;
-          endings = endings_are token costs at each nodes firsts links round attempts tried endings found;
+          lasts = endings_are token costs at each nodes firsts links round attempts tried endings found;
           within = within;
         }
 
