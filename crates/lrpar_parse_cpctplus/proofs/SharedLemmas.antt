@@ -1,7 +1,9 @@
 -- A graph over stacks that are added: the engine's moves add stacks, and a step from a configuration by its numbers is one from what they mean.
 use Rattle.std.proofs.Common.{◌≡◌, ◌<◌, ◌≤◌, ◌+◌, ◌-◌, ◌*◌, ◌∙◌, ◌⊎◌, inl, inr, ℕ, List, [], ◌∷◌, ◌++◌, Option, Some, None, length, slice_get, refl, sym, subst, ap, arith, append-nil, append_assoc}
 use Rattle.std.proofs.lemmas.List.{length_push}
-use Rattle.lrpar_table_stacks.specs.SharedStacks.{AreApart, Extends, Shared, stack_at}
+use Rattle.lrpar_table_rows.specs.Table.{Table}
+use Rattle.lrpar_table_stacks.specs.SharedStacks.{AreApart, Extends, Shared, current_stack, stack_at}
+use Rattle.lrpar_table_stacks.specs.Stack.{IsStack}
 use Rattle.lrpar_parse_repair.specs.Asked.{Asked}
 use Rattle.lrpar_parse_repair.specs.Moves.{IsMovedBy, IsMovedWithin, stays, reduced_first, shifted_first}
 use Rattle.lrpar_parse_repair.specs.Sequences.{PlainStep, IsStepTaken}
@@ -85,3 +87,12 @@ module _ {X : Type 0} (token : X → ℕ) (costs : List ℕ) (at : Asked X) (fir
       let here = subst (λ (l : List Configured). IsNumbered l v to (nodes_in new.stacks new_keys)) same_nodes placed in
       grows_linked token costs at first c (nodes_in old.stacks keys) links growing from step due v
       (subst (λ (u : Configured). IsEdge token at u step v) tail edge) to (nodes_in new.stacks new_keys) new_links here kept
+
+-- another stack becomes the current one
+pub gone_to : (old new : Shared) (n : ℕ) → new.stacks ≡ old.stacks → new.current ≡ n → current_stack new ≡ stack_at old.stacks n
+gone_to old new n same is = ap (λ (s : List (List ℕ)). stack_at s new.current) same ∙ ap (λ (k : ℕ). stack_at old.stacks k) is
+
+-- it is a stack of the table
+pub gone_stack : (table : Table) (old new : Shared) (n : ℕ) → new.stacks ≡ old.stacks → new.current ≡ n → IsStack table (stack_at old.stacks n)
+    → IsStack table (current_stack new)
+gone_stack table old new n same is stack = subst (IsStack table) (sym (gone_to old new n same is)) stack
