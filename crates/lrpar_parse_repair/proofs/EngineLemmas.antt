@@ -1,29 +1,17 @@
 -- What a stack of any kind says about a token that is fed, and about its end; and that moves come one after the other.
-use Rattle.std.proofs.Common.{◌≡◌, ◌<◌, ◌≤◌, ◌+◌, ◌-◌, ◌*◌, ◌∙◌, ◌↔◌, ℕ, suc, List, [], ◌∷◌, Bool, true, false, Some, Result, Ok, Err, IsTrue, ap, arith, length, length-append, refl, subst, sym}
+use Rattle.std.proofs.Common.{◌≡◌, ◌≤◌, ◌+◌, ◌*◌, ◌∙◌, ◌↔◌, ℕ, suc, List, [], ◌∷◌, ◌++◌, Bool, true, false, Result, Ok, Err, IsTrue, ap, arith, length, length-append, refl, subst, sym}
 use Rattle.std.proofs.Math.Nat.{mul-le-mul_left, mul-le-mul_right}
 use Rattle.std.specs.Prelude.{IfOk, OnOk}
-use Rattle.std.proofs.lemmas.List.Elements.{All-get_or}
-use Rattle.std.proofs.lemmas.Option.{get_or_from_slice_get, slice_get_within}
-use Rattle.lrpar_grammar.specs.Grammar.{Grammar, end_token, prod_len, rule_of}
+use Rattle.lrpar_grammar.specs.Grammar.{Grammar, end_token}
 use Rattle.lrpar_table_rows.specs.PlainRows.{plain_action}
-use Rattle.lrpar_table_rows.specs.Table.{Table, Accepts, IsClosed, ShiftTo, states_len}
+use Rattle.lrpar_table_rows.specs.Table.{Table, Accepts, ShiftTo}
 use Rattle.lrpar_table_rows.specs.declared.rows.Action.{Action}
 use Rattle.lrpar_table_stacks.specs.Expected.{AcceptsAtEnd}
-use Rattle.lrpar_table_stacks.specs.Overlay.{OverlayReduces, OverlayShifts, Overlaid, overlaid}
 use Rattle.lrpar_table_stacks.specs.Reduction.{top_action}
-use Rattle.lrpar_table_stacks.specs.Stack.{IsStack, top_of}
 use Rattle.lrpar_table_stacks.specs.StackReduction.{IsStackFedBy, IsStackSettledBy, StackReducesBy}
 use Rattle.lrpar_table_stacks.proofs.Reductions.{settles_one_way}
-use Rattle.lrpar_table_stacks.proofs.SettleLemmas.{stack_states}
-use Rattle.lrpar_parse_repair.specs.Moves.{IsMovedBy, IsMovedWithin, stays, reduced_first, shifted_first}
+use Rattle.lrpar_parse_repair.specs.Moves.{IsMovedBy, IsMovedWithin, reduced_first, shifted_first, stays}
 use Rattle.lrpar_parse_repair.specs.Sequences.{IsTokenFed}
-
--- the top of a stack is a state of the table
-pub top_known : (table : Table) → IsClosed table → (st : List ℕ) (s : ℕ) → IsStack table st → top_of st ≡ Some s → s < states_len table
-top_known table closed st s stack top =
-    let below = slice_get_within st (length st - 1) s top in
-    let within = All-get_or (λ (x : ℕ). x < states_len table) st (length st - 1) s below (stack_states table closed st stack) in
-    subst (λ (x : ℕ). x < states_len table) (get_or_from_slice_get st (length st - 1) s s top) within
 
 -- what holds if all went well
 pub on_ok : {T E P : Type 0} {Q : T → Type 0} (r : Result T E) → ((x : T) → Q x → P) → IfOk r Q → OnOk r P
@@ -49,40 +37,41 @@ costs_none cap n height =
     let more : cap * height ≤ cap * (height + n * (cap + 3)) = mul-le-mul_left cap (omega arith) in
     omega (arith, more)
 
-module _ {X : Type 0} (reduces : X → ℕ → ℕ → ℕ → X → Type 0) (shifts : X → X → Type 0) where
+module _ {X : Type 0} (states : X → List ℕ) (reduces : X → ℕ → ℕ → ℕ → X → Type 0) (shifts : X → X → Type 0) (g : Grammar) (table : Table) where
   -- moves after moves are moves
-  moved_on : (n m : ℕ) (x y z : X) → IsMovedBy reduces shifts n x y → IsMovedBy reduces shifts m y z → IsMovedBy reduces shifts (n + m) x z
-  moved_on _ m _ _ z (stays x) after = subst (λ (k : ℕ). IsMovedBy reduces shifts k x z) (omega arith) after
-  moved_on _ m _ _ z (reduced_first n x y end p r k first rest) after =
-      let more = reduced_first (n + m) x y z p r k first (moved_on n m y end z rest after) in
+  moved_on : (n m : ℕ) (x y z : X) → IsMovedBy states reduces shifts g table n x y → IsMovedBy states reduces shifts g table m y z
+      → IsMovedBy states reduces shifts g table (n + m) x z
+  moved_on _ m _ _ z (stays x) after = subst (λ (k : ℕ). IsMovedBy states reduces shifts g table k x z) (omega arith) after
+  moved_on _ m _ _ z (reduced_first n x y end t p first rest) after =
+      let more = reduced_first (n + m) x y z t p first (moved_on n m y end z rest after) in
       let sum : suc (n + m) ≡ suc n + m = omega arith in
-      subst (λ (k : ℕ). IsMovedBy reduces shifts k x z) sum more
-  moved_on _ m _ _ z (shifted_first n x y end first rest) after = shifted_first (n + m) x y z first (moved_on n m y end z rest after)
+      subst (λ (k : ℕ). IsMovedBy states reduces shifts g table k x z) sum more
+  moved_on _ m _ _ z (shifted_first n x y end t first rest) after = shifted_first (n + m) x y z t first (moved_on n m y end z rest after)
 
-  module _ (states : X → List ℕ) (cap : ℕ) where
+  module _ (cap : ℕ) where
     -- nothing is done
-    pub unmoved : (n : ℕ) (x : X) → IsMovedWithin states reduces shifts cap n x x
+    pub unmoved : (n : ℕ) (x : X) → IsMovedWithin states reduces shifts g table cap n x x
     unmoved n x = record { count = 0; moved = stays x; cost = costs_none cap n (length (states x)) }
 
     -- something is done, and then more
-    pub moved_more : (a b n : ℕ) (x y z : X) → a + b ≤ n → IsMovedWithin states reduces shifts cap a x y → IsMovedWithin states reduces shifts cap b y z
-        → IsMovedWithin states reduces shifts cap n x z
+    pub moved_more : (a b n : ℕ) (x y z : X) → a + b ≤ n → IsMovedWithin states reduces shifts g table cap a x y
+        → IsMovedWithin states reduces shifts g table cap b y z → IsMovedWithin states reduces shifts g table cap n x z
     moved_more a b n x y z fits first next = record {
       count = first.count + next.count;
       moved = moved_on first.count next.count x y z first.moved next.moved;
       cost = costs_both cap a b n first.count next.count (length (states x)) (length (states y)) (length (states z)) fits first.cost next.cost;
     }
 
-  module _ (states : X → List ℕ) (g : Grammar) (table : Table) (cap t : ℕ) where
+  module _ (cap t : ℕ) where
     -- reductions are moves
-    reductions_move : (old : X) (prods : List ℕ) (new : X) → StackReducesBy states reduces g table t old prods new → IsMovedBy reduces shifts (length prods) old new
-    reductions_move old [] new h = subst (IsMovedBy reduces shifts 0 old) h (stays old)
-    reductions_move old (p ∷ prods) new h =
-        reduced_first (length prods) old h.0 new p (rule_of g p) (prod_len g p) h.1.of_rest (reductions_move h.0 prods new h.2)
+    reductions_move : (old : X) (prods : List ℕ) (new : X) → StackReducesBy states reduces g table t old prods new
+        → IsMovedBy states reduces shifts g table (length prods) old new
+    reductions_move old [] new h = subst (λ (x : X). IsMovedBy states reduces shifts g table 0 old x) h (stays old)
+    reductions_move old (p ∷ prods) new h = reduced_first (length prods) old h.0 new t p h.1 (reductions_move h.0 prods new h.2)
 
     -- and so are all that are made at a token
     pub settled_moves : (old : X) (count : ℕ) (new : X) → IsStackSettledBy states reduces g table cap t old count new
-        → IsMovedWithin states reduces shifts cap 1 old new
+        → IsMovedWithin states reduces shifts g table cap 1 old new
     settled_moves old count new h = record {
       count = length h.of_states.prods;
       moved = reductions_move old h.of_states.prods new h.by;
@@ -91,16 +80,16 @@ module _ {X : Type 0} (reduces : X → ℕ → ℕ → ℕ → X → Type 0) (sh
 
     -- with the shift after them
     pub fed_moves : (old : X) (fed : Bool) (new : X) → IsStackFedBy states reduces shifts g table cap t old fed new
-        → IsMovedWithin states reduces shifts cap 1 old new
+        → IsMovedWithin states reduces shifts g table cap 1 old new
     fed_moves old true new h =
         let by = h.settles.of_states in
         let higher : length (states new) ≡ length (states h.settled) + 1 =
         ap (λ (l : List ℕ). length l) h.pushed ∙ length-append (states h.settled) (h.next ∷ []) in
-        let shift = shifted_first 0 h.settled new new h.of_rest (stays new) in
         let none : length by.prods + 0 ≡ length by.prods = omega arith in
+        let shift = shifted_first 0 h.settled new new t (record { next = h.next; does = h.does; pushed = h.pushed; of_rest = h.of_rest }) (stays new) in
         record {
           count = length by.prods;
-          moved = subst (λ (k : ℕ). IsMovedBy reduces shifts k old new) none
+          moved = subst (λ (k : ℕ). IsMovedBy states reduces shifts g table k old new) none
               (moved_on (length by.prods) 0 old h.settled new (reductions_move old by.prods h.settled h.settles.by) shift);
           cost = costs_one cap (length by.prods) (length (states old)) (length (states h.settled)) (length (states new)) by.by_loss (omega (arith, higher));
         }
@@ -136,12 +125,3 @@ module _ {X : Type 0} (reduces : X → ℕ → ℕ → ℕ → X → Type 0) (sh
               let same = settles_one_way g table (end_token g) (states old) ends.prods by.of_states.prods ends.settled (states new) ends.settles by.of_states.settles in
               exact.1 (top ∙ subst (λ (st : List ℕ). top_action table (end_token g) st ≡ Accepts) same.1 ends.action)),
         )
-
--- moves of an overlay keep its base
-moves_keep_base : (n : ℕ) (x y : Overlaid) → IsMovedBy (λ old p r n new. OverlayReduces old n new) OverlayShifts n x y → y.base ≡ x.base
-moves_keep_base _ _ _ (stays x) = refl
-moves_keep_base _ _ _ (reduced_first n x y z p r k first rest) = moves_keep_base n y z rest ∙ first.base
-moves_keep_base _ _ _ (shifted_first n x y z first rest) = moves_keep_base n y z rest ∙ first.base
-
-pub base_stays : (cap tokens : ℕ) (x y : Overlaid) → IsMovedWithin overlaid (λ old p r n new. OverlayReduces old n new) OverlayShifts cap tokens x y → y.base ≡ x.base
-base_stays cap tokens x y within = moves_keep_base within.count x y within.moved

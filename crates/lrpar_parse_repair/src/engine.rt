@@ -7,7 +7,6 @@ ghost use Rattle.lrpar_table_stacks.specs.Expected.{AcceptsAtEnd};
 ghost use Rattle.lrpar_table_stacks.specs.Stack.{IsStack};
 ghost use Rattle.lrpar_parse_lexemes.specs.Views.{token_by};
 ghost use Rattle.lrpar_parse_repair.specs.Asked.{HaveTokens};
-ghost use Rattle.lrpar_parse_repair.specs.Moves.{IsMovedWithin};
 ghost use Rattle.lrpar_parse_repair.specs.PlainSteps.{plain_step};
 ghost use Rattle.lrpar_parse_repair.specs.Sequences.{PlainInsert, PlainShift, IsTokenFed};
 
@@ -31,7 +30,7 @@ pub struct Engine<'a, StorageT: StorageIndex, LexemeT> {
 }
 
 impl<'a, StorageT: StorageIndex, LexemeT: Lexeme<StorageT>> Engine<'a, StorageT, LexemeT> {
-    ghost use Rattle.lrpar_parse_repair.specs.EngineView.{GoesOnFrom, IsTakenBy};
+    ghost use Rattle.lrpar_parse_repair.specs.EngineView.{GoesOnFrom, IsMovedFor, IsTakenBy};
 
     /// The engine of these. Takes no memory.
     pub fn new(checked: &'a ParserData<StorageT>, lexemes: &'a [LexemeT], shifts: usize) -> Self
@@ -59,7 +58,7 @@ impl<'a, StorageT: StorageIndex, LexemeT: Lexeme<StorageT>> Engine<'a, StorageT,
         requires within { place ≤ length self.now.lexemes.now }
         ensures goes_on { IfOk result (λ goes_on. IsTrue goes_on ↔ GoesOnFrom StorageT.index LexemeT.parts self.now (S.states stack.old) place) }
         ensures stack { IsStack self.now.checked.now.table (S.states stack.new) }
-        ensures moved { OnOk result (IsMovedWithin S.states S.reduces S.shifts self.now.checked.now.cap self.now.shifts stack.old stack.new) }
+        ensures moved { OnOk result (IsMovedFor self.now S.states S.reduces S.shifts self.now.shifts stack.old stack.new) }
     {
         let mut at = place;
         'lexemes: for _ in 0..self.shifts {
@@ -87,7 +86,7 @@ impl<'a, StorageT: StorageIndex, LexemeT: Lexeme<StorageT>> Engine<'a, StorageT,
         ensures taken { IfOk result (IsTakenBy StorageT.index LexemeT.parts self.now
             (S.states stack.old) place (plain_step StorageT.index step) (S.states stack.new)) }
         ensures stack { IsStack self.now.checked.now.table (S.states stack.new) }
-        ensures moved { OnOk result (IsMovedWithin S.states S.reduces S.shifts self.now.checked.now.cap 1 stack.old stack.new) }
+        ensures moved { OnOk result (IsMovedFor self.now S.states S.reduces S.shifts 1 stack.old stack.new) }
     {
         match step {
             RepairStep::Insert(token) => self.insert(stack, place, token),
@@ -114,10 +113,13 @@ impl<'a, StorageT: StorageIndex, LexemeT: Lexeme<StorageT>> Engine<'a, StorageT,
         ensures taken { IfOk result (IsTakenBy StorageT.index LexemeT.parts self.now
             (S.states stack.old) place (PlainInsert (StorageT.index token.0)) (S.states stack.new)) }
         ensures stack { IsStack self.now.checked.now.table (S.states stack.new) }
-        ensures moved { OnOk result (IsMovedWithin S.states S.reduces S.shifts self.now.checked.now.cap 1 stack.old stack.new) }
+        ensures moved { OnOk result (IsMovedFor self.now S.states S.reduces S.shifts 1 stack.old stack.new) }
     {
         let end = self.checked.grm().eof_token_idx();
-        if usize::from(token) < usize::from(end) && self.feed(stack, token)? {
+        if usize::from(token) >= usize::from(end) {
+            return Ok(None);
+        }
+        if self.feed(stack, token)? {
             Ok(Some(place))
         } else {
             Ok(None)
@@ -137,7 +139,7 @@ impl<'a, StorageT: StorageIndex, LexemeT: Lexeme<StorageT>> Engine<'a, StorageT,
         ensures taken { IfOk result (IsTakenBy StorageT.index LexemeT.parts self.now
             (S.states stack.old) place PlainShift (S.states stack.new)) }
         ensures stack { IsStack self.now.checked.now.table (S.states stack.new) }
-        ensures moved { OnOk result (IsMovedWithin S.states S.reduces S.shifts self.now.checked.now.cap 1 stack.old stack.new) }
+        ensures moved { OnOk result (IsMovedFor self.now S.states S.reduces S.shifts 1 stack.old stack.new) }
     {
         let Some(lexeme) = self.lexemes.get(place) else {
             return Ok(None);
@@ -160,7 +162,7 @@ impl<'a, StorageT: StorageIndex, LexemeT: Lexeme<StorageT>> Engine<'a, StorageT,
         requires stack { IsStack self.now.checked.now.table (S.states stack.old) }
         ensures fed { IfOk result (IsTokenFed self.now.checked.now.grammar self.now.checked.now.table (StorageT.index token.0) (S.states stack.old) (S.states stack.new)) }
         ensures stack { IsStack self.now.checked.now.table (S.states stack.new) }
-        ensures moved { OnOk result (IsMovedWithin S.states S.reduces S.shifts self.now.checked.now.cap 1 stack.old stack.new) }
+        ensures moved { OnOk result (IsMovedFor self.now S.states S.reduces S.shifts 1 stack.old stack.new) }
     {
         // A checked table has the grammar's tokens.
         let _table = self.checked.stable();
@@ -173,7 +175,7 @@ impl<'a, StorageT: StorageIndex, LexemeT: Lexeme<StorageT>> Engine<'a, StorageT,
         requires stack { IsStack self.now.checked.now.table (S.states stack.old) }
         ensures accepts { IfOk result (λ accepts. IsTrue accepts ↔ AcceptsAtEnd self.now.checked.now.grammar self.now.checked.now.table (S.states stack.old)) }
         ensures stack { IsStack self.now.checked.now.table (S.states stack.new) }
-        ensures moved { OnOk result (IsMovedWithin S.states S.reduces S.shifts self.now.checked.now.cap 1 stack.old stack.new) }
+        ensures moved { OnOk result (IsMovedFor self.now S.states S.reduces S.shifts 1 stack.old stack.new) }
     {
         // Checked: the table has the grammar's end token.
         let (_table, end) = (self.checked.stable(), self.checked.grm().eof_token_idx());

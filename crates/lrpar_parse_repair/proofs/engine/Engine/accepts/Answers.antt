@@ -13,7 +13,7 @@ returns-clause-accepts g c =
     let kind = g.S.StateStack in
     let t = index c.eof_token_idx-end.result.0 in
     let end : t ≡ end_token d.grammar = rw c.grm.ensures at c.eof_token_idx-end.ensures in
-    stack_accepts kind.reduces g.S.ShiftStack.shifts kind.states d.grammar d.table d.cap t index c.args.stack.now _ c.settle_on.new.stack _ c.is_accept.result
+    stack_accepts kind.states kind.reduces g.S.ShiftStack.shifts d.grammar d.table d.cap t index c.args.stack.now _ c.settle_on.new.stack _ c.is_accept.result
     c.in_ok-settled.ensures.settled end c.in_ok-settled.ensures.action c.is_accept.ensures
 
 pub returns-clause-moved : goal.returns-clause-moved
@@ -21,5 +21,5 @@ returns-clause-moved g c =
     let index = g.StorageT.StorageIndex.index in
     let d = c.args.self.now.checked.now in
     let kind = g.S.StateStack in
-    settled_moves kind.reduces g.S.ShiftStack.shifts kind.states d.grammar d.table d.cap (index c.eof_token_idx-end.result.0) c.args.stack.now _ c.settle_on.new.stack
+    settled_moves kind.states kind.reduces g.S.ShiftStack.shifts d.grammar d.table d.cap (index c.eof_token_idx-end.result.0) c.args.stack.now _ c.settle_on.new.stack
     c.in_ok-settled.ensures.settled

@@ -1,4 +1,4 @@
-use Rattle.std.proofs.Common.{◌≡◌, ◌≤◌, ◌-◌, ◌↔◌, length}
+use Rattle.std.proofs.Common.{◌≤◌, ◌-◌, ◌↔◌, length}
 use Rattle.lrpar_table_stacks.specs.Stack.{IsStack}
 use Rattle.lrpar_parse_repair.specs.Moves.{IsMovedWithin}
 use Rattle.lrpar_parse_repair.specs.Sequences.{CanGoOn}
@@ -14,6 +14,6 @@ invariant-lexemes g l =
     record {
       stack : IsStack d.table (kind.states l.stack);
       within : l.at ≤ length l.self.lexemes.now;
-      moved : IsMovedWithin kind.states kind.reduces g.S.ShiftStack.shifts d.cap l.counter l.fn.stack l.stack;
+      moved : IsMovedWithin kind.states kind.reduces g.S.ShiftStack.shifts d.grammar d.table d.cap l.counter l.fn.stack l.stack;
       left : goes_on (l.self.shifts - l.counter) (kind.states l.stack) l.at ↔ goes_on l.self.shifts (kind.states l.fn.stack) l.fn.place;
     }

@@ -10,7 +10,7 @@ returns-clause-fed g c =
     let d = c.args.self.now.checked.now in
     let kind = g.S.StateStack in
     IfOk-weaker c.feed_on.result _ _
-    (λ fed h. stack_token_fed kind.reduces g.S.ShiftStack.shifts kind.states d.grammar d.table d.cap (g.StorageT.StorageIndex.index c.args.token.0) c.args.stack.now fed c.feed_on.new.stack h)
+    (λ fed h. stack_token_fed kind.states kind.reduces g.S.ShiftStack.shifts d.grammar d.table d.cap (g.StorageT.StorageIndex.index c.args.token.0) c.args.stack.now fed c.feed_on.new.stack h)
     c.feed_on.ensures.fed
 
 pub returns-clause-moved : goal.returns-clause-moved
@@ -18,5 +18,5 @@ returns-clause-moved g c =
     let d = c.args.self.now.checked.now in
     let kind = g.S.StateStack in
     on_ok c.feed_on.result
-    (λ fed h. fed_moves kind.reduces g.S.ShiftStack.shifts kind.states d.grammar d.table d.cap (g.StorageT.StorageIndex.index c.args.token.0) c.args.stack.now fed c.feed_on.new.stack h)
+    (λ fed h. fed_moves kind.states kind.reduces g.S.ShiftStack.shifts d.grammar d.table d.cap (g.StorageT.StorageIndex.index c.args.token.0) c.args.stack.now fed c.feed_on.new.stack h)
     c.feed_on.ensures.fed

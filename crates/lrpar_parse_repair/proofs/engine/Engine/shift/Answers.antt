@@ -2,6 +2,7 @@ use Rattle.std.proofs.Common.{◌≡◌, ◌<◌, ap, arith, length, refl, sym}
 use Rattle.std.proofs.lemmas.Bool.{ltb-true}
 use Rattle.std.proofs.lemmas.Option.{slice_get_read}
 use Rattle.lrpar_grammar.specs.Grammar.{end_token}
+use Rattle.lrpar_parse_repair.proofs.EngineLemmas.{unmoved}
 use Rattle.lrpar_parse_repair.proofs.SequenceLemmas.{shift_fails, shift_taken}
 use Rattle.lrpar_parse_repair.proofs.engine.Engine.shift.Goals as goal
 
@@ -37,3 +38,9 @@ returns-else-branch-clause-taken g c =
     let is = slice_get_read lexemes (length lexemes) i x refl (ltb-true i (length lexemes) (sym c.in-Some.ensures.lookup.0)) c.in-Some.ensures.lookup.1 in
     shift_fails (λ x. index (g.LexemeT.Lexeme.parts x).token) d.grammar d.table lexemes _ i x _ _ _ is (ap index c.tok_id.ensures.token)
     c.in_ok-feed.ensures.fed c.if-branch.false
+
+pub returns-in_default-clause-moved : goal.returns-in_default-clause-moved
+returns-in_default-clause-moved g c =
+    let d = c.args.self.now.checked.now in
+    let kind = g.S.StateStack in
+    unmoved kind.states kind.reduces g.S.ShiftStack.shifts d.grammar d.table d.cap 1 c.args.stack.now
