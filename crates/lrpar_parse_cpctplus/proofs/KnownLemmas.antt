@@ -65,7 +65,7 @@ module _ {X : Type 0} (token : X → ℕ) (costs : List ℕ) (at : Asked X) wher
   at_first (suc d) level = absurd (omega (arith, level.low))
 
   -- no link leads from it to itself
-  no_link : IsStop token at → AreCosts costs → (link : PlainLink) → ¬ (IsLinkAmong token costs at (root_of at ∷ []) link)
+  no_link : IsStop token at → AreCosts costs → (link : PlainLink) → ¬ (IsLinkAmong token costs at 1 (root_of at ∷ []) link)
   no_link stop each link h =
       let root = root_of at in
       let tail = (root_only link.from h.0 h.2).1 in

@@ -149,16 +149,16 @@ module _ {X : Type 0} (token : X → ℕ) (costs : List ℕ) (at : Asked X) (nod
             moves_there shifts_there
 
         -- the links are those of what is there
-        old_link : (link : PlainLink) → IsLinkAmong token costs at nodes link → IsLinkAmong token costs at end link
+        old_link : (link : PlainLink) → IsLinkAmong token costs at (length firsts) nodes link → IsLinkAmong token costs at (length firsts) end link
         old_link link h = (h.0, h.1, stays link.from h.0 h.2, stays link.to h.1 h.3, h.4)
 
         new_link : (link : PlainLink) → length nodes ≤ link.to → IsAmong attempts link.from link.step ⊎ IsShiftWithin (length nodes) (length end) link.from link.step
-            → IsStepAmong token at end link → IsLinkAmong token costs at end link
+            → IsStepAmong token at end link → IsLinkAmong token costs at (length firsts) end link
         new_link link above done among =
             let u = among.0 in
             let v = among.1 in
             let head = grown.growing.level link.to v above among.3 in
-            elim done as (λ _. IsLinkAmong token costs at end link) [
+            elim done as (λ _. IsLinkAmong token costs at (length firsts) end link) [
               | inl listed ↦
                   let by = (tried.exact (record { from = link.from; step = link.step })).0 listed in
                   let same = one_at end link.from by.0 u (stays link.from by.0 by.1) among.2 in
@@ -195,18 +195,18 @@ module _ {X : Type 0} (token : X → ℕ) (costs : List ℕ) (at : Asked X) (nod
                   ]
             ]
 
-        has_link : (link : PlainLink) → IsLinkAmong token costs at end link → Contains end_links link
+        has_link : (link : PlainLink) → IsLinkAmong token costs at (length firsts) end link → Contains end_links link
         has_link link h =
             let u = h.0 in
             let v = h.1 in
-            let known = known_at link.to v h.3 in
-            let e = known.0 in
-            let from = links_known token costs at (IsKnownAt end new_firsts) (length firsts + 1) knows u v link.step e known.1 h.4 in
+            let level_to = has_level new_firsts (length end) levels link.to (slice_get_within end link.to v h.3) in
+            let e = level_to.0 in
+            let from = links_known token costs at (IsKnownAt end new_firsts) (length firsts + 1) knows u v link.step e (link.to, h.3, level_to.1) h.4 in
             let d = from.0 in
             let number = grown.growing.once from.1.0 link.from u from.1.1 h.2 in
             let level = subst (λ (n : ℕ). IsAt new_firsts (length end) d n) number from.1.2 in
             let below = slice_get_within end link.from u h.2 in
-            elim (level_cases e link.to (slice_get_within end link.to v h.3) known.1.2) as (λ _. Contains end_links link) [
+            elim (level_cases e link.to (slice_get_within end link.to v h.3) level_to.1) as (λ _. Contains end_links link) [
               | inl old ↦
                   elim (level_cases d link.from below level) as (λ _. Contains end_links link) [
                     | inl tail ↦
@@ -232,7 +232,7 @@ module _ {X : Type 0} (token : X → ℕ) (costs : List ℕ) (at : Asked X) (nod
               least = subst (λ (m : ℕ). CostsAtLeast token costs at m) (sym long) least;
               linked = λ link. (
                 (λ h.
-                    elim (grown.links_from link h) as (λ _. IsLinkAmong token costs at end link) [
+                    elim (grown.links_from link h) as (λ _. IsLinkAmong token costs at (length firsts) end link) [
                       | inl old ↦ old_link link ((round.linked link).0 old)
                       | inr new ↦ new_link link new.0 new.1 new.2
                     ]),

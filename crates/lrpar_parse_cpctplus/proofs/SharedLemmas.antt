@@ -1,6 +1,7 @@
 -- A graph over stacks that are added: the engine's moves add stacks, and a step from a configuration by its numbers is one from what they mean.
 use Rattle.std.proofs.Common.{◌≡◌, ◌<◌, ◌≤◌, ◌+◌, ◌-◌, ◌*◌, ◌∙◌, ◌⊎◌, inl, inr, ℕ, List, [], ◌∷◌, ◌++◌, Option, Some, None, length, slice_get, refl, sym, subst, ap, arith, append-nil, append_assoc}
 use Rattle.std.proofs.lemmas.List.{length_push}
+use Rattle.lrpar_grammar.specs.Grammar.{Grammar}
 use Rattle.lrpar_table_rows.specs.Table.{Table}
 use Rattle.lrpar_table_stacks.specs.SharedStacks.{AreApart, Extends, Shared, current_stack, stack_at}
 use Rattle.lrpar_table_stacks.specs.Stack.{IsStack}
@@ -30,14 +31,15 @@ extends_both old mid new one two = (
 )
 
 -- so do the moves of an engine
-moves_extend : (n : ℕ) (old new : Shared) → IsMovedBy (λ x p r k y. Extends x y) Extends n old new → Extends old new
-moves_extend _ _ _ (stays x) = extends_none x
-moves_extend _ _ _ (reduced_first n x y z p r k first rest) = extends_both x y z first (moves_extend n y z rest)
-moves_extend _ _ _ (shifted_first n x y z first rest) = extends_both x y z first (moves_extend n y z rest)
+moves_extend : (states : Shared → List ℕ) (g : Grammar) (table : Table) (n : ℕ) (old new : Shared)
+    → IsMovedBy states (λ x p r k y. Extends x y) Extends g table n old new → Extends old new
+moves_extend states g table _ _ _ (stays x) = extends_none x
+moves_extend states g table _ _ _ (reduced_first n x y z t p first rest) = extends_both x y z first.of_rest (moves_extend states g table n y z rest)
+moves_extend states g table _ _ _ (shifted_first n x y z t first rest) = extends_both x y z first.of_rest (moves_extend states g table n y z rest)
 
-pub moved_extends : (states : Shared → List ℕ) (cap tokens : ℕ) (old new : Shared)
-    → IsMovedWithin states (λ x p r k y. Extends x y) Extends cap tokens old new → Extends old new
-moved_extends states cap tokens old new moved = moves_extend moved.count old new moved.moved
+pub moved_extends : (states : Shared → List ℕ) (g : Grammar) (table : Table) (cap tokens : ℕ) (old new : Shared)
+    → IsMovedWithin states (λ x p r k y. Extends x y) Extends g table cap tokens old new → Extends old new
+moved_extends states g table cap tokens old new moved = moves_extend states g table moved.count old new moved.moved
 
 -- a level begins: the cost of what is added
 pub level_cost : (firsts : List ℕ) (count : ℕ) → length (firsts ++ count ∷ []) - 1 ≡ length firsts

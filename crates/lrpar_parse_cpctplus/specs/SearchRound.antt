@@ -134,7 +134,7 @@ module _ {X : Type 0} (token : X → ℕ) (costs : List ℕ) (at : Asked X) wher
     pub each : (d n : ℕ) (v : Configured) → IsAt firsts (length nodes) d n → slice_get nodes n ≡ Some v → IsDistance token costs at v d
     pub all : (v : Configured) → IsNearer token costs at (length firsts) v → (n : ℕ) × (slice_get nodes n ≡ Some v)
     pub least : CostsAtLeast (length firsts)
-    pub linked : (link : PlainLink) → Contains links link ↔ IsLinkAmong token costs at nodes link
+    pub linked : (link : PlainLink) → Contains links link ↔ IsLinkAmong token costs at (length firsts) nodes link
     pub links_once : AreOnce links
 
   -- The graph while what is at distance c is added: all that is nearer is there, and numbers from the first one on are at distance c.

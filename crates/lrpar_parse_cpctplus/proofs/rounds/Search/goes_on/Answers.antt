@@ -29,5 +29,5 @@ returns-clause-goes_on g c =
 pub returns-clause-extends : goal.returns-clause-extends
 returns-clause-extends g c =
     on_ok_weaker c.can_go_on.result
-    (λ moved. extends_same c.args.stacks.now c.go_to.new.stacks c.can_go_on.new.stack c.go_to.ensures.stacks (moved_extends _ _ _ c.go_to.new.stacks c.can_go_on.new.stack moved))
+    (λ moved. extends_same c.args.stacks.now c.go_to.new.stacks c.can_go_on.new.stack c.go_to.ensures.stacks (moved_extends _ _ _ _ _ c.go_to.new.stacks c.can_go_on.new.stack moved))
     c.can_go_on.ensures.moved
