@@ -25,7 +25,7 @@ use Rattle.lrpar_parse_cpctplus.specs.Levels.{first_of}
 use Rattle.lrpar_parse_cpctplus.specs.SearchRound.{PlainAttempt, Adds, AreOnce, IsAttemptBy, IsAttemptOf, IsAttemptWithin, IsDeleteOf, IsInsertOf, IsTried}
 use Rattle.lrpar_parse_cpctplus.proofs.AttemptLemmas.{attempt_weight}
 use Rattle.lrpar_parse_cpctplus.proofs.GrowLemmas.{one_at}
-use Rattle.lrpar_parse_cpctplus.proofs.NumberLemmas.{adds_both, adds_none, adds_one, adds_same, contains_none, take_before, take_cases, take_once, take_this}
+use Rattle.lrpar_parse_cpctplus.proofs.NumberLemmas.{adds_both, adds_none, adds_one, adds_same, at_contained, contains_at, contains_none, single, take_before, take_cases, take_once, take_this}
 
 abbrev pub attempt_with : ℕ → PlainStep → PlainAttempt
 attempt_with from step = record { from = from; step = step }
@@ -71,52 +71,53 @@ tokens_read index table s ts actions paired are exact t =
     )
 
 -- the Inserts, by tokens
-module _ (costs : List ℕ) (end : ℕ) (tokens : List ℕ) (from weight : ℕ) where
-  pub inserts_begin : (xs : List PlainAttempt) → Adds (IsInsertOf costs end (take 0 tokens) from weight) xs xs
-  inserts_begin xs = adds_none (IsInsertOf costs end (take 0 tokens) from weight) xs (λ x h. contains_none h.1.0 h.1.2)
+module _ (costs : List ℕ) (end from weight : ℕ) where
+  abbrev Inserted : List ℕ → PlainAttempt → Type 0
+  Inserted tokens = IsInsertOf costs end tokens from weight
 
-  module _ (k t : ℕ) (below : k < length tokens) (is : t ≡ get_or tokens k t) (old new : List PlainAttempt)
-      (so_far : Adds (IsInsertOf costs end (take k tokens) from weight) old new) where
-    more : (x : PlainAttempt) → IsInsertOf costs end (take k tokens) from weight x → IsInsertOf costs end (take (k + 1) tokens) from weight x
-    more x h = (h.0, (h.1.0, h.1.1, take_before tokens k t h.1.0 below h.1.2, h.1.3, h.1.4))
+  -- one of them
+  only : (t u : ℕ) → Contains (t ∷ []) u → t ≡ u
+  only t u h = let there = at_contained (t ∷ []) u h in (single t u there.0 there.1).1
 
-    pub inserts_skip : ¬ ((t < end) × (token_cost costs t ≡ weight)) → Adds (IsInsertOf costs end (take (k + 1) tokens) from weight) old new
-    inserts_skip not =
-        adds_same (IsInsertOf costs end (take k tokens) from weight) (IsInsertOf costs end (take (k + 1) tokens) from weight) old new more
+  pub insert_none : (t : ℕ) (xs : List PlainAttempt) → ¬ ((t < end) × (token_cost costs t ≡ weight)) → Adds (Inserted (t ∷ [])) xs xs
+  insert_none t xs not =
+      adds_none (Inserted (t ∷ [])) xs (λ x h.
+      not (subst (λ (u : ℕ). (u < end) × (token_cost costs u ≡ weight)) (sym (only t h.1.0 h.1.2)) (h.1.3, h.1.4)))
+
+  pub insert_one : (t : ℕ) (xs : List PlainAttempt) → t < end → token_cost costs t ≡ weight
+      → Adds (Inserted (t ∷ [])) xs (xs ++ attempt_with from (PlainInsert t) ∷ [])
+  insert_one t xs low priced =
+      adds_one (Inserted (t ∷ [])) xs (attempt_with from (PlainInsert t)) (refl, (t, refl, contains_at (t ∷ []) 0 t refl, low, priced))
+      (λ y h. same_attempt y from (PlainInsert t) h.0 (h.1.1 ∙ ap (λ (u : ℕ). PlainInsert u) (sym (only t h.1.0 h.1.2))))
+
+  module _ (tokens : List ℕ) where
+    pub inserts_begin : (xs : List PlainAttempt) → Adds (Inserted (take 0 tokens)) xs xs
+    inserts_begin xs = adds_none (Inserted (take 0 tokens)) xs (λ x h. contains_none h.1.0 h.1.2)
+
+    pub inserts_more : (k t : ℕ) (xs ys zs : List PlainAttempt) → AreOnce tokens → k < length tokens → t ≡ get_or tokens k t
+        → Adds (Inserted (take k tokens)) xs ys → Adds (Inserted (t ∷ [])) ys zs → Adds (Inserted (take (k + 1) tokens)) xs zs
+    inserts_more k t xs ys zs once below is so_far own =
+        let apart : (x : PlainAttempt) → Inserted (take k tokens) x → ¬ (Inserted (t ∷ []) x) = λ x a b.
+        let same : PlainInsert a.1.0 ≡ PlainInsert b.1.0 = sym a.1.1 ∙ b.1.1 in
+        let one : a.1.0 ≡ b.1.0 = cc in
+        take_once tokens k t once below is (subst (Contains (take k tokens)) (one ∙ sym (only t b.1.0 b.1.2)) a.1.2) in
+        adds_same (λ x. Inserted (take k tokens) x ⊎ Inserted (t ∷ []) x) (Inserted (take (k + 1) tokens)) xs zs
         (λ x h.
-        elim (take_cases tokens k t h.1.0 below is h.1.2) as (λ _. IsInsertOf costs end (take k tokens) from weight x) [
-          | inl before ↦ (h.0, (h.1.0, h.1.1, before, h.1.3, h.1.4))
-          | inr same ↦ absurd (not (subst (λ (u : ℕ). (u < end) × (token_cost costs u ≡ weight)) (sym same) (h.1.3, h.1.4)))
+        elim h as (λ _. Inserted (take (k + 1) tokens) x) [
+          | inl a ↦ (a.0, (a.1.0, a.1.1, take_before tokens k t a.1.0 below a.1.2, a.1.3, a.1.4))
+          | inr b ↦
+              let here = subst (Contains (take (k + 1) tokens)) (only t b.1.0 b.1.2) (take_this tokens k t below is) in
+              (b.0, (b.1.0, b.1.1, here, b.1.3, b.1.4))
         ])
-        so_far
-
-    pub inserts_more : AreOnce tokens → t < end → token_cost costs t ≡ weight
-        → Adds (IsInsertOf costs end (take (k + 1) tokens) from weight) old (new ++ attempt_with from (PlainInsert t) ∷ [])
-    inserts_more once low priced =
-        let this : PlainAttempt → Type 0 = λ x. attempt_with from (PlainInsert t) ≡ x in
-        let one = adds_one this new (attempt_with from (PlainInsert t)) refl (λ y e. e) in
-        let apart : (x : PlainAttempt) → IsInsertOf costs end (take k tokens) from weight x → ¬ (this x) = λ x h e.
-        let same : PlainInsert h.1.0 ≡ PlainInsert t = sym h.1.1 ∙ ap (λ (y : PlainAttempt). y.step) (sym e) in
-        let token : h.1.0 ≡ t = cc in
-        take_once tokens k t once below is (subst (Contains (take k tokens)) token h.1.2) in
-        let both = adds_both (IsInsertOf costs end (take k tokens) from weight) this old new (new ++ attempt_with from (PlainInsert t) ∷ []) so_far one apart in
-        adds_same (λ x. IsInsertOf costs end (take k tokens) from weight x ⊎ this x) (IsInsertOf costs end (take (k + 1) tokens) from weight)
-        old (new ++ attempt_with from (PlainInsert t) ∷ [])
         (λ x h.
-        elim h as (λ _. IsInsertOf costs end (take (k + 1) tokens) from weight x) [
-          | inl a ↦ more x a
-          | inr e ↦ subst (IsInsertOf costs end (take (k + 1) tokens) from weight) e (refl, (t, refl, take_this tokens k t below is, low, priced))
-        ])
-        (λ x h.
-        elim (take_cases tokens k t h.1.0 below is h.1.2) as (λ _. IsInsertOf costs end (take k tokens) from weight x ⊎ this x) [
+        elim (take_cases tokens k t h.1.0 below is h.1.2) as (λ _. Inserted (take k tokens) x ⊎ Inserted (t ∷ []) x) [
           | inl before ↦ inl (h.0, (h.1.0, h.1.1, before, h.1.3, h.1.4))
-          | inr same ↦ inr (same_attempt x from (PlainInsert t) h.0 (h.1.1 ∙ ap (λ (u : ℕ). PlainInsert u) (sym same)))
+          | inr same ↦ inr (h.0, (h.1.0, h.1.1, subst (Contains (t ∷ [])) same (contains_at (t ∷ []) 0 t refl), h.1.3, h.1.4))
         ])
-        both
+        (adds_both (Inserted (take k tokens)) (Inserted (t ∷ [])) xs ys zs so_far own apart)
 
-  pub inserts_end : (n : ℕ) (old new : List PlainAttempt) → length tokens ≤ n → Adds (IsInsertOf costs end (take n tokens) from weight) old new
-      → Adds (IsInsertOf costs end tokens from weight) old new
-  inserts_end n old new past h = subst (λ (l : List ℕ). Adds (IsInsertOf costs end l from weight) old new) (take_all n tokens past) h
+    pub inserts_end : (n : ℕ) (xs ys : List PlainAttempt) → length tokens ≤ n → Adds (Inserted (take n tokens)) xs ys → Adds (Inserted tokens) xs ys
+    inserts_end n xs ys past h = subst (λ (l : List ℕ). Adds (Inserted l) xs ys) (take_all n tokens past) h
 
 module _ {X : Type 0} (token : X → ℕ) (costs : List ℕ) (at : Asked X) where
   -- the Delete

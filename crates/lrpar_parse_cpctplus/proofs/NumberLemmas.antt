@@ -1,7 +1,7 @@
 -- Lists by numbers: that no two numbers have the same, and what is added to a list.
 use Rattle.std.proofs.Common.{◌≡◌, ◌≢◌, ◌<◌, ◌≤◌, ◌+◌, ◌∙◌, ◌⊎◌, inl, inr, ℕ, zero, suc, List, [], ◌∷◌, ◌++◌, Some, length, get_or, slice_get, take, map, refl, sym, subst, ap, arith, append-nil, append_assoc}
 use Rattle.std.specs.List.{AllPairs, Contains}
-use Rattle.std.proofs.lemmas.List.{take_all, take_more}
+use Rattle.std.proofs.lemmas.List.{get_or-map, length-map, take_more}
 use Rattle.std.proofs.lemmas.List.Elements.{Contains-append_cases, Contains-append_left, Contains-append_right, Contains-push, Contains-push_cases}
 use Rattle.std.proofs.lemmas.Option.{get_or_from_slice_get, none-some, same_Some, slice_get-get_or, slice_get_within}
 use Rattle.lrpar_parse_cpctplus.specs.SearchRound.{Adds, AreOnce}
@@ -36,7 +36,7 @@ module _ {A : Type 0} where
   at_within xs ys i x below at =
       elim (at_cases xs ys i x at) as (λ _. slice_get xs i ≡ Some x) [ inl h ↦ h | inr h ↦ absurd (omega (arith, h.1, below)) ]
 
-  single : (x y : A) (k : ℕ) → slice_get (x ∷ []) k ≡ Some y → (k ≡ 0) × (x ≡ y)
+  pub single : (x y : A) (k : ℕ) → slice_get (x ∷ []) k ≡ Some y → (k ≡ 0) × (x ≡ y)
   single x y zero at = (refl, same_Some x y at)
   single x y (suc k) at = absurd (none-some y at)
 
@@ -84,6 +84,9 @@ module _ {A : Type 0} where
       let at = at_contained xs y h in
       let end = at_contained (x ∷ []) y there in
       new at.0 (at.1 ∙ ap (λ (z : A). Some z) (sym (single x y end.0 end.1).1)))
+
+  pub once_more : (xs : List A) (x : A) → AreOnce xs → ¬ (Contains xs x) → AreOnce (xs ++ x ∷ [])
+  once_more xs x once new = once_push xs x once (λ i at. new (contains_at xs i x at))
 
   -- the first elements, and one more
   pub take_cases : (xs : List A) (k : ℕ) (x y : A) → k < length xs → x ≡ get_or xs k x → Contains (take (k + 1) xs) y → Contains (take k xs) y ⊎ (x ≡ y)
@@ -165,3 +168,8 @@ module _ {A : Type 0} where
     (λ x p. subst (λ (l : List A). Contains l x) (sym adds.is) ((adds.exact x).1 p)),
     subst (λ (l : List A). AreOnce l) (sym adds.is) adds.once,
   )
+
+-- an element of an image
+pub mapped_at : {A B : Type 0} (f : A → B) (xs : List A) (k : ℕ) (x : A) → k < length xs → x ≡ get_or xs k x
+    → (k < length (map f xs)) × (f x ≡ get_or (map f xs) k (f x))
+mapped_at f xs k x below is = (omega (arith, below, length-map xs f), ap f is ∙ sym (get_or-map f xs k x (f x) below))

@@ -125,10 +125,22 @@ fn add_weights(costs: &[u8], weights: &mut Vec<u8>) -> Result<(), AllocError>
     ensures added { OnOk result ((w : ℕ) → Contains costs.now w → Contains weights.new.items w) }
 {
     for cost in costs {
-        if !has(weights, *cost) {
-            weights.push(*cost)?;
-        }
+        add_weight(*cost, weights)?;
     }
+    Ok(())
+}
+
+// Adds the weight, if it isn't among these.
+fn add_weight(weight: u8, weights: &mut Vec<u8>) -> Result<(), AllocError>
+    requires { AreOnce weights.old.items }
+    ensures once { OnOk result (AreOnce weights.new.items) }
+    ensures stay { OnOk result ((w : ℕ) → Contains weights.old.items w → Contains weights.new.items w) }
+    ensures added { OnOk result (Contains weights.new.items weight) }
+{
+    if has(weights, weight) {
+        return Ok(());
+    }
+    weights.push(weight)?;
     Ok(())
 }
 

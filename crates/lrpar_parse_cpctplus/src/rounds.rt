@@ -1,5 +1,5 @@
 //! The search at an error point: the configurations, distance by distance, up to the least cost of a repair.
-ghost use Rattle.std.specs.Prelude.{◌≡◌, ◌<◌, ◌≤◌, ◌+◌, ◌↔◌, ℕ, length, map, IfOk, IfSome, IsTrue, OnOk};
+ghost use Rattle.std.specs.Prelude.{◌≡◌, ◌<◌, ◌≤◌, ◌+◌, ◌↔◌, ◌∷◌, [], ℕ, length, map, IfOk, IfSome, IsTrue, OnOk};
 ghost use Rattle.std.specs.List.{Contains};
 ghost use Rattle.std.specs.List.Sorted.{IsStrictlyIncreasing};
 ghost use Rattle.lrpar_grammar.specs.Grammar.{tokens_len};
@@ -189,14 +189,30 @@ impl<'a, 'p, StorageT: StorageIndex, LexemeT: Lexeme<StorageT>> Search<'a, 'p, S
         requires ascending { IsStrictlyIncreasing (map (λ t. StorageT.index t.0) tokens.now) }
         ensures adds { OnOk result (AddsInserts StorageT.index LexemeT.parts self.now (map (λ t. StorageT.index t.0) tokens.now) from weight attempts.old.items attempts.new.items) }
     {
-        let end = usize::from(self.point.data().grm().eof_token_idx());
         for token in tokens {
-            if usize::from(*token) < end && self.cost_of(*token) == weight {
-                attempts.push(Attempt {
-                    from,
-                    step: RepairStep::Insert(*token),
-                })?;
-            }
+            self.add_insert(*token, from, weight, attempts)?;
+        }
+        Ok(())
+    }
+
+    // Adds the Insert of the token, if it isn't the end token and costs as much.
+    fn add_insert(
+        &self,
+        token: TIdx<StorageT>,
+        from: usize,
+        weight: u8,
+        attempts: &mut Vec<Attempt<StorageT>>,
+    ) -> Result<(), AllocError>
+        ensures adds { OnOk result (AddsInserts StorageT.index LexemeT.parts self.now (StorageT.index token.0 ∷ []) from weight attempts.old.items attempts.new.items) }
+    {
+        if usize::from(token) >= usize::from(self.point.data().grm().eof_token_idx()) {
+            return Ok(());
+        }
+        if self.cost_of(token) == weight {
+            attempts.push(Attempt {
+                from,
+                step: RepairStep::Insert(token),
+            })?;
         }
         Ok(())
     }
@@ -211,7 +227,10 @@ impl<'a, 'p, StorageT: StorageIndex, LexemeT: Lexeme<StorageT>> Search<'a, 'p, S
     ) -> Result<(), AllocError>
         ensures adds { OnOk result (AddsDelete StorageT.index LexemeT.parts self.now place from weight attempts.old.items attempts.new.items) }
     {
-        if place < self.point.lexemes().len() && self.cost_of(self.token_at(place)) == weight {
+        if place >= self.point.lexemes().len() {
+            return Ok(());
+        }
+        if self.cost_of(self.token_at(place)) == weight {
             attempts.push(Attempt {
                 from,
                 step: RepairStep::Delete,
