@@ -5,7 +5,8 @@ use Rattle.std.specs.List.{Contains, zip}
 use Rattle.std.specs.List.Sorted.{IsStrictlyIncreasing}
 use Rattle.std.specs.Map.{keys_of}
 use Rattle.std.proofs.lemmas.Bool.{cases_lt}
-use Rattle.std.proofs.lemmas.List.{take_all}
+use Rattle.std.proofs.lemmas.List.{get_or_past, take_all}
+use Rattle.std.proofs.lemmas.List.Elements.{Contains-get_or}
 use Rattle.std.proofs.lemmas.List.Kept.{AllPairs-from_increasing}
 use Rattle.std.proofs.lemmas.Option.{get_or_from_slice_get, slice_get_within}
 use Rattle.lrpar_grammar.specs.Grammar.{end_token}
@@ -22,7 +23,7 @@ use Rattle.lrpar_parse_repair.specs.Sequences.{PlainStep, PlainInsert, PlainDele
 use Rattle.lrpar_parse_cpctplus.specs.Configurations.{Configured, edge_cost}
 use Rattle.lrpar_parse_cpctplus.specs.Costs.{token_cost}
 use Rattle.lrpar_parse_cpctplus.specs.Levels.{first_of}
-use Rattle.lrpar_parse_cpctplus.specs.SearchRound.{PlainAttempt, Adds, AreOnce, IsAttemptBy, IsAttemptOf, IsAttemptWithin, IsDeleteOf, IsInsertOf, IsTried}
+use Rattle.lrpar_parse_cpctplus.specs.SearchRound.{PlainAttempt, Adds, AreOnce, AreWeights, IsAttemptBy, IsAttemptOf, IsAttemptWithin, IsDeleteOf, IsInsertOf, IsTried}
 use Rattle.lrpar_parse_cpctplus.proofs.AttemptLemmas.{attempt_weight}
 use Rattle.lrpar_parse_cpctplus.proofs.GrowLemmas.{one_at}
 use Rattle.lrpar_parse_cpctplus.proofs.NumberLemmas.{adds_both, adds_none, adds_one, adds_same, at_contained, contains_at, contains_none, single, take_before, take_cases, take_once, take_this}
@@ -47,6 +48,17 @@ once_ascending xs up i j x a b =
         | inr same ↦ omega (arith, past, same)
       ]
     ]
+
+-- what tokens cost: 1, and what is listed
+pub weights_are : (costs weights : List ℕ) → AreOnce weights → Contains weights 1 → ((w : ℕ) → Contains costs w → Contains weights w) → AreWeights costs weights
+weights_are costs weights once one all = record {
+  some = λ t.
+      elim (cases_lt t (length costs)) as (λ _. Contains weights (token_cost costs t)) [
+        | inl below ↦ all (token_cost costs t) (Contains-get_or costs t 1 below)
+        | inr past ↦ subst (Contains weights) (sym (get_or_past costs t 1 past)) one
+      ];
+  once = once;
+}
 
 -- the tokens of a row are those with an action
 pub tokens_read : {S : Type 0} (index : S → ℕ) (table : Table) (s : ℕ) (ts : List (TIdx S)) (actions : List (Action S)) → length actions ≡ length ts

@@ -1,5 +1,5 @@
 -- The search of the program, as contracts see it; `index` is the number that a storage number represents, and `parts` are those of a lexeme.
-use Rattle.std.specs.Prelude.{◌≡◌, ◌<◌, ◌≤◌, ◌+◌, ◌-◌, ◌++◌, ℕ, Bool, true, false, List, length, map, Option, Some, None, Vec}
+use Rattle.std.specs.Prelude.{◌≡◌, ◌<◌, ◌≤◌, ◌+◌, ◌-◌, ◌⊎◌, ◌++◌, ◌∷◌, [], ℕ, Bool, true, false, List, length, map, Option, Some, None, Vec}
 use Rattle.std.specs.List.{Contains}
 use Rattle.std.specs.Option.{option_map}
 use Rattle.lrpar_grammar.specs.Grammar.{end_token}
@@ -67,6 +67,13 @@ module _ {S X : Type 0} (index : S → ℕ) (parts : X → LexemeParts S) (searc
   -- so far it goes on after the step, if it can
   abbrev pub IsReachBy : Shared → Configuration → PlainStep → Option ℕ → Type 0
   IsReachBy stacks at step far = IsReach (token_by index parts) search.point.now (configured_at stacks.stacks at) step far
+
+  -- the step is added with how far a parse goes on after it, or it can't go on then
+  abbrev pub AddsEnding : Shared → Configuration → Attempt S → List (Ending S) → List (Ending S) → Type 0
+  AddsEnding stacks at attempt old new =
+      (IsReachBy stacks at (plain_step index attempt.step) None × (plain_endings index new ≡ plain_endings index old))
+      ⊎ ((far : ℕ) × IsReachBy stacks at (plain_step index attempt.step) (Some far)
+      × (plain_endings index new ≡ plain_endings index old ++ record { reach = far; from = attempt.from; step = plain_step index attempt.step } ∷ []))
 
   -- the Inserts of those of the tokens that cost as much are added
   abbrev pub AddsInserts : List ℕ → ℕ → ℕ → List (Attempt S) → List (Attempt S) → Type 0

@@ -102,10 +102,13 @@ impl CpctPlus {
     {
         let mut weights = Vec::new(alloc);
         weights.push(1)?;
-        if let Some(costs) = &self.costs {
-            add_weights(costs, &mut weights)?;
+        match &self.costs {
+            None => Ok(weights),
+            Some(costs) => {
+                add_weights(costs, &mut weights)?;
+                Ok(weights)
+            }
         }
-        Ok(weights)
     }
 
     /// How many candidates may be tried for one cost.

@@ -1,5 +1,5 @@
 //! The search at an error point: the configurations, distance by distance, up to the least cost of a repair.
-ghost use Rattle.std.specs.Prelude.{◌≡◌, ◌<◌, ◌≤◌, ◌+◌, ◌↔◌, ◌∷◌, [], ℕ, length, map, IfOk, IfSome, IsTrue, OnOk};
+ghost use Rattle.std.specs.Prelude.{◌≡◌, ◌≢◌, ◌<◌, ◌≤◌, ◌+◌, ◌↔◌, ◌⊎◌, ◌∷◌, [], ℕ, length, map, IfOk, IfSome, IsTrue, OnOk};
 ghost use Rattle.std.specs.List.{Contains};
 ghost use Rattle.std.specs.List.Sorted.{IsStrictlyIncreasing};
 ghost use Rattle.lrpar_grammar.specs.Grammar.{tokens_len};
@@ -7,6 +7,7 @@ ghost use Rattle.lrpar_table_rows.specs.Table.{Fails};
 ghost use Rattle.lrpar_table_stacks.specs.Reduction.{top_action};
 ghost use Rattle.lrpar_table_stacks.specs.Run.{token_at};
 ghost use Rattle.lrpar_table_stacks.specs.SharedStacks.{Extends, stack_at};
+ghost use Rattle.lrpar_table_stacks.specs.Stack.{IsStack};
 ghost use Rattle.lrpar_parse_lexemes.specs.Views.{token_by};
 ghost use Rattle.lrpar_parse_repair.specs.Asked.{HaveTokens};
 ghost use Rattle.lrpar_parse_repair.specs.PlainSteps.{plain_step};
@@ -61,7 +62,7 @@ pub(crate) struct Found<StorageT: StorageIndex> {
 }
 
 impl<'a, 'p, StorageT: StorageIndex, LexemeT: Lexeme<StorageT>> Search<'a, 'p, StorageT, LexemeT> {
-    ghost use Rattle.lrpar_parse_cpctplus.specs.RoundView.{AddsAttemptsAt, AddsAttemptsOf, AddsDelete, AddsInserts, AreAttemptsBy, AreDueBy, AreEndingsBy, AreHeldBy, CanGoOnFrom, GrowsByAttempts, GrowsByShifts, GrowsByStep, HasNoShifts, IsAddedLevel, IsDueBy, IsFoundIn, IsGrowingBy, IsHeldBy, IsNextLeast, IsReachBy, IsResult, IsRoundBy, LeadsBy, ReachesBy};
+    ghost use Rattle.lrpar_parse_cpctplus.specs.RoundView.{AddsAttemptsAt, AddsAttemptsOf, AddsDelete, AddsEnding, AddsInserts, AreAttemptsBy, AreDueBy, AreEndingsBy, AreHeldBy, CanGoOnFrom, GrowsByAttempts, GrowsByShifts, GrowsByStep, HasNoShifts, IsAddedLevel, IsDueBy, IsFoundIn, IsGrowingBy, IsHeldBy, IsNextLeast, IsReachBy, IsResult, IsRoundBy, LeadsBy, ReachesBy};
 
     /// What is found: nothing, if there is no repair, or if more configurations than the limit are nearer than its least cost.
     pub(crate) fn found(&self, alloc: Global) -> Result<Option<Found<StorageT>>, AllocError>
@@ -110,7 +111,7 @@ impl<'a, 'p, StorageT: StorageIndex, LexemeT: Lexeme<StorageT>> Search<'a, 'p, S
             if !self.add_level(stacks, graph, &attempts)? {
                 return Ok(None);
             }
-            empty = if before < graph.len() { 0 } else { empty + 1 };
+            empty = rounds_without(empty, before, graph.len());
         }
         Ok(None)
     }
@@ -269,12 +270,31 @@ impl<'a, 'p, StorageT: StorageIndex, LexemeT: Lexeme<StorageT>> Search<'a, 'p, S
     {
         let mut endings = Vec::new(alloc);
         for attempt in attempts {
-            let Attempt { from, step } = *attempt;
-            if let Some(reach) = self.reach_after(stacks, graph.at(from), step)? {
-                endings.push(Ending { reach, from, step })?;
-            }
+            self.add_ending(stacks, graph.at(attempt.from), *attempt, &mut endings)?;
         }
         Ok(endings)
+    }
+
+    // Adds the step, if a parse can go on after it.
+    fn add_ending(
+        &self,
+        stacks: &mut SharedStacks<StorageT>,
+        at: Configuration,
+        attempt: Attempt<StorageT>,
+        endings: &mut Vec<Ending<StorageT>>,
+    ) -> Result<(), AllocError>
+        requires held { IsHeldBy StorageT.index LexemeT.parts self.now stacks.old at }
+        ensures adds { OnOk result (AddsEnding StorageT.index LexemeT.parts self.now stacks.old at attempt endings.old.items endings.new.items) }
+        ensures extends { OnOk result (Extends stacks.old stacks.new) }
+    {
+        let Attempt { from, step } = attempt;
+        match self.reach_after(stacks, at, step)? {
+            None => Ok(()),
+            Some(reach) => {
+                endings.push(Ending { reach, from, step })?;
+                Ok(())
+            }
+        }
     }
 
     // Adds what is one further than the greatest distance so far. Returns whether the limit allows as many configurations; if not, some may
@@ -491,4 +511,12 @@ impl<'a, 'p, StorageT: StorageIndex, LexemeT: Lexeme<StorageT>> Search<'a, 'p, S
     {
         Engine::new(self.point.data(), self.point.lexemes(), self.point.shifts())
     }
+}
+
+// How many rounds in a row have added nothing, after one more.
+fn rounds_without(empty: usize, before: usize, after: usize) -> usize
+    requires { empty < 255 }
+    ensures { ((before < after) × (result ≡ 0)) ⊎ ((after ≤ before) × (result ≡ empty + 1)) }
+{
+    if before < after { 0 } else { empty + 1 }
 }
