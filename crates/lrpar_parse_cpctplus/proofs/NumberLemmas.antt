@@ -103,6 +103,9 @@ module _ {A : Type 0} where
       let there = subst (λ (l : List A). Contains l (get_or xs k x)) (sym (take_more xs k x below)) (Contains-push (take k xs) (get_or xs k x)) in
       subst (Contains (take (k + 1) xs)) (sym is) there
 
+  pub taken_at : (xs : List A) (k : ℕ) (x : A) → k < length xs → x ≡ get_or xs k x → Contains xs x
+  taken_at xs k x below is = (k, below, sym is)
+
   -- one more isn't among the first ones, if no two numbers have the same
   pub take_once : (xs : List A) (k : ℕ) (x : A) → AreOnce xs → k < length xs → x ≡ get_or xs k x → ¬ (Contains (take k xs) x)
   take_once xs k x once below is h =

@@ -1,5 +1,5 @@
 -- A graph over stacks that are added: the engine's moves add stacks, and a step from a configuration by its numbers is one from what they mean.
-use Rattle.std.proofs.Common.{◌≡◌, ◌<◌, ◌≤◌, ◌+◌, ◌-◌, ◌*◌, ◌∙◌, ◌⊎◌, inl, inr, ℕ, List, [], ◌∷◌, ◌++◌, Option, Some, None, length, slice_get, refl, sym, subst, ap, arith, append-nil, append_assoc}
+use Rattle.std.proofs.Common.{◌≡◌, ◌<◌, ◌≤◌, ◌+◌, ◌-◌, ◌*◌, ◌∙◌, ◌⊎◌, inl, inr, ℕ, Bool, true, false, List, [], ◌∷◌, ◌++◌, Option, Some, None, length, slice_get, refl, sym, subst, ap, arith, append-nil, append_assoc}
 use Rattle.std.proofs.lemmas.List.{length_push}
 use Rattle.lrpar_grammar.specs.Grammar.{Grammar}
 use Rattle.lrpar_table_rows.specs.Table.{Table}
@@ -98,3 +98,8 @@ gone_to old new n same is = ap (λ (s : List (List ℕ)). stack_at s new.current
 pub gone_stack : (table : Table) (old new : Shared) (n : ℕ) → new.stacks ≡ old.stacks → new.current ≡ n → IsStack table (stack_at old.stacks n)
     → IsStack table (current_stack new)
 gone_stack table old new n same is stack = subst (IsStack table) (sym (gone_to old new n same is)) stack
+
+-- what holds of an answer, by cases
+pub either_way : (P Q : Bool → Type 0) → (P true → Q true) → (P false → Q false) → (b : Bool) → P b → Q b
+either_way P Q good bad true h = good h
+either_way P Q good bad false h = bad h
