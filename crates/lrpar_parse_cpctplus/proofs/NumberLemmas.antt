@@ -1,6 +1,7 @@
 -- Lists by numbers: that no two numbers have the same, and what is added to a list.
-use Rattle.std.proofs.Common.{◌≡◌, ◌≢◌, ◌<◌, ◌≤◌, ◌+◌, ◌∙◌, ◌⊎◌, inl, inr, ℕ, zero, suc, List, [], ◌∷◌, ◌++◌, Some, length, get_or, slice_get, take, map, refl, sym, subst, ap, arith, append-nil, append_assoc}
+use Rattle.std.proofs.Common.{◌≡◌, ◌==◌, ◌≢◌, ◌<◌, ◌≤◌, ◌+◌, ◌∙◌, ◌⊎◌, inl, inr, Bool, true, false, ℕ, zero, suc, List, [], ◌∷◌, ◌++◌, Some, length, get_or, slice_get, take, map, refl, sym, subst, ap, arith, append-nil, append_assoc}
 use Rattle.std.specs.List.{AllPairs, Contains}
+use Rattle.std.proofs.lemmas.Bool.{eqb-true}
 use Rattle.std.proofs.lemmas.List.{get_or-map, length-map, take_more}
 use Rattle.std.proofs.lemmas.List.Elements.{Contains-append_cases, Contains-append_left, Contains-append_right, Contains-push, Contains-push_cases}
 use Rattle.std.proofs.lemmas.Option.{get_or_from_slice_get, none-some, same_Some, slice_get-get_or, slice_get_within}
@@ -87,6 +88,15 @@ module _ {A : Type 0} where
 
   pub once_more : (xs : List A) (x : A) → AreOnce xs → ¬ (Contains xs x) → AreOnce (xs ++ x ∷ [])
   once_more xs x once new = once_push xs x once (λ i at. new (contains_at xs i x at))
+
+  -- whether there is an element, by the number of elements
+  pub some_of : (xs : List A) (n : ℕ) → n ≡ length xs → (n == 0) ≡ false → (x : A) × Contains xs x
+  some_of [] n e h = let zero_is : (0 == 0) ≡ false = subst (λ (m : ℕ). (m == 0) ≡ false) e h in let f : true ≡ false = zero_is in cc
+  some_of (x ∷ xs) n e h = (x, contains_at (x ∷ xs) 0 x refl)
+
+  pub none_of : (xs : List A) (n : ℕ) → n ≡ length xs → (n == 0) ≡ true → xs ≡ []
+  none_of [] n e h = refl
+  none_of (x ∷ xs) n e h = let none : n ≡ 0 = eqb-true n 0 h in absurd (omega (arith, e, none))
 
   -- the first elements, and one more
   pub take_cases : (xs : List A) (k : ℕ) (x y : A) → k < length xs → x ≡ get_or xs k x → Contains (take (k + 1) xs) y → Contains (take k xs) y ⊎ (x ≡ y)

@@ -1,6 +1,6 @@
 -- What a search returns: the graph with the last steps at the least cost of a repair; or nothing, if the limit is exceeded, or if nothing
 -- is left to be added.
-use Rattle.std.proofs.Common.{◌≡◌, ◌<◌, ◌≤◌, ◌+◌, ◌-◌, ℕ, suc, List, [], ◌∷◌, ◌++◌, Some, length, slice_get, refl, sym, subst, arith}
+use Rattle.std.proofs.Common.{◌≡◌, ◌<◌, ◌≤◌, ◌+◌, ◌-◌, ◌*◌, ◌⊎◌, inl, inr, ℕ, suc, List, [], ◌∷◌, ◌++◌, Some, length, slice_get, refl, sym, subst, arith}
 use Rattle.std.specs.List.{Contains}
 use Rattle.std.proofs.lemmas.Option.{slice_get_within}
 use Rattle.lrpar_parse_repair.specs.Asked.{Asked}
@@ -111,3 +111,12 @@ module _ {X : Type 0} (token : X → ℕ) (costs : List ℕ) (at : Asked X) wher
       (far.0, far.1, omega (arith, far.2, enough, same)))
       (subst (λ (m : ℕ). CostsAtLeast token costs at m) same round.least)
       least.some.0 least.some.1.0.works
+
+-- what may still be added, and then the rounds that may add nothing, get less
+pub less_left : (limit old new empty next : ℕ) → old ≤ new → new ≤ limit → empty < 255 → ((old < new) × (next ≡ 0)) ⊎ ((new ≤ old) × (next ≡ empty + 1))
+    → 256 * (limit - new) + (255 - next) < 256 * (limit - old) + (255 - empty)
+less_left limit old new empty next grown within few how =
+    elim how as (λ _. 256 * (limit - new) + (255 - next) < 256 * (limit - old) + (255 - empty)) [
+      | inl more ↦ omega (arith, more.0, more.1, within, few)
+      | inr same ↦ omega (arith, same.0, same.1, grown, within, few)
+    ]

@@ -1,5 +1,6 @@
 -- A graph over stacks that are added: the engine's moves add stacks, and a step from a configuration by its numbers is one from what they mean.
-use Rattle.std.proofs.Common.{◌≡◌, ◌<◌, ◌≤◌, ◌+◌, ◌-◌, ◌*◌, ◌∙◌, ◌⊎◌, inl, inr, ℕ, Bool, true, false, List, [], ◌∷◌, ◌++◌, Option, Some, None, length, slice_get, refl, sym, subst, ap, arith, append-nil, append_assoc}
+use Rattle.std.proofs.Common.{◌≡◌, ◌<◌, ◌≤◌, ◌+◌, ◌-◌, ◌*◌, ◌∙◌, ◌⊎◌, inl, inr, ℕ, Bool, true, false, List, [], ◌∷◌, ◌++◌, Option, Some, None, Result, Ok, Err, length, slice_get, refl, sym, subst, ap, arith, append-nil, append_assoc}
+use Rattle.std.specs.Prelude.{IfOk, OnOk}
 use Rattle.std.proofs.lemmas.List.{length_push}
 use Rattle.lrpar_grammar.specs.Grammar.{Grammar}
 use Rattle.lrpar_table_rows.specs.Table.{Table}
@@ -103,3 +104,7 @@ gone_stack table old new n same is stack = subst (IsStack table) (sym (gone_to o
 pub either_way : (P Q : Bool → Type 0) → (P true → Q true) → (P false → Q false) → (b : Bool) → P b → Q b
 either_way P Q good bad true h = good h
 either_way P Q good bad false h = bad h
+
+pub ok_with : {T E Q : Type 0} (r : Result T E) (P R : T → Type 0) → ((x : T) → P x → Q → R x) → IfOk r P → OnOk r Q → IfOk r R
+ok_with (Ok x) P R f p q = f x p q
+ok_with (Err e) P R f p q = tt

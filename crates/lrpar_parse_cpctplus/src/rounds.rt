@@ -92,11 +92,11 @@ impl<'a, 'p, StorageT: StorageIndex, LexemeT: Lexeme<StorageT>> Search<'a, 'p, S
     ) -> Result<Option<Vec<Ending<StorageT>>>, AllocError>
         requires held { AreHeldBy StorageT.index LexemeT.parts self.now stacks.old graph.old }
         requires round { IsRoundBy StorageT.index LexemeT.parts self.now stacks.old graph.old }
-        requires one { length graph.old.firsts.items ≡ 1 }
         requires weights { AreWeights self.now.terms.now.costs weights.now }
         ensures { IfOk result (IsResult StorageT.index LexemeT.parts self.now stacks.new graph.new) }
     {
-        let limit = self.terms.limit();
+        // The point is an error point.
+        let (limit, _shifts) = (self.terms.limit(), self.point.shifts());
         if limit < graph.len() {
             return Ok(None);
         }
@@ -309,10 +309,12 @@ impl<'a, 'p, StorageT: StorageIndex, LexemeT: Lexeme<StorageT>> Search<'a, 'p, S
         requires round { IsRoundBy StorageT.index LexemeT.parts self.now stacks.old graph.old }
         requires attempts { AreAttemptsBy StorageT.index LexemeT.parts self.now stacks.old graph.old attempts.now }
         requires least { IsNextLeast StorageT.index LexemeT.parts self.now (length graph.old.firsts.items) }
+        requires within { length graph.old.configurations.keys ≤ self.now.terms.now.limit }
         ensures added { IfOk result (IsAddedLevel StorageT.index LexemeT.parts self.now stacks.old graph.old stacks.new graph.new) }
         ensures held { OnOk result (AreHeldBy StorageT.index LexemeT.parts self.now stacks.new graph.new) }
     {
-        let first = graph.len();
+        // Each token costs something.
+        let (first, _limit) = (graph.len(), self.terms.limit());
         graph.begin_level()?;
         if self.add_reached(stacks, graph, first, attempts)? {
             self.add_shifts(stacks, graph, first)
