@@ -70,7 +70,8 @@ impl<'a, 'p, StorageT: StorageIndex, LexemeT: Lexeme<StorageT>> Search<'a, 'p, S
     {
         let weights = self.terms.weights(alloc)?;
         let mut stacks = SharedStacks::new(alloc, self.point.stack())?;
-        let (stack, place) = (stacks.number(), self.point.place());
+        // Each token costs something.
+        let (stack, place, _limit) = (stacks.number(), self.point.place(), self.terms.limit());
         let mut graph = Graph::new(alloc, Configuration { stack, place })?;
         match self.rounds(alloc, &mut stacks, &mut graph, &weights)? {
             Some(endings) => Ok(Some(Found {

@@ -134,7 +134,7 @@ rounds-preserved g c =
       round = next.round;
       held = c.in_ok-add_level.ensures.held;
       behind =
-          elim c.rounds_without.ensures as (λ _. AreBehind token costs at new (length new_firsts) c.rounds_without.result) [
+          elim c.rounds_without-empty.ensures as (λ _. AreBehind token costs at new (length new_firsts) c.rounds_without-empty.result) [
             | inl grown ↦
                 subst (λ (n : ℕ). AreBehind token costs at new (length new_firsts) n) (sym grown.1)
                 (behind_now token costs at new new_firsts (plain_links index c.add_level.new.graph.links.items) next.round)
@@ -146,7 +146,7 @@ rounds-preserved g c =
                 subst (λ (n : ℕ). AreBehind token costs at new (length new_firsts) n) (sym same.1) later
           ];
       within = omega (arith, next.within, c.limit-limit.ensures.limit);
-      few = elim c.rounds_without.ensures as (λ _. c.rounds_without.result ≤ 255) [
+      few = elim c.rounds_without-empty.ensures as (λ _. c.rounds_without-empty.result ≤ 255) [
         | inl grown ↦ omega (arith, grown.1)
         | inr same ↦ omega (arith, same.1, c.rounds-test.true)
       ];
