@@ -34,3 +34,15 @@ pub mod ChoiceLemmas
 pub mod FurthestLemmas
 pub mod LengthLemmas
 pub mod FoundAtLemmas
+pub mod NumberLemmas
+pub mod LevelLemmas
+pub mod HeldLemmas
+pub mod GrowLemmas
+pub mod AttemptLemmas
+pub mod KnownLemmas
+pub mod EndingLemmas
+pub mod LevelStepLemmas
+pub mod ResultLemmas
+pub mod AddLemmas
+pub mod StepsLemmas
+pub mod SharedLemmas

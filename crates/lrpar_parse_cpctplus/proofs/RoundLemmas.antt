@@ -18,7 +18,7 @@ use Rattle.lrpar_parse_cpctplus.proofs.MemberLemmas.{apart_few, is_in}
 use Rattle.lrpar_parse_cpctplus.proofs.PruneLemmas.{nothing_fed}
 
 -- a step is a Shift, or it isn't
-shift_or_not : (x : PlainStep) → (x ≡ PlainShift) ⊎ (x ≢ PlainShift)
+pub shift_or_not : (x : PlainStep) → (x ≡ PlainShift) ⊎ (x ≢ PlainShift)
 shift_or_not (PlainInsert t) = inr (λ e. cc)
 shift_or_not PlainDelete = inr (λ e. cc)
 shift_or_not PlainShift = inl refl

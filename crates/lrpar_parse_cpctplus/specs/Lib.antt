@@ -25,3 +25,7 @@ pub mod Tallied
 pub mod SearchView
 pub mod WalkView
 pub mod WalkAnswers
+pub mod Levels
+pub mod GraphView
+pub mod SearchRound
+pub mod RoundView

@@ -1,5 +1,6 @@
 //! The recoverer CPCT+, which returns the repairs of least cost.
-ghost use Rattle.std.specs.Prelude.{◌≡◌, [], IfErr, IfOk, IfSome, IsNone};
+ghost use Rattle.std.specs.Prelude.{◌≡◌, ◌↔◌, ℕ, [], IfErr, IfOk, IfSome, IsNone, IsTrue, OnOk};
+ghost use Rattle.std.specs.List.{Contains};
 ghost use Rattle.lrpar_grammar.specs.Grammar.{tokens_len};
 ghost use Rattle.lrpar_parse_lexemes.specs.Views.{token_by};
 ghost use Rattle.lrpar_parse_repair.specs.PlainSteps.{plain_sequences};
@@ -7,6 +8,7 @@ ghost use Rattle.lrpar_parse_cpctplus.specs.Answer.{AreCheapest};
 ghost use Rattle.lrpar_parse_cpctplus.specs.Costs.{AreCosts, token_cost};
 ghost use Rattle.lrpar_parse_cpctplus.specs.Refused.{IsFirstFree, IsFreeBy, IsFreeToken};
 ghost use Rattle.lrpar_parse_cpctplus.specs.Said.{AreSaid, said_by};
+ghost use Rattle.lrpar_parse_cpctplus.specs.SearchRound.{AreOnce, AreWeights};
 
 use crate::fault::CostFault;
 use crate::search::Search;
@@ -94,6 +96,21 @@ impl CpctPlus {
         }
     }
 
+    /// What tokens cost, each once.
+    pub(crate) fn weights(&self, alloc: Global) -> Result<Vec<u8>, AllocError>
+        ensures { IfOk result (λ weights. AreWeights self.now.costs weights.items) }
+    {
+        let mut weights = Vec::new(alloc);
+        weights.push(1)?;
+        match &self.costs {
+            None => Ok(weights),
+            Some(costs) => {
+                add_weights(costs, &mut weights)?;
+                Ok(weights)
+            }
+        }
+    }
+
     /// How many candidates may be tried for one cost.
     pub(crate) fn limit(&self) -> usize
         ensures limit { result ≡ self.now.limit }
@@ -101,6 +118,45 @@ impl CpctPlus {
     {
         self.limit
     }
+}
+
+// Adds those of the costs that aren't among the weights.
+fn add_weights(costs: &[u8], weights: &mut Vec<u8>) -> Result<(), AllocError>
+    requires { AreOnce weights.old.items }
+    ensures once { OnOk result (AreOnce weights.new.items) }
+    ensures stay { OnOk result ((w : ℕ) → Contains weights.old.items w → Contains weights.new.items w) }
+    ensures added { OnOk result ((w : ℕ) → Contains costs.now w → Contains weights.new.items w) }
+{
+    for cost in costs {
+        add_weight(*cost, weights)?;
+    }
+    Ok(())
+}
+
+// Adds the weight, if it isn't among these.
+fn add_weight(weight: u8, weights: &mut Vec<u8>) -> Result<(), AllocError>
+    requires { AreOnce weights.old.items }
+    ensures once { OnOk result (AreOnce weights.new.items) }
+    ensures stay { OnOk result ((w : ℕ) → Contains weights.old.items w → Contains weights.new.items w) }
+    ensures added { OnOk result (Contains weights.new.items weight) }
+{
+    if has(weights, weight) {
+        return Ok(());
+    }
+    weights.push(weight)?;
+    Ok(())
+}
+
+// Whether the weight is among these.
+fn has(weights: &[u8], weight: u8) -> bool
+    ensures { IsTrue result ↔ Contains weights.now weight }
+{
+    for one in weights {
+        if *one == weight {
+            return true;
+        }
+    }
+    false
 }
 
 // What the function says of each token of the grammar.
