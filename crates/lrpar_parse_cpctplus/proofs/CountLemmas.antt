@@ -13,7 +13,6 @@ use Rattle.lrpar_parse_cpctplus.specs.Forming.{allows_none, form_after, form_of}
 use Rattle.lrpar_parse_cpctplus.specs.Graph.{PlainLink}
 use Rattle.lrpar_parse_cpctplus.specs.LinkView.{plain_link}
 use Rattle.lrpar_parse_cpctplus.specs.Rests.{rests}
-use Rattle.lrpar_parse_cpctplus.specs.Tallied.{IsIn}
 use Rattle.lrpar_parse_cpctplus.specs.declared.form.Class.{Class}
 use Rattle.lrpar_parse_cpctplus.specs.declared.form.Class.TheVariants.{Clean, Avoided, Any, Nothing}
 use Rattle.lrpar_parse_cpctplus.specs.declared.form.Form.{Form}
@@ -21,7 +20,7 @@ use Rattle.lrpar_parse_cpctplus.specs.declared.layer.Counts.{Counts}
 use Rattle.lrpar_parse_cpctplus.specs.declared.layer.Layer.{Layer}
 use Rattle.lrpar_parse_cpctplus.specs.declared.layer.Numbers.{Numbers}
 use Rattle.lrpar_parse_cpctplus.specs.declared.link.Link.{Link}
-use Rattle.lrpar_parse_cpctplus.proofs.MemberLemmas.{contained, is_in}
+use Rattle.lrpar_parse_cpctplus.proofs.MemberLemmas.{IsIn, contained, is_in}
 use Rattle.lrpar_parse_cpctplus.proofs.RestLemmas.{at_end, no_more_rests, no_rests_of_none, rests_by}
 
 -- counts of lists that are joined

@@ -146,6 +146,12 @@ module _ {X : Type 0} (token : X → ℕ) (costs : List ℕ) (at : Asked X) (eac
     once = once_pairs endings found.once;
   }
 
+  pub endings_had : HaveEndings token costs at (length firsts) nodes endings
+  endings_had k u step v is last =
+      let there = last_tried u step v k is last in
+      let some = found.all (record { from = k; step = step }) u v there is last.edge last.goes_on in
+      (ending_with some.0 k step, some.1, refl, refl)
+
   -- if none is found, no sequence that works costs as much
   pub next_least : IsStop token at → endings ≡ [] → CostsAtLeast token costs at (length firsts + 1)
   next_least stop none =

@@ -4,8 +4,7 @@ use Rattle.std.proofs.Common.{◌≡◌, ◌<◌, ◌-◌, ◌↔◌, ◌⊎◌,
 use Rattle.std.proofs.lemmas.List.{length-append, length-map}
 use Rattle.std.proofs.lemmas.List.Kept.{AllPairs-cons}
 use Rattle.lrpar_parse_cpctplus.specs.Listing.{AreFirst}
-use Rattle.lrpar_parse_cpctplus.specs.Tallied.{IsIn}
-use Rattle.lrpar_parse_cpctplus.proofs.MemberLemmas.{contained, is_in}
+use Rattle.lrpar_parse_cpctplus.proofs.MemberLemmas.{IsIn, contained, is_in}
 use Rattle.lrpar_parse_cpctplus.proofs.OrderLemmas.{pairs_head, pairs_map, pairs_none, pairs_tail, pairs_weaker}
 
 -- what each member has

@@ -5,15 +5,14 @@ use Rattle.std.proofs.lemmas.List.{append-nil, append_assoc, map-append, map_mor
 use Rattle.std.proofs.lemmas.List.Elements.{All-push, Contains-append_left, Contains-push, filter-append}
 use Rattle.lrpar_parse_cpctplus.specs.Chosen.{IsBelow, IsFurthestBelow, above}
 use Rattle.lrpar_parse_cpctplus.specs.Graph.{PlainEnding, PlainLink}
-use Rattle.lrpar_parse_cpctplus.specs.LinkView.{AreWithin, IsNumbered, plain_ending, plain_link}
+use Rattle.lrpar_parse_cpctplus.specs.LinkView.{AreWithin, AreNumbered, plain_ending, plain_link}
 use Rattle.lrpar_parse_cpctplus.specs.Rests.{IsFurthest, ending_link, with_endings}
-use Rattle.lrpar_parse_cpctplus.specs.Tallied.{IsIn}
 use Rattle.lrpar_parse_cpctplus.specs.declared.link.Ending.{Ending}
 use Rattle.lrpar_parse_cpctplus.specs.declared.link.Link.{Link}
 use Rattle.lrpar_parse_cpctplus.specs.declared.link.Linked.{Linked}
 use Rattle.lrpar_parse_cpctplus.proofs.DistanceLemmas.{compare}
 use Rattle.lrpar_parse_cpctplus.proofs.FirstLemmas.{all_members, image_in, in_either, in_image, members_all}
-use Rattle.lrpar_parse_cpctplus.proofs.MemberLemmas.{contained, is_in}
+use Rattle.lrpar_parse_cpctplus.proofs.MemberLemmas.{IsIn, contained, is_in}
 use Rattle.lrpar_parse_cpctplus.proofs.TakenLemmas.{passes_in}
 
 -- one place more is the furthest, or isn't
@@ -153,7 +152,7 @@ module _ {S : Type 0} (index : S → ℕ) where
   none_with end reach links plain is = is ∙ sym (append-nil plain)
 
   -- the links and those to the end are between the nodes
-  pub all_within : (linked : Linked S) (reach : ℕ) (links : List (Link S)) → IsNumbered linked
+  pub all_within : (linked : Linked S) (reach : ℕ) (links : List (Link S)) → AreNumbered linked
       → map (plain_link index) links
       ≡ with_endings linked.len reach (map (plain_link index) linked.links.items) (plain_endings linked.endings.items)
       → AreWithin linked.len links

@@ -14,14 +14,13 @@ use Rattle.lrpar_parse_cpctplus.specs.Costs.{AreCosts}
 use Rattle.lrpar_parse_cpctplus.specs.Graph.{AreEndings, HaveEndings, IsEndingAmong, IsGraph, IsLinkAmong, PlainEnding, PlainLink}
 use Rattle.lrpar_parse_cpctplus.specs.Reaching.{GoesAsFar, Reaches}
 use Rattle.lrpar_parse_cpctplus.specs.Rests.{AreByNodes, DifferInSteps, ending_link, with_endings}
-use Rattle.lrpar_parse_cpctplus.specs.Tallied.{IsIn}
 use Rattle.lrpar_parse_cpctplus.specs.Ways.{FitAfter, IsWay}
 use Rattle.lrpar_parse_cpctplus.proofs.ChainLemmas.{CostAtLeast, chain_runs, repairs_are_chains}
 use Rattle.lrpar_parse_cpctplus.proofs.DistanceLemmas.{nearer_distance}
 use Rattle.lrpar_parse_cpctplus.proofs.EndLemmas.{end_has_repair, goes_as_far_from}
 use Rattle.lrpar_parse_cpctplus.proofs.FirstLemmas.{image_in, in_either, in_image, in_left, in_right, pairs_between, pairs_joined}
 use Rattle.lrpar_parse_cpctplus.proofs.LastStepLemmas.{last_is_link, link_is_last}
-use Rattle.lrpar_parse_cpctplus.proofs.MemberLemmas.{contained, is_in}
+use Rattle.lrpar_parse_cpctplus.proofs.MemberLemmas.{IsIn, contained, is_in}
 use Rattle.lrpar_parse_cpctplus.proofs.OrderLemmas.{pairs_map}
 use Rattle.lrpar_parse_cpctplus.proofs.ReachLemmas.{reaches_one_way}
 use Rattle.lrpar_parse_cpctplus.proofs.RestLemmas.{IsPath}

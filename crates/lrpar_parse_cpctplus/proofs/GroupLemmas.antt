@@ -11,12 +11,12 @@ use Rattle.lrpar_parse_cpctplus.specs.Graph.{PlainEnding, PlainLink}
 use Rattle.lrpar_parse_cpctplus.specs.Listing.{AreFirst, IsListedBefore, IsPreferred, MayBeListed, Settings}
 use Rattle.lrpar_parse_cpctplus.specs.Reaching.{GoesAsFar}
 use Rattle.lrpar_parse_cpctplus.specs.Rests.{AreByNodes, AreGroups, AreRanked, IsFurthest, IsGroup, added_first, in_order, no_ending, no_place, of_furthest, of_none, of_places, one_group, with_endings}
-use Rattle.lrpar_parse_cpctplus.specs.Tallied.{IsIn}
 use Rattle.lrpar_parse_cpctplus.proofs.ChainLemmas.{CostAtLeast, least_cost}
 use Rattle.lrpar_parse_cpctplus.proofs.DistanceLemmas.{compare}
 use Rattle.lrpar_parse_cpctplus.proofs.FirstLemmas.{first_none, in_either, in_left, in_right, pairs_between, pairs_joined}
 use Rattle.lrpar_parse_cpctplus.proofs.GraphLemmas.{GoesTo, chain_is_path, differ_in_steps, ending_has_repair, far_chain_goes, goes_far_chain, path_is_chain, repair_has_ending}
 use Rattle.lrpar_parse_cpctplus.proofs.LengthLemmas.{repairs_are_short}
+use Rattle.lrpar_parse_cpctplus.proofs.MemberLemmas.{IsIn}
 use Rattle.lrpar_parse_cpctplus.proofs.OrderLemmas.{pairs_none}
 use Rattle.lrpar_parse_cpctplus.proofs.ReachLemmas.{goes_one_far}
 use Rattle.lrpar_parse_cpctplus.proofs.RestLemmas.{all_in, all_rise, in_all}

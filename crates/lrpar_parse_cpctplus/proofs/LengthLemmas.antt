@@ -8,10 +8,9 @@ use Rattle.lrpar_parse_cpctplus.specs.Cheapest.{IsLeastCost, RepairsAt}
 use Rattle.lrpar_parse_cpctplus.specs.Configurations.{Configured, IsDistance, IsNearer, edge_cost, root_of}
 use Rattle.lrpar_parse_cpctplus.specs.Costs.{AreCosts}
 use Rattle.lrpar_parse_cpctplus.specs.Graph.{AreNearer}
-use Rattle.lrpar_parse_cpctplus.specs.Tallied.{AreApart, IsIn}
 use Rattle.lrpar_parse_cpctplus.proofs.ChainLemmas.{moves_cost, repairs_are_chains}
 use Rattle.lrpar_parse_cpctplus.proofs.DistanceLemmas.{one_distance}
-use Rattle.lrpar_parse_cpctplus.proofs.MemberLemmas.{apart_few, is_in}
+use Rattle.lrpar_parse_cpctplus.proofs.MemberLemmas.{AreApart, IsIn, apart_few, is_in}
 
 insert_no_shift : (t : ℕ) → PlainInsert t ≢ PlainShift
 insert_no_shift t e = cc

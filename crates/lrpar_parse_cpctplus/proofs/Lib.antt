@@ -6,16 +6,8 @@ pub mod AnyFormLemmas
 pub mod BeforeLemmas
 pub mod ReachLemmas
 pub mod OrderLemmas
-pub mod FoundLemmas
-pub mod SearchLemmas
-pub mod AnswerLemmas
-pub mod WalkLemmas
-pub mod StepLemmas
-pub mod TallyLemmas
-pub mod StackAnswerLemmas
 pub mod CostLemmas
 pub mod SaidLemmas
-pub mod OneAnswerLemmas
 pub mod DistanceLemmas
 pub mod ChainLemmas
 pub mod EndLemmas
@@ -46,3 +38,4 @@ pub mod ResultLemmas
 pub mod AddLemmas
 pub mod StepsLemmas
 pub mod SharedLemmas
+pub mod RecoverLemmas

@@ -1,12 +1,13 @@
 -- The links of a graph by nodes: sorted by their steps and put into rows.
-use Rattle.std.proofs.Common.{◌≡◌, ◌≢◌, ◌<◌, ◌≤◌, ◌==◌, ◌+◌, ◌∙◌, inl, inr, ℕ, zero, suc, List, [], ◌∷◌, ◌++◌, Bool, true, false, Vec, cond, filter, get_or, length, map, set, take, refl, sym, subst, ap, ap₂, not, ◌&&◌, arith, All, AllPairs, Contains}
+use Rattle.std.proofs.Common.{◌≡◌, ◌≢◌, ◌<◌, ◌≤◌, ◌==◌, ◌+◌, ◌∙◌, inl, inr, ℕ, zero, suc, List, [], ◌∷◌, ◌++◌, Bool, true, false, Vec, cond, filter, get_or, length, map, set, take, refl, sym, subst, ap, ap₂, not, ◌&&◌, nat_lt, arith, All, AllPairs, Contains}
 use Rattle.std.specs.Prelude.{slice_get}
 use Rattle.std.specs.Cmp.{IsStrictWeakOrder, IsTotalOrder}
 use Rattle.std.specs.List.Sorted.{ties}
 use Rattle.std.specs.Ordering.{is_lt, nat_cmp, ordering_then}
 use Rattle.std.specs.declared.alloc.Global.{Global}
 use Rattle.std.specs.declared.cmp.Ordering.{Ordering}
-use Rattle.std.proofs.lemmas.Bool.{cases_eq, cases_lt, eq-eqb, eqb-true, ltb-false, ne_eqb}
+use Rattle.std.specs.declared.cmp.Ordering.TheVariants.{Less, Equal, Greater}
+use Rattle.std.proofs.lemmas.Bool.{cases_eq, cases_lt, cond_both, eq-eqb, eqb-true, ltb-false, ne_eqb}
 use Rattle.std.proofs.lemmas.Cmp.{nat_cmp_total, on_total, then_total, tied_itself}
 use Rattle.std.proofs.lemmas.List.{append-nil, get_or-set_other, get_or-set_same, length-set, map-append}
 use Rattle.std.proofs.lemmas.List.Elements.{filter_more}
@@ -19,13 +20,19 @@ use Rattle.lrpar_parse_cpctplus.specs.LinkView.{AreInStepOrder, AreRows, AreWith
 use Rattle.lrpar_parse_cpctplus.specs.NodesView.{row_of}
 use Rattle.lrpar_parse_cpctplus.specs.Order.{IsStepBefore}
 use Rattle.lrpar_parse_cpctplus.specs.Rests.{AreByNodes, DifferInSteps}
-use Rattle.lrpar_parse_cpctplus.specs.Tallied.{IsIn}
 use Rattle.lrpar_parse_cpctplus.specs.declared.link.Link.{Link}
 use Rattle.lrpar_parse_cpctplus.proofs.FirstLemmas.{all_members, image_in, in_image, members_all, pairs_between}
-use Rattle.lrpar_parse_cpctplus.proofs.FoundLemmas.{less_by_order}
-use Rattle.lrpar_parse_cpctplus.proofs.MemberLemmas.{contained, is_in}
+use Rattle.lrpar_parse_cpctplus.proofs.MemberLemmas.{IsIn, contained, is_in}
 use Rattle.lrpar_parse_cpctplus.proofs.OrderLemmas.{pairs_map, pairs_mapped, stable_pairs}
 use Rattle.lrpar_parse_cpctplus.proofs.TakenLemmas.{in_passes, passes_in}
+
+-- the order of numbers as a test
+less_by_order : (m n : ℕ) (r : Ordering) → r ≡ nat_cmp m n → is_lt r ≡ nat_lt m n
+less_by_order m n r e =
+    let fact : is_lt (nat_cmp m n) ≡ nat_lt m n =
+    cond_both (nat_lt m n) Less (cond (m == n) Equal Greater) (λ (o : Ordering). is_lt o ≡ nat_lt m n) (λ less. sym less)
+    (λ more. cond_both (m == n) Equal Greater (λ (o : Ordering). is_lt o ≡ nat_lt m n) (λ same. sym more) (λ above. sym more)) in
+    ap is_lt e ∙ fact
 
 module _ {A : Type 0} where
   -- empty rows

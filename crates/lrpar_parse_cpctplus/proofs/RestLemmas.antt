@@ -10,7 +10,6 @@ use Rattle.lrpar_parse_cpctplus.specs.Graph.{PlainLink}
 use Rattle.lrpar_parse_cpctplus.specs.Listing.{IsPreferred}
 use Rattle.lrpar_parse_cpctplus.specs.Order.{IsEarlier, IsStepBefore}
 use Rattle.lrpar_parse_cpctplus.specs.Rests.{in_order, rests, shorter}
-use Rattle.lrpar_parse_cpctplus.specs.Tallied.{IsIn}
 use Rattle.lrpar_parse_cpctplus.specs.Ways.{FitAfter, has_avoided}
 use Rattle.lrpar_parse_cpctplus.specs.declared.form.Class.{Class}
 use Rattle.lrpar_parse_cpctplus.specs.declared.form.Class.TheVariants.{Clean, Avoided, Any, Nothing}
@@ -18,6 +17,7 @@ use Rattle.lrpar_parse_cpctplus.specs.declared.form.Form.{Form}
 use Rattle.lrpar_parse_cpctplus.proofs.DistanceLemmas.{compare}
 use Rattle.lrpar_parse_cpctplus.proofs.FirstLemmas.{image_in, in_either, in_image, in_left, in_right, pairs_between, pairs_joined}
 use Rattle.lrpar_parse_cpctplus.proofs.ListingLemmas.{differ_first, differ_later}
+use Rattle.lrpar_parse_cpctplus.proofs.MemberLemmas.{IsIn}
 use Rattle.lrpar_parse_cpctplus.proofs.OrderLemmas.{pairs_map, pairs_none, pairs_weaker}
 use Rattle.lrpar_parse_cpctplus.proofs.TakenLemmas.{both_hold, holds_both, in_part, pairs_of_parts, part_in}
 use Rattle.lrpar_parse_cpctplus.proofs.WayLemmas.{preferred_clean, preferred_earlier, preferred_shorter}

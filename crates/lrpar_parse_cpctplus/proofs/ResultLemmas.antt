@@ -8,11 +8,10 @@ use Rattle.lrpar_parse_cpctplus.specs.Configurations.{Configured, IsDistance, Is
 use Rattle.lrpar_parse_cpctplus.specs.Costs.{AreCosts}
 use Rattle.lrpar_parse_cpctplus.specs.Graph.{PlainEnding, PlainLink, IsGraph}
 use Rattle.lrpar_parse_cpctplus.specs.SearchRound.{PlainAttempt, AreAttempts, AreEndingsOf, AreOnce, CostsAtLeast, IsFoundBy, IsNothingFound, IsPastLimit, IsRound}
-use Rattle.lrpar_parse_cpctplus.specs.Tallied.{AreApart, IsIn}
-use Rattle.lrpar_parse_cpctplus.proofs.EndingLemmas.{endings_are, last_of}
+use Rattle.lrpar_parse_cpctplus.proofs.EndingLemmas.{endings_are, endings_had, last_of}
 use Rattle.lrpar_parse_cpctplus.proofs.KnownLemmas.{node_far, node_nearer}
 use Rattle.lrpar_parse_cpctplus.proofs.LastStepLemmas.{last_is_least}
-use Rattle.lrpar_parse_cpctplus.proofs.MemberLemmas.{apart_few, contained, is_in}
+use Rattle.lrpar_parse_cpctplus.proofs.MemberLemmas.{AreApart, IsIn, apart_few, contained, is_in}
 use Rattle.lrpar_parse_cpctplus.proofs.NumberLemmas.{at_contained, at_within, contains_at, once_pairs}
 use Rattle.lrpar_parse_cpctplus.proofs.RoundLemmas.{nothing_works}
 
@@ -76,6 +75,7 @@ module _ {X : Type 0} (token : X → ℕ) (costs : List ℕ) (at : Asked X) wher
           least = last_is_least token costs at (length firsts) round.least last.0 ending.step last.1 last.3;
           graph = round_graph;
           lasts = endings_are token costs at each nodes firsts links round attempts tried endings found;
+          measured = endings_had token costs at each nodes firsts links round attempts tried endings found;
           within = within;
         }
 

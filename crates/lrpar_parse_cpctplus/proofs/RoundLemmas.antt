@@ -10,11 +10,10 @@ use Rattle.lrpar_parse_cpctplus.specs.Cheapest.{IsRepair}
 use Rattle.lrpar_parse_cpctplus.specs.Configurations.{Configured, IsDistance, IsEdge, IsNearer, LeadTo, edge_cost, root_of}
 use Rattle.lrpar_parse_cpctplus.specs.Costs.{AreCosts, token_cost}
 use Rattle.lrpar_parse_cpctplus.specs.Listing.{AreListed, Settings}
-use Rattle.lrpar_parse_cpctplus.specs.Tallied.{AreApart, IsIn}
 use Rattle.lrpar_parse_cpctplus.proofs.ChainLemmas.{CostAtLeast, moves_cost, nearer_stops, works_leads_to}
 use Rattle.lrpar_parse_cpctplus.proofs.DistanceLemmas.{all_led_to, all_nearer, compare, distance_nearer, edge_bounds, edge_leads, one_distance, root_distance, runs_nowhere}
 use Rattle.lrpar_parse_cpctplus.proofs.LastStepLemmas.{none_at, none_below_zero}
-use Rattle.lrpar_parse_cpctplus.proofs.MemberLemmas.{apart_few, is_in}
+use Rattle.lrpar_parse_cpctplus.proofs.MemberLemmas.{AreApart, IsIn, apart_few, is_in}
 use Rattle.lrpar_parse_cpctplus.proofs.PruneLemmas.{nothing_fed}
 
 -- a step is a Shift, or it isn't

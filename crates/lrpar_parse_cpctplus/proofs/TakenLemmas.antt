@@ -6,9 +6,8 @@ use Rattle.std.proofs.lemmas.List.Elements.{All-take}
 use Rattle.std.proofs.lemmas.List.Kept.{AllPairs-cons}
 use Rattle.lrpar_parse_cpctplus.specs.Listing.{AreFirst}
 use Rattle.lrpar_parse_cpctplus.specs.Rests.{added_first}
-use Rattle.lrpar_parse_cpctplus.specs.Tallied.{IsIn}
 use Rattle.lrpar_parse_cpctplus.proofs.FirstLemmas.{all_members, in_either, in_left, in_right, members_all, pairs_joined}
-use Rattle.lrpar_parse_cpctplus.proofs.MemberLemmas.{contained, is_in}
+use Rattle.lrpar_parse_cpctplus.proofs.MemberLemmas.{IsIn, contained, is_in}
 use Rattle.lrpar_parse_cpctplus.proofs.OrderLemmas.{pairs_head, pairs_none, pairs_tail}
 
 -- both tests hold

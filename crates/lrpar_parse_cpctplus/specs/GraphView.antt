@@ -7,8 +7,9 @@ use Rattle.lrpar_parse_repair.specs.PlainSteps.{plain_step}
 use Rattle.lrpar_parse_repair.specs.declared.repair_step.RepairStep.{RepairStep}
 use Rattle.lrpar_parse_cpctplus.specs.Configurations.{Configured}
 use Rattle.lrpar_parse_cpctplus.specs.Graph.{PlainLink}
+use Rattle.lrpar_parse_cpctplus.specs.LinkView.{plain_link}
 use Rattle.lrpar_parse_cpctplus.specs.declared.graph.Configuration.{Configuration}
-use Rattle.lrpar_parse_cpctplus.specs.declared.graph.Link.{Link}
+use Rattle.lrpar_parse_cpctplus.specs.declared.link.Link.{Link}
 
 -- the configuration with the stack of its number
 abbrev pub configured_at : List (List ℕ) → Configuration → Configured
@@ -19,9 +20,6 @@ abbrev pub nodes_in : List (List ℕ) → List Configuration → List Configured
 nodes_in stacks keys = map (configured_at stacks) keys
 
 -- links by numbers
-abbrev pub plain_link : {S : Type 0} → (S → ℕ) → Link S → PlainLink
-plain_link index link = record { from = link.from; step = plain_step index link.step; to = link.to }
-
 abbrev pub plain_links : {S : Type 0} → (S → ℕ) → List (Link S) → List PlainLink
 plain_links index links = map (plain_link index) links
 

@@ -6,8 +6,6 @@ pub mod Cheapest
 pub mod AnyForm
 pub mod Reaching
 pub mod Order
-pub mod Answer
-pub mod OneAnswer
 pub mod Configurations
 pub mod Chains
 pub mod Listing
@@ -21,10 +19,6 @@ pub mod NodesView
 pub mod Counted
 pub mod Chosen
 pub mod Walking
-pub mod Tallied
-pub mod SearchView
-pub mod WalkView
-pub mod WalkAnswers
 pub mod Levels
 pub mod GraphView
 pub mod SearchRound

@@ -29,7 +29,7 @@ plain_graph index linked = record {
 }
 
 -- the links and endings are between configurations of the graph, by their numbers
-pub record IsNumbered {S : Type 0} (linked : Linked S) : Type 0 where
+pub record AreNumbered {S : Type 0} (linked : Linked S) : Type 0 where
   pub links : All (λ link. (link.from < linked.len) × (link.to < linked.len)) linked.links.items
   pub endings : All (λ ending. ending.from < linked.len) linked.endings.items
 

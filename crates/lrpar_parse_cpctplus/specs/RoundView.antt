@@ -12,13 +12,14 @@ use Rattle.lrpar_parse_repair.specs.declared.repair_step.RepairStep.{RepairStep}
 use Rattle.lrpar_parse_cpctplus.specs.Configurations.{Configured, GoesOnFrom}
 use Rattle.lrpar_parse_cpctplus.specs.Graph.{PlainEnding, PlainLink}
 use Rattle.lrpar_parse_cpctplus.specs.GraphView.{AreHeld, IsHeld, configured_at, nodes_in, plain_links}
+use Rattle.lrpar_parse_cpctplus.specs.LinkView.{plain_ending}
 use Rattle.lrpar_parse_cpctplus.specs.SearchRound.{PlainAttempt, Adds, AreAttempts, AreEndingsOf, AreOnce, CostsAtLeast, Grows, IsAmong, IsAttemptBy, IsAttemptOf, IsDeleteOf, IsDue, IsFoundBy, IsGrowing, IsInsertOf, IsNothingFound, IsPastLimit, IsReach, IsRound, IsShiftWithin, IsThis, LeadsOn, ReachesFrom}
 use Rattle.lrpar_parse_cpctplus.specs.declared.graph.Configuration.{Configuration}
 use Rattle.lrpar_parse_cpctplus.specs.declared.graph.Graph.{Graph}
-use Rattle.lrpar_parse_cpctplus.specs.declared.rounds.Attempt.{Attempt}
-use Rattle.lrpar_parse_cpctplus.specs.declared.rounds.Ending.{Ending}
-use Rattle.lrpar_parse_cpctplus.specs.declared.rounds.Found.{Found}
-use Rattle.lrpar_parse_cpctplus.specs.declared.rounds.Search.{Search}
+use Rattle.lrpar_parse_cpctplus.specs.declared.search.Attempt.{Attempt}
+use Rattle.lrpar_parse_cpctplus.specs.declared.link.Ending.{Ending}
+use Rattle.lrpar_parse_cpctplus.specs.declared.search.Found.{Found}
+use Rattle.lrpar_parse_cpctplus.specs.declared.search.Search.{Search}
 
 -- steps by the numbers of their configurations
 abbrev pub plain_attempt : {S : Type 0} → (S → ℕ) → Attempt S → PlainAttempt
@@ -28,9 +29,6 @@ abbrev pub plain_attempts : {S : Type 0} → (S → ℕ) → List (Attempt S) �
 plain_attempts index attempts = map (plain_attempt index) attempts
 
 -- last steps, with how far a parse goes on after them
-abbrev pub plain_ending : {S : Type 0} → (S → ℕ) → Ending S → PlainEnding
-plain_ending index ending = record { reach = ending.reach; from = ending.from; step = plain_step index ending.step }
-
 abbrev pub plain_endings : {S : Type 0} → (S → ℕ) → List (Ending S) → List PlainEnding
 plain_endings index endings = map (plain_ending index) endings
 

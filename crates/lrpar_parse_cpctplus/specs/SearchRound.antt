@@ -13,7 +13,7 @@ use Rattle.lrpar_parse_cpctplus.specs.AnyForm.{WorksAt}
 use Rattle.lrpar_parse_cpctplus.specs.Cheapest.{AreAtMost, IsLeastCost, cost_of}
 use Rattle.lrpar_parse_cpctplus.specs.Configurations.{Configured, GoesOnFrom, IsDistance, IsEdge, IsNearer, edge_cost, root_of}
 use Rattle.lrpar_parse_cpctplus.specs.Costs.{token_cost}
-use Rattle.lrpar_parse_cpctplus.specs.Graph.{PlainEnding, PlainLink, AreEndings, IsGraph, IsLinkAmong}
+use Rattle.lrpar_parse_cpctplus.specs.Graph.{PlainEnding, PlainLink, AreEndings, HaveEndings, IsGraph, IsLinkAmong}
 use Rattle.lrpar_parse_cpctplus.specs.Levels.{AreLevels, IsAt, first_of}
 use Rattle.lrpar_parse_cpctplus.specs.Reaching.{Reaches}
 
@@ -186,6 +186,7 @@ module _ {X : Type 0} (token : X → ℕ) (costs : List ℕ) (at : Asked X) wher
     pub least : IsLeastCost token costs at cost
     pub graph : IsGraph token costs at cost nodes links
     pub lasts : AreEndings token costs at cost nodes endings
+    pub measured : HaveEndings token costs at cost nodes endings
     pub within : length nodes ≤ limit
 
 -- the step from the configuration with this number is this one

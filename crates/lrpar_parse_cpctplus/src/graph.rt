@@ -2,6 +2,7 @@
 ghost use Rattle.std.specs.Prelude.{◌≡◌, ◌<◌, ◌^◌, ◌++◌, [], ◌∷◌, length, slice_get, IfOk, OnOk, Some};
 ghost use Rattle.lrpar_parse_cpctplus.specs.Levels.{first_of};
 
+use crate::link::Link;
 use indexmap::IndexSet;
 use lrpar_grammar::span::StorageIndex;
 use lrpar_parse_repair::repair::RepairStep;
@@ -14,20 +15,12 @@ pub(crate) struct Configuration {
     pub(crate) place: usize,
 }
 
-/// A step from one configuration to another, by their numbers, that costs as much as the second is further than the first.
-#[derive(Clone, Copy, Debug)]
-pub(crate) struct Link<StorageT: Copy> {
-    pub(crate) from: usize,
-    pub(crate) step: RepairStep<StorageT>,
-    pub(crate) to: usize,
-}
-
 /// Configurations by numbers, those of lesser distance first, and the links between them.
 pub(crate) struct Graph<StorageT: StorageIndex> {
     configurations: IndexSet<Configuration>,
     /// By distances: the number of the first configuration that is as far, or of the first one that is further.
     firsts: Vec<usize>,
-    pub(crate) links: Vec<Link<StorageT>>,
+    links: Vec<Link<StorageT>>,
 }
 
 impl<StorageT: StorageIndex> Drop for Graph<StorageT> {
@@ -96,6 +89,20 @@ impl<StorageT: StorageIndex> Graph<StorageT> {
             Some(first) => *first,
             None => self.len(),
         }
+    }
+
+    /// The links alone.
+    pub(crate) fn into_links(self) -> Vec<Link<StorageT>>
+        ensures { result ≡ self.links }
+    {
+        let Graph {
+            configurations,
+            firsts,
+            links,
+        } = self;
+        drop(configurations);
+        drop(firsts);
+        links
     }
 
     /// From now on configurations have a distance greater by one.

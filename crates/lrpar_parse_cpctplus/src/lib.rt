@@ -11,10 +11,7 @@ mod layer;
 mod link;
 mod listing;
 mod nodes;
-mod rounds;
 mod search;
-mod tally;
-mod walk;
 
 pub use cpct_plus::CpctPlus;
 pub use fault::CostFault;

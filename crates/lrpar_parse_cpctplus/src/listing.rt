@@ -6,7 +6,7 @@ ghost use Rattle.lrpar_parse_cpctplus.specs.Chosen.{IsBelow, IsChoice, IsFurthes
 ghost use Rattle.lrpar_parse_cpctplus.specs.Counted.{AreLayers, IsLayer, counted};
 ghost use Rattle.lrpar_parse_cpctplus.specs.FirstRepairs.{AreFirstRepairs};
 ghost use Rattle.lrpar_parse_cpctplus.specs.Forming.{form_of};
-ghost use Rattle.lrpar_parse_cpctplus.specs.LinkView.{IsNumbered, plain_ending, plain_graph, plain_link};
+ghost use Rattle.lrpar_parse_cpctplus.specs.LinkView.{AreNumbered, plain_ending, plain_graph, plain_link};
 ghost use Rattle.lrpar_parse_cpctplus.specs.Rests.{AreRanked, IsGroup, added_first, in_order, shorter, with_endings};
 
 use crate::form::{Class, Form};
@@ -41,7 +41,7 @@ pub(crate) fn first_repairs<StorageT: StorageIndex, LexemeT>(
     wanted: &Wanted<'_>,
     linked: &Linked<StorageT>,
 ) -> Result<Vec<Vec<RepairStep<StorageT>>>, AllocError>
-    requires numbered { IsNumbered linked.now }
+    requires numbered { AreNumbered linked.now }
     ensures first { IfOk result (λ repairs. AreFirstRepairs LexemeT wanted.now.avoided.now wanted.now.most wanted.now.lists_all
         (plain_graph StorageT.index linked.now) (plain_sequences StorageT.index repairs.items)) }
 {
@@ -54,7 +54,7 @@ fn ranked_repairs<StorageT: StorageIndex>(
     wanted: &Wanted<'_>,
     linked: &Linked<StorageT>,
 ) -> Result<Vec<Vec<RepairStep<StorageT>>>, AllocError>
-    requires numbered { IsNumbered linked.now }
+    requires numbered { AreNumbered linked.now }
     ensures ranked { IfOk result (λ repairs. AreRanked wanted.now.avoided.now linked.now.len (linked.now.len + 1)
         (map (plain_link StorageT.index) linked.now.links.items) (map (plain_ending StorageT.index) linked.now.endings.items)
         wanted.now.most wanted.now.lists_all (plain_sequences StorageT.index repairs.items)) }
@@ -72,7 +72,7 @@ fn all_repairs<StorageT: StorageIndex>(
     wanted: &Wanted<'_>,
     linked: &Linked<StorageT>,
 ) -> Result<Vec<Vec<RepairStep<StorageT>>>, AllocError>
-    requires numbered { IsNumbered linked.now }
+    requires numbered { AreNumbered linked.now }
     ensures ranked { IfOk result (λ repairs. AreRanked wanted.now.avoided.now linked.now.len (linked.now.len + 1)
         (map (plain_link StorageT.index) linked.now.links.items) (map (plain_ending StorageT.index) linked.now.endings.items)
         wanted.now.most true (plain_sequences StorageT.index repairs.items)) }
@@ -95,7 +95,7 @@ fn furthest_repairs<StorageT: StorageIndex>(
     wanted: &Wanted<'_>,
     linked: &Linked<StorageT>,
 ) -> Result<Vec<Vec<RepairStep<StorageT>>>, AllocError>
-    requires numbered { IsNumbered linked.now }
+    requires numbered { AreNumbered linked.now }
     ensures ranked { IfOk result (λ repairs. AreRanked wanted.now.avoided.now linked.now.len (linked.now.len + 1)
         (map (plain_link StorageT.index) linked.now.links.items) (map (plain_ending StorageT.index) linked.now.endings.items)
         wanted.now.most false (plain_sequences StorageT.index repairs.items)) }
@@ -153,7 +153,7 @@ fn push_group<StorageT: StorageIndex>(
     reach: u128,
     listed: &mut Vec<Vec<RepairStep<StorageT>>>,
 ) -> Result<(), AllocError>
-    requires numbered { IsNumbered linked.now }
+    requires numbered { AreNumbered linked.now }
     ensures group { OnOk result ((group : List (List PlainStep)) × IsGroup wanted.now.avoided.now linked.now.len (linked.now.len + 1)
         (map (plain_link StorageT.index) linked.now.links.items) (map (plain_ending StorageT.index) linked.now.endings.items) reach group
         × (plain_sequences StorageT.index listed.new.items ≡ added_first wanted.now.most (plain_sequences StorageT.index listed.old.items) group)) }

@@ -1,7 +1,8 @@
 use Rattle.std.proofs.Common.{◌++◌, ◌∷◌, [], ◌≡◌, ◌∙◌, List, ap, arith, inl, inr, refl}
 use Rattle.std.proofs.lemmas.List.{map-append}
-use Rattle.lrpar_parse_cpctplus.specs.GraphView.{plain_link, plain_links}
-use Rattle.lrpar_parse_cpctplus.specs.declared.graph.Link.{Link}
+use Rattle.lrpar_parse_cpctplus.specs.GraphView.{plain_links}
+use Rattle.lrpar_parse_cpctplus.specs.LinkView.{plain_link}
+use Rattle.lrpar_parse_cpctplus.specs.declared.link.Link.{Link}
 use Rattle.lrpar_parse_cpctplus.proofs.HeldLemmas.{numbered_by}
 use Rattle.lrpar_parse_cpctplus.proofs.NumberLemmas.{contains_at}
 use Rattle.lrpar_parse_cpctplus.proofs.LevelLemmas.{has_level}
