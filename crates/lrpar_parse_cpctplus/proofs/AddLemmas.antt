@@ -1,23 +1,25 @@
 -- How the steps that are tried in a round are listed: for each cost, for each configuration at the distance that makes the round's cost
 -- with it, the Inserts, by tokens, and the Delete.
-use Rattle.std.proofs.Common.{◌≡◌, ◌≢◌, ◌<◌, ◌≤◌, ◌+◌, ◌∙◌, ◌↔◌, ◌⊎◌, inl, inr, ℕ, List, [], ◌∷◌, ◌++◌, length, get_or, map, slice_get, take, Some, refl, sym, subst, ap, arith}
+use Rattle.std.proofs.Common.{◌≡◌, ◌≢◌, ◌<◌, ◌≤◌, ◌+◌, ◌-◌, ◌∙◌, ◌↔◌, ◌⊎◌, inl, inr, ℕ, List, [], ◌∷◌, ◌++◌, length, get_or, map, slice_get, take, Some, refl, sym, subst, ap, arith}
 use Rattle.std.specs.List.{Contains, zip}
 use Rattle.std.specs.List.Sorted.{IsStrictlyIncreasing}
 use Rattle.std.specs.Map.{keys_of}
 use Rattle.std.proofs.lemmas.Bool.{cases_lt}
 use Rattle.std.proofs.lemmas.List.{get_or_past, take_all}
-use Rattle.std.proofs.lemmas.List.Elements.{Contains-get_or}
+use Rattle.std.proofs.lemmas.List.Elements.{All-get_or, Contains-get_or}
 use Rattle.std.proofs.lemmas.List.Kept.{AllPairs-from_increasing}
 use Rattle.std.proofs.lemmas.Option.{get_or_from_slice_get, slice_get_within}
 use Rattle.lrpar_grammar.specs.Grammar.{end_token}
 use Rattle.lrpar_grammar_places.specs.declared.span.TIdx.{TIdx}
 use Rattle.lrpar_table_rows.specs.PlainRows.{action_entry}
-use Rattle.lrpar_table_rows.specs.Table.{Table, TableAction, Fails, action_of, actions_at}
+use Rattle.lrpar_table_rows.specs.Table.{Table, TableAction, Fails, IsClosed, action_of, actions_at, states_len}
 use Rattle.lrpar_table_rows.specs.declared.rows.Action.{Action}
 use Rattle.lrpar_table_rows.proofs.EntryLemmas.{action_cases, keys_of-pairs}
 use Rattle.lrpar_table_rows.proofs.ItemLemmas.{Contains-image, Contains-preimage}
 use Rattle.lrpar_table_rows.specs.PlainRows.{plain_action}
 use Rattle.lrpar_table_stacks.specs.Reduction.{top_action}
+use Rattle.lrpar_table_stacks.specs.Stack.{IsStack, top_of}
+use Rattle.lrpar_table_stacks.proofs.SettleLemmas.{stack_states}
 use Rattle.lrpar_parse_repair.specs.Asked.{Asked}
 use Rattle.lrpar_parse_repair.specs.Sequences.{PlainStep, PlainInsert, PlainDelete, PlainShift}
 use Rattle.lrpar_parse_cpctplus.specs.Configurations.{Configured, edge_cost}
@@ -27,6 +29,13 @@ use Rattle.lrpar_parse_cpctplus.specs.SearchRound.{PlainAttempt, Adds, AreOnce, 
 use Rattle.lrpar_parse_cpctplus.proofs.AttemptLemmas.{attempt_weight}
 use Rattle.lrpar_parse_cpctplus.proofs.GrowLemmas.{one_at}
 use Rattle.lrpar_parse_cpctplus.proofs.NumberLemmas.{adds_both, adds_none, adds_one, adds_same, at_contained, contains_at, contains_none, single, take_before, take_cases, take_once, take_this}
+
+-- the top of a stack is a state of the table
+pub top_known : (table : Table) → IsClosed table → (st : List ℕ) (s : ℕ) → IsStack table st → top_of st ≡ Some s → s < states_len table
+top_known table closed st s stack top =
+    let below = slice_get_within st (length st - 1) s top in
+    let within = All-get_or (λ (x : ℕ). x < states_len table) st (length st - 1) s below (stack_states table closed st stack) in
+    subst (λ (x : ℕ). x < states_len table) (get_or_from_slice_get st (length st - 1) s s top) within
 
 abbrev pub attempt_with : ℕ → PlainStep → PlainAttempt
 attempt_with from step = record { from = from; step = step }
@@ -136,11 +145,6 @@ module _ {X : Type 0} (token : X → ℕ) (costs : List ℕ) (at : Asked X) wher
   pub delete_none : (place from weight : ℕ) (xs : List PlainAttempt) → ((x : PlainAttempt) → ¬ (IsDeleteOf token costs at place from weight x))
       → Adds (IsDeleteOf token costs at place from weight) xs xs
   delete_none place from weight xs none = adds_none (IsDeleteOf token costs at place from weight) xs none
-
-  pub delete_more : (place from weight : ℕ) (xs : List PlainAttempt) → IsDeleteOf token costs at place from weight (attempt_with from PlainDelete)
-      → Adds (IsDeleteOf token costs at place from weight) xs (xs ++ attempt_with from PlainDelete ∷ [])
-  delete_more place from weight xs is =
-      adds_one (IsDeleteOf token costs at place from weight) xs (attempt_with from PlainDelete) is (λ y h. same_attempt y from PlainDelete h.0 h.1)
 
   -- the steps from one configuration
   module _ (u : Configured) (from weight : ℕ) (tokens : List ℕ)

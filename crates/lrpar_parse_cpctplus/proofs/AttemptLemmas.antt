@@ -1,14 +1,12 @@
 -- The steps that are tried in a round: each step but a Shift that can be taken is tried, and all that make the round's cost are listed.
-use Rattle.std.proofs.Common.{◌≡◌, ◌≢◌, ◌<◌, ◌≤◌, ◌+◌, ◌∙◌, ◌⊎◌, inl, inr, ℕ, List, [], length, slice_get, Some, refl, sym, subst, ap, arith}
+use Rattle.std.proofs.Common.{◌≡◌, ◌≢◌, ◌∙◌, ℕ, List, [], refl, sym, subst, ap, arith}
 use Rattle.std.specs.List.{Contains}
-use Rattle.lrpar_grammar.specs.Grammar.{end_token}
 use Rattle.lrpar_table_stacks.specs.Run.{token_at}
 use Rattle.lrpar_parse_repair.specs.Asked.{Asked}
 use Rattle.lrpar_parse_repair.specs.Sequences.{PlainStep, PlainInsert, PlainDelete, PlainShift}
 use Rattle.lrpar_parse_cpctplus.specs.Configurations.{Configured, IsEdge, edge_cost}
 use Rattle.lrpar_parse_cpctplus.specs.Costs.{token_cost}
-use Rattle.lrpar_parse_cpctplus.specs.Levels.{IsAt}
-use Rattle.lrpar_parse_cpctplus.specs.SearchRound.{PlainAttempt, Adds, AreAttempts, AreWeights, IsAttemptAt, IsAttemptBy, IsTried}
+use Rattle.lrpar_parse_cpctplus.specs.SearchRound.{PlainAttempt, Adds, AreAttempts, AreWeights, IsAttemptBy, IsTried}
 use Rattle.lrpar_parse_cpctplus.proofs.GrowLemmas.{one_at}
 use Rattle.lrpar_parse_cpctplus.proofs.NumberLemmas.{adds_all}
 use Rattle.lrpar_parse_cpctplus.proofs.PruneLemmas.{nothing_fed}

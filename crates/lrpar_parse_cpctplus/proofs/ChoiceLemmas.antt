@@ -1,5 +1,5 @@
 -- The repair at a place of a list that is put together of parts; and lists of which the first ones are added one after the other.
-use Rattle.std.proofs.Common.{◌≡◌, ◌<◌, ◌≤◌, ◌+◌, ◌-◌, ◌^◌, ◌∙◌, ◌⊎◌, ◌==◌, ◌&&◌, inl, inr, ℕ, zero, suc, List, [], ◌∷◌, ◌++◌, Bool, true, false, Vec, flat_map, get_or, length, map, take, refl, sym, subst, ap, ap₂, arith}
+use Rattle.std.proofs.Common.{◌≡◌, ◌<◌, ◌≤◌, ◌+◌, ◌-◌, ◌^◌, ◌∙◌, ◌==◌, ◌&&◌, ℕ, zero, suc, List, [], ◌∷◌, ◌++◌, Bool, true, false, Vec, flat_map, get_or, length, map, take, refl, sym, subst, ap, ap₂, arith}
 use Rattle.std.proofs.lemmas.List.{append-nil, append_assoc, get_or-map, length-append, length-map, length-take-le, map-append, take-map, take_all, take_more}
 use Rattle.std.proofs.lemmas.List.Concat.{get_or-flat_map}
 use Rattle.std.specs.declared.alloc.Global.{Global}
@@ -19,7 +19,6 @@ use Rattle.lrpar_parse_cpctplus.specs.declared.layer.Layer.{Layer}
 use Rattle.lrpar_parse_cpctplus.specs.declared.link.Link.{Link}
 use Rattle.lrpar_parse_cpctplus.specs.declared.listing.Choice.{Choice}
 use Rattle.lrpar_parse_cpctplus.proofs.CountLemmas.{count_is, flat_more, plain_more}
-use Rattle.lrpar_parse_cpctplus.proofs.DistanceLemmas.{compare}
 use Rattle.lrpar_parse_cpctplus.proofs.RestLemmas.{at_end, rests_by}
 use Rattle.lrpar_parse_cpctplus.proofs.TakenLemmas.{added_joined}
 
@@ -58,21 +57,6 @@ module _ {S : Type 0} (index : S → ℕ) (avoided : List Bool) (end : ℕ) (nex
       ∙ length-append (flat_map f before) (f (plain_link index link)) in
       let part = length-map (rests avoided end next s (form_after avoided form (plain_step index link.step)) link.to) (λ (steps : List PlainStep). plain_step index link.step ∷ steps) in
       omega (arith, sum, is, past, fits, less, long, part)
-
--- the first ones so far are all that are added
-pub all_added : {A : Type 0} (most place many : ℕ) (before xs : List A) → many ≡ counted xs → most ≤ 2 ^ 64 - 1 → place ≤ most - length before
-    → (many ≤ place) ⊎ (most ≤ length before + place) → before ++ take place xs ≡ added_first most before xs
-all_added {A = A} most place many before xs is fits within ended =
-    elim (compare place (most - length before)) as (λ _. before ++ take place xs ≡ before ++ take (most - length before) xs) [
-      | inl less ↦
-          let all : length xs ≤ place =
-          elim ended as (λ _. length xs ≤ place) [ inl past ↦ omega (arith, past, is, fits, less) | inr full ↦ absurd (omega (arith, full, less)) ] in
-          ap (λ (l : List A). before ++ l) (take_all place xs all ∙ sym (take_all (most - length before) xs (omega (arith, all, less))))
-      | inr other ↦ elim other as (λ _. before ++ take place xs ≡ before ++ take (most - length before) xs) [
-        | inl same ↦ ap (λ (n : ℕ). before ++ take n xs) same
-        | inr past ↦ absurd (omega (arith, within, past))
-      ]
-    ]
 
 module _ {S : Type 0} (index : S → ℕ) where
   -- one sequence more

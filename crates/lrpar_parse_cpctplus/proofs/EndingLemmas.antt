@@ -1,15 +1,15 @@
 -- The last steps that a round finds: those of the steps that are tried after which a parse can go on. If there is none, no sequence that
 -- works costs as much as the round.
-use Rattle.std.proofs.Common.{◌≡◌, ◌≢◌, ◌<◌, ◌≤◌, ◌+◌, ◌∙◌, ◌⊎◌, inl, inr, ℕ, List, [], ◌∷◌, ◌++◌, Some, None, Option, length, get_or, slice_get, take, refl, sym, subst, ap, arith}
+use Rattle.std.proofs.Common.{◌≡◌, ◌<◌, ◌≤◌, ◌+◌, ◌∙◌, inl, inr, ℕ, List, [], ◌∷◌, ◌++◌, Some, None, length, get_or, slice_get, take, refl, sym, subst, ap}
 use Rattle.std.specs.List.{Contains}
 use Rattle.std.proofs.lemmas.List.{take_all}
 use Rattle.std.proofs.lemmas.List.Elements.{Contains-append_left, Contains-push, Contains-push_cases}
 use Rattle.lrpar_parse_repair.specs.Asked.{Asked, IsStop}
 use Rattle.lrpar_parse_repair.specs.Sequences.{PlainStep}
 use Rattle.lrpar_parse_cpctplus.specs.Chains.{IsLastStep}
-use Rattle.lrpar_parse_cpctplus.specs.Configurations.{Configured, GoesOnFrom, IsDistance, IsEdge, IsNearer, edge_cost}
+use Rattle.lrpar_parse_cpctplus.specs.Configurations.{Configured, IsEdge, edge_cost}
 use Rattle.lrpar_parse_cpctplus.specs.Costs.{AreCosts}
-use Rattle.lrpar_parse_cpctplus.specs.Graph.{PlainEnding, PlainLink, AreEndings, IsEndingAmong}
+use Rattle.lrpar_parse_cpctplus.specs.Graph.{PlainEnding, PlainLink, AreEndings, HaveEndings, IsEndingAmong}
 use Rattle.lrpar_parse_cpctplus.specs.Levels.{IsAt}
 use Rattle.lrpar_parse_cpctplus.specs.SearchRound.{PlainAttempt, AreAttempts, AreEndingsOf, AreOnce, CostsAtLeast, EndsAt, IsEndingOf, IsReach, IsRound, ReachesFrom}
 use Rattle.lrpar_parse_cpctplus.proofs.AttemptLemmas.{edge_tried, tried_moves}

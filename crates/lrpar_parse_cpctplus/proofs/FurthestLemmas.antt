@@ -147,10 +147,6 @@ module _ {S : Type 0} (index : S → ℕ) where
       (sym (ne_eqb ending.reach reach other))
       ∙ sym (with_more end reach plain endings i ending below read)
 
-  pub none_with : (end reach : ℕ) (links : List (Link S)) (plain : List PlainLink) → map (plain_link index) links ≡ plain
-      → map (plain_link index) links ≡ with_endings end reach plain []
-  none_with end reach links plain is = is ∙ sym (append-nil plain)
-
   -- the links and those to the end are between the nodes
   pub all_within : (linked : Linked S) (reach : ℕ) (links : List (Link S)) → AreNumbered linked
       → map (plain_link index) links

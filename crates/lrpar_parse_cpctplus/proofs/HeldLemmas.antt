@@ -1,14 +1,14 @@
 -- Configurations by the numbers of their stacks: they stay what they are as stacks are added; and one that is numbered is numbered as a
 -- configuration, too, since no two numbers have the same stack.
-use Rattle.std.proofs.Common.{◌≡◌, ◌≢◌, ◌<◌, ◌≤◌, ◌∙◌, ◌⊎◌, ◌||◌, ◌&&◌, eqb, inl, inr, ℕ, zero, suc, List, [], ◌∷◌, ◌++◌, Bool, true, false, true≢false, if◌then◌else◌, Some, None, Option, length, map, slice_get, refl, sym, subst, ap, ap₂, arith}
+use Rattle.std.proofs.Common.{◌≡◌, ◌≢◌, ◌<◌, ◌∙◌, ◌||◌, ◌&&◌, eqb, inl, inr, ℕ, zero, suc, List, [], ◌∷◌, ◌++◌, if◌then◌else◌, Bool, true, false, true≢false, Some, length, map, slice_get, refl, sym, subst, ap, ap₂}
 use Rattle.std.specs.Cmp.Derive.{both_true}
 use Rattle.std.specs.List.{list_any}
 use Rattle.std.proofs.lemmas.Bool.{eq-eqb, eqb-true}
-use Rattle.std.proofs.lemmas.List.{get_or_append_left, length-map, map-append}
+use Rattle.std.proofs.lemmas.List.{length-map, map-append}
 use Rattle.std.proofs.lemmas.Option.{none-some, same_Some}
 use Rattle.indexmap.specs.IndexSet.{insert_key}
 use Rattle.lrpar_table_rows.specs.Table.{Table}
-use Rattle.lrpar_table_stacks.specs.SharedStacks.{AreApart, Extends, Shared, stack_at}
+use Rattle.lrpar_table_stacks.specs.SharedStacks.{AreApart, Extends, Shared}
 use Rattle.lrpar_table_stacks.specs.Stack.{IsStack}
 use Rattle.lrpar_table_stacks.proofs.SharedStacksLemmas.{extends_keeps}
 use Rattle.lrpar_parse_cpctplus.specs.Configurations.{Configured}

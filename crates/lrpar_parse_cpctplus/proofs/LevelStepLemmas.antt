@@ -1,15 +1,14 @@
 -- From one round to the next: the steps that are tried and then the Shifts add all that is at the round's cost, with its links.
-use Rattle.std.proofs.Common.{◌≡◌, ◌≢◌, ◌<◌, ◌≤◌, ◌+◌, ◌∙◌, ◌↔◌, ◌⊎◌, inl, inr, ℕ, List, [], ◌∷◌, ◌++◌, Some, length, slice_get, refl, sym, subst, ap, arith, length-append}
+use Rattle.std.proofs.Common.{◌≡◌, ◌≢◌, ◌<◌, ◌≤◌, ◌+◌, ◌∙◌, ◌⊎◌, inl, inr, ℕ, List, [], ◌∷◌, ◌++◌, Some, length, slice_get, refl, sym, subst, ap, arith, length-append}
 use Rattle.std.specs.List.{Contains}
 use Rattle.std.proofs.lemmas.List.{length_push}
 use Rattle.std.proofs.lemmas.Option.{slice_get_within}
 use Rattle.lrpar_parse_repair.specs.Asked.{Asked}
 use Rattle.lrpar_parse_repair.specs.Sequences.{PlainStep, PlainShift}
-use Rattle.lrpar_parse_cpctplus.specs.Chains.{IsLink}
 use Rattle.lrpar_parse_cpctplus.specs.Configurations.{Configured, IsDistance, IsEdge, IsNearer, edge_cost}
 use Rattle.lrpar_parse_cpctplus.specs.Costs.{AreCosts}
 use Rattle.lrpar_parse_cpctplus.specs.Graph.{PlainLink, IsLinkAmong}
-use Rattle.lrpar_parse_cpctplus.specs.Levels.{AreLevels, IsAt, first_of}
+use Rattle.lrpar_parse_cpctplus.specs.Levels.{AreLevels, IsAt}
 use Rattle.lrpar_parse_cpctplus.specs.SearchRound.{PlainAttempt, AreAttempts, CostsAtLeast, Grows, IsAmong, IsDue, IsGrowing, IsRound, IsShiftWithin, IsStepAmong}
 use Rattle.lrpar_parse_cpctplus.proofs.AttemptLemmas.{edge_tried, tried_moves}
 use Rattle.lrpar_parse_cpctplus.proofs.ChainLemmas.{moves_cost}

@@ -3,7 +3,6 @@ pub mod FormLemmas
 pub mod LeadLemmas
 pub mod PruneLemmas
 pub mod AnyFormLemmas
-pub mod BeforeLemmas
 pub mod ReachLemmas
 pub mod OrderLemmas
 pub mod CostLemmas
@@ -39,3 +38,4 @@ pub mod AddLemmas
 pub mod StepsLemmas
 pub mod SharedLemmas
 pub mod RecoverLemmas
+pub mod AvoidLemmas

@@ -1,5 +1,5 @@
 -- Lists by numbers: that no two numbers have the same, and what is added to a list.
-use Rattle.std.proofs.Common.{◌≡◌, ◌==◌, ◌≢◌, ◌<◌, ◌≤◌, ◌+◌, ◌∙◌, ◌⊎◌, inl, inr, Bool, true, false, ℕ, zero, suc, List, [], ◌∷◌, ◌++◌, Some, length, get_or, slice_get, take, map, refl, sym, subst, ap, arith, append-nil, append_assoc}
+use Rattle.std.proofs.Common.{◌≡◌, ◌==◌, ◌≢◌, ◌<◌, ◌+◌, ◌∙◌, ◌⊎◌, inl, inr, true, false, ℕ, zero, suc, List, [], ◌∷◌, ◌++◌, Some, length, get_or, slice_get, take, map, refl, sym, subst, ap, arith, append-nil, append_assoc}
 use Rattle.std.specs.List.{AllPairs, Contains}
 use Rattle.std.proofs.lemmas.Bool.{eqb-true}
 use Rattle.std.proofs.lemmas.List.{get_or-map, length-map, take_more}
@@ -85,9 +85,6 @@ module _ {A : Type 0} where
       let at = at_contained xs y h in
       let end = at_contained (x ∷ []) y there in
       new at.0 (at.1 ∙ ap (λ (z : A). Some z) (sym (single x y end.0 end.1).1)))
-
-  pub once_more : (xs : List A) (x : A) → AreOnce xs → ¬ (Contains xs x) → AreOnce (xs ++ x ∷ [])
-  once_more xs x once new = once_push xs x once (λ i at. new (contains_at xs i x at))
 
   -- whether there is an element, by the number of elements
   pub some_of : (xs : List A) (n : ℕ) → n ≡ length xs → (n == 0) ≡ false → (x : A) × Contains xs x

@@ -1,14 +1,11 @@
 -- The order of sequences: of two at most one is earlier; and a stable sort leaves those that tie in their order.
-use Rattle.std.proofs.Common.{◌≡◌, ◌≢◌, ◌<◌, ◌∙◌, ◌⊎◌, inl, inr, ℕ, zero, suc, List, [], ◌∷◌, ◌++◌, Bool, true, false, cond, filter, length, get_or, map, refl, sym, subst, ap, arith, All, AllPairs}
+use Rattle.std.proofs.Common.{◌≡◌, ◌<◌, ◌∙◌, ℕ, zero, suc, List, [], ◌∷◌, ◌++◌, Bool, true, false, cond, filter, length, get_or, map, sym, subst, ap, arith, All, AllPairs}
 use Rattle.std.specs.List.Sorted.{IsStableBy, ties}
-use Rattle.std.proofs.lemmas.List.{append_cancel_left, get_or-map, length-map}
+use Rattle.std.proofs.lemmas.List.{get_or-map, length-map}
 use Rattle.std.proofs.lemmas.List.Elements.{All-map}
 use Rattle.std.proofs.lemmas.List.Kept.{AllPairs-cons, AllPairs-filter}
-use Rattle.lrpar_parse_repair.specs.Asked.{Asked}
 use Rattle.lrpar_parse_repair.specs.Sequences.{PlainStep, PlainInsert, PlainDelete, PlainShift}
-use Rattle.lrpar_parse_cpctplus.specs.Order.{ComesFirst, IsEarlier, IsStepBefore}
-use Rattle.lrpar_parse_cpctplus.specs.Reaching.{GoesAsFar}
-use Rattle.lrpar_parse_cpctplus.proofs.ReachLemmas.{goes_one_far}
+use Rattle.lrpar_parse_cpctplus.specs.Order.{IsEarlier, IsStepBefore}
 
 -- no step comes before itself, no sequence is earlier than itself, and no repair comes first before itself
 pub not_before_itself : (x : PlainStep) → ¬ (IsStepBefore x x)
@@ -49,19 +46,6 @@ differ_one_way (z ∷ s) x y a b (w ∷ t) u v c d left right h k =
 pub earlier_one_way : (xs ys : List PlainStep) → IsEarlier xs ys → ¬ (IsEarlier ys xs)
 earlier_one_way xs ys h k =
     differ_one_way h.same h.x h.y h.after_x h.after_y k.same k.x k.y k.after_x k.after_y (sym h.left ∙ k.right) (sym h.right ∙ k.left) h.before k.before
-
-pub earlier_apart : (xs ys : List PlainStep) → IsEarlier xs ys → xs ≢ ys
-earlier_apart xs ys e same =
-    let rest : e.x ∷ e.after_x ≡ e.y ∷ e.after_y =
-    append_cancel_left e.same (e.x ∷ e.after_x) (e.y ∷ e.after_y) (sym e.left ∙ same ∙ e.right) in
-    let first : e.x ≡ e.y = cc in
-    not_before_itself e.y (subst (λ (z : PlainStep). IsStepBefore z e.y) first e.before)
-
-pub first_apart : {X : Type 0} (token : X → ℕ) (at : Asked X) (xs ys : List PlainStep) → ComesFirst token at xs ys → xs ≢ ys
-first_apart token at xs ys h same =
-    let there = subst (λ (l : List PlainStep). GoesAsFar token at l h.1) (sym same) h.3 in
-    let one = goes_one_far token at xs h.0 h.1 h.2 there in
-    elim h.4 as (λ _. ⊥) [ inl less ↦ omega (arith, less, one) | inr both ↦ earlier_apart xs ys both.1 same ]
 
 -- pairs of a list, in order
 module _ {A : Type 0} (R : A → A → Type 0) where

@@ -11,7 +11,7 @@ use Rattle.lrpar_parse_cpctplus.specs.SearchRound.{PlainAttempt, AreAttempts, Ar
 use Rattle.lrpar_parse_cpctplus.proofs.EndingLemmas.{endings_are, endings_had, last_of}
 use Rattle.lrpar_parse_cpctplus.proofs.KnownLemmas.{node_far, node_nearer}
 use Rattle.lrpar_parse_cpctplus.proofs.LastStepLemmas.{last_is_least}
-use Rattle.lrpar_parse_cpctplus.proofs.MemberLemmas.{AreApart, IsIn, apart_few, contained, is_in}
+use Rattle.lrpar_parse_cpctplus.proofs.MemberLemmas.{AreApart, apart_few, contained, is_in}
 use Rattle.lrpar_parse_cpctplus.proofs.NumberLemmas.{at_contained, at_within, contains_at, once_pairs}
 use Rattle.lrpar_parse_cpctplus.proofs.RoundLemmas.{nothing_works}
 

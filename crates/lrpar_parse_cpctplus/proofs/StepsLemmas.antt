@@ -1,11 +1,11 @@
 -- Steps that are added to the graph one after the other: each is due when its turn comes.
-use Rattle.std.proofs.Common.{◌≡◌, ◌≢◌, ◌<◌, ◌≤◌, ◌+◌, ◌∙◌, ◌⊎◌, inl, inr, ℕ, List, [], ◌∷◌, ◌++◌, length, get_or, slice_get, take, Some, refl, sym, subst, ap, arith}
+use Rattle.std.proofs.Common.{◌≡◌, ◌<◌, ◌≤◌, ◌+◌, ◌∙◌, ◌⊎◌, inl, inr, ℕ, List, length, get_or, slice_get, take, Some, sym, subst, ap, arith}
 use Rattle.std.specs.List.{Contains}
 use Rattle.std.proofs.lemmas.Bool.{cases_lt}
 use Rattle.std.proofs.lemmas.List.{take_all}
 use Rattle.lrpar_parse_repair.specs.Asked.{Asked}
 use Rattle.lrpar_parse_repair.specs.Sequences.{PlainStep, PlainShift}
-use Rattle.lrpar_parse_cpctplus.specs.Configurations.{Configured, edge_cost}
+use Rattle.lrpar_parse_cpctplus.specs.Configurations.{Configured}
 use Rattle.lrpar_parse_cpctplus.specs.Graph.{PlainLink}
 use Rattle.lrpar_parse_cpctplus.specs.SearchRound.{PlainAttempt, AreOnce, Grows, IsAmong, IsDue, IsGrowing, IsShiftWithin, IsThis}
 use Rattle.lrpar_parse_cpctplus.proofs.AddLemmas.{attempt_with}

@@ -18,7 +18,6 @@ pub mod LinkView
 pub mod NodesView
 pub mod Counted
 pub mod Chosen
-pub mod Walking
 pub mod Levels
 pub mod GraphView
 pub mod SearchRound

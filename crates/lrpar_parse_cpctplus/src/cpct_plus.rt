@@ -52,11 +52,11 @@ impl Model for CpctPlus {
     ghost Value = { Settings };
 
     ghost view = { λ c. record {
-        limit = c.limit;
-        costs = items_of c.costs;
-        avoided = items_of c.avoided;
-        most = c.most;
-        lists_all = c.lists_all;
+      limit = c.limit;
+      costs = items_of c.costs;
+      avoided = items_of c.avoided;
+      most = c.most;
+      lists_all = c.lists_all;
     } };
 
     ghost invariant = { λ c. AreCosts (items_of c.costs) };

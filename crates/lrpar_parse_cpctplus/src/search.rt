@@ -79,10 +79,7 @@ impl<'a, 'p, StorageT: StorageIndex, LexemeT: Lexeme<StorageT>> Search<'a, 'p, S
     ghost use Rattle.lrpar_parse_cpctplus.specs.RoundView.{AddsAttemptsAt, AddsAttemptsOf, AddsDelete, AddsEnding, AddsInserts, AreAttemptsBy, AreDueBy, AreEndingsBy, AreHeldBy, CanGoOnFrom, GrowsByAttempts, GrowsByShifts, GrowsByStep, HasNoShifts, IsAddedLevel, IsDueBy, IsFoundIn, IsGrowingBy, IsHeldBy, IsNextLeast, IsReachBy, IsResult, IsRoundBy, LeadsBy, ReachesBy};
 
     /// The search at this error point, by these terms.
-    pub(crate) fn new(
-        point: &'a RecoveryPoint<'p, StorageT, LexemeT>,
-        terms: &'a CpctPlus,
-    ) -> Self
+    pub(crate) fn new(point: &'a RecoveryPoint<'p, StorageT, LexemeT>, terms: &'a CpctPlus) -> Self
         ensures point { result.point.now ≡ point.now }
         ensures terms { result.terms.now ≡ terms.now }
     {

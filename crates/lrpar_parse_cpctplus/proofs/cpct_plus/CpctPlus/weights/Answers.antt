@@ -1,7 +1,7 @@
 use Rattle.std.proofs.Common.{◌≡◌, ◌∙◌, List, [], ◌∷◌, ℕ, ap, refl, subst, sym}
 use Rattle.std.specs.List.{Contains}
 use Rattle.lrpar_parse_cpctplus.specs.Listing.{Settings}
-use Rattle.lrpar_parse_cpctplus.specs.SearchRound.{AreOnce, AreWeights}
+use Rattle.lrpar_parse_cpctplus.specs.SearchRound.{AreWeights}
 use Rattle.lrpar_parse_cpctplus.proofs.AddLemmas.{weights_are}
 use Rattle.lrpar_parse_cpctplus.proofs.NumberLemmas.{contains_at, contains_none, once_single}
 use Rattle.lrpar_parse_cpctplus.proofs.cpct_plus.CpctPlus.weights.Goals as goal

@@ -1,20 +1,9 @@
-use Rattle.std.proofs.Common.{◌++◌, ◌∷◌, [], ◌≡◌, ◌∙◌, List, ap, arith, inl, inr, refl}
+use Rattle.std.proofs.Common.{◌∷◌, [], ◌∙◌, List, ap, inl, inr, refl}
 use Rattle.std.proofs.lemmas.List.{map-append}
 use Rattle.lrpar_parse_cpctplus.specs.GraphView.{plain_links}
 use Rattle.lrpar_parse_cpctplus.specs.LinkView.{plain_link}
 use Rattle.lrpar_parse_cpctplus.specs.declared.link.Link.{Link}
 use Rattle.lrpar_parse_cpctplus.proofs.HeldLemmas.{numbered_by}
-use Rattle.lrpar_parse_cpctplus.proofs.NumberLemmas.{contains_at}
-use Rattle.lrpar_parse_cpctplus.proofs.LevelLemmas.{has_level}
-use Rattle.lrpar_parse_cpctplus.proofs.GrowLemmas.{grows_linked}
-use Rattle.lrpar_parse_cpctplus.proofs.AttemptLemmas.{attempts_are}
-use Rattle.lrpar_parse_cpctplus.proofs.KnownLemmas.{round_begins}
-use Rattle.lrpar_parse_cpctplus.proofs.EndingLemmas.{endings_are}
-use Rattle.lrpar_parse_cpctplus.proofs.LevelStepLemmas.{next_round}
-use Rattle.lrpar_parse_cpctplus.proofs.ResultLemmas.{found_by}
-use Rattle.lrpar_parse_cpctplus.proofs.AddLemmas.{tokens_read}
-use Rattle.lrpar_parse_cpctplus.proofs.StepsLemmas.{shift_due}
-use Rattle.lrpar_parse_cpctplus.proofs.SharedLemmas.{step_linked}
 use Rattle.lrpar_parse_cpctplus.proofs.graph.Graph.link.Goals as goal
 
 pub returns-in_ok-push-clause-linked : goal.returns-in_ok-push-clause-linked

@@ -1,4 +1,4 @@
-use Rattle.std.proofs.Common.{◌≡◌, ◌<◌, ◌≤◌, ◌+◌, ◌-◌, ◌∙◌, ℕ, ap, arith, length, refl, subst, sym}
+use Rattle.std.proofs.Common.{◌≡◌, ◌+◌, ◌-◌, ◌∙◌, ℕ, ap, arith, length, refl, subst, sym}
 use Rattle.lrpar_parse_lexemes.specs.Views.{token_by}
 use Rattle.lrpar_parse_cpctplus.specs.GraphView.{configured_at, nodes_in}
 use Rattle.lrpar_parse_cpctplus.specs.Levels.{first_of}

@@ -1,4 +1,4 @@
-use Rattle.std.proofs.Common.{◌≡◌, ◌≤◌, ◌+◌, List, None, Some, arith, inl, inr, length, subst, sym, take}
+use Rattle.std.proofs.Common.{◌≤◌, ◌+◌, List, None, Some, arith, inl, inr, length, subst, sym, take}
 use Rattle.std.proofs.lemmas.List.{length-map}
 use Rattle.std.proofs.lemmas.Option.{slice_get_within}
 use Rattle.lrpar_parse_lexemes.specs.Views.{token_by}

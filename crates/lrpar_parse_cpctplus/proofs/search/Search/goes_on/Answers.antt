@@ -1,6 +1,5 @@
-use Rattle.std.proofs.Common.{◌≡◌, ◌↔◌, IsTrue, List, ℕ, subst}
+use Rattle.std.proofs.Common.{◌↔◌, IsTrue, List, ℕ, subst}
 use Rattle.std.proofs.lemmas.Result.{IfOk-weaker, on_ok_weaker}
-use Rattle.lrpar_table_stacks.specs.SharedStacks.{current_stack}
 use Rattle.lrpar_parse_lexemes.specs.Views.{token_by}
 use Rattle.lrpar_parse_repair.specs.Sequences.{CanGoOn}
 use Rattle.lrpar_parse_cpctplus.proofs.SharedLemmas.{extends_same, gone_stack, gone_to, moved_extends}

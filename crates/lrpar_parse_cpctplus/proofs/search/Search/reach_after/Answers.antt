@@ -1,8 +1,8 @@
-use Rattle.std.proofs.Common.{◌≡◌, ◌∙◌, length, subst, sym}
+use Rattle.std.proofs.Common.{◌∙◌, length, subst, sym}
 use Rattle.lrpar_parse_lexemes.specs.Views.{token_by}
 use Rattle.lrpar_parse_repair.specs.PlainSteps.{plain_step}
 use Rattle.lrpar_parse_cpctplus.specs.Configurations.{Configured, GoesOnFrom}
-use Rattle.lrpar_parse_cpctplus.specs.GraphView.{IsHeld, configured_at}
+use Rattle.lrpar_parse_cpctplus.specs.GraphView.{configured_at}
 use Rattle.lrpar_parse_cpctplus.specs.SearchRound.{ReachesFrom}
 use Rattle.lrpar_parse_cpctplus.proofs.GrowLemmas.{edge_one}
 use Rattle.lrpar_parse_cpctplus.proofs.HeldLemmas.{configured_stays}

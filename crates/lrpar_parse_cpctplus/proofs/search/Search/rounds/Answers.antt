@@ -1,4 +1,4 @@
-use Rattle.std.proofs.Common.{◌≡◌, ◌<◌, ◌≤◌, ◌+◌, ◌-◌, ◌∙◌, ◌⊎◌, inl, inr, ℕ, List, ap, arith, length, subst, sym}
+use Rattle.std.proofs.Common.{◌≡◌, ◌≤◌, ◌+◌, ◌-◌, ◌∙◌, inl, inr, ℕ, List, ap, arith, length, subst, sym}
 use Rattle.std.proofs.lemmas.List.{length-map}
 use Rattle.lrpar_parse_lexemes.specs.Views.{token_by}
 use Rattle.lrpar_parse_cpctplus.specs.Configurations.{Configured}
@@ -9,7 +9,7 @@ use Rattle.lrpar_parse_cpctplus.specs.SearchRound.{AreAttempts, IsFoundBy, IsRou
 use Rattle.lrpar_parse_cpctplus.proofs.EndingLemmas.{next_least}
 use Rattle.lrpar_parse_cpctplus.proofs.HeldLemmas.{all_held_stay, nodes_len, nodes_stay}
 use Rattle.lrpar_parse_cpctplus.proofs.NumberLemmas.{none_of, some_of}
-use Rattle.lrpar_parse_cpctplus.proofs.ResultLemmas.{AreBehind, behind_more, behind_now, found_by, less_left, nothing_behind, nothing_past_limit, round_past_limit}
+use Rattle.lrpar_parse_cpctplus.proofs.ResultLemmas.{AreBehind, behind_more, behind_now, found_by, nothing_behind, nothing_past_limit, round_past_limit}
 use Rattle.lrpar_parse_cpctplus.proofs.search.Search.rounds.Goals as goal
 
 pub returns-then-limit-len : goal.returns-then-limit-len

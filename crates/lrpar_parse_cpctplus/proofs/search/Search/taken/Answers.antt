@@ -1,4 +1,4 @@
-use Rattle.std.proofs.Common.{◌≡◌, ◌∙◌, List, ℕ, ap, subst, sym}
+use Rattle.std.proofs.Common.{◌≡◌, List, ℕ, subst, sym}
 use Rattle.lrpar_table_stacks.specs.SharedStacks.{current_stack, stack_at}
 use Rattle.lrpar_table_stacks.specs.Stack.{IsStack}
 use Rattle.lrpar_parse_lexemes.specs.Views.{token_by}
