@@ -63,7 +63,8 @@ pub mod laws {
     };
     pub use lrpar_parse_completion::laws::completions_always_repair;
     pub use lrpar_parse_cpctplus::laws::{
-        cheapest_repairs_have_one_answer, no_sequence_is_cheaper_than_repairs,
+        cheapest_repairs_are_chains, cheapest_repairs_have_one_answer,
+        last_steps_give_the_least_cost, no_sequence_is_cheaper_than_repairs,
     };
     pub use lrpar_parse_lexemes::laws::{
         pp_faults_are_compared_by_contents, repairs_are_compared_by_contents,

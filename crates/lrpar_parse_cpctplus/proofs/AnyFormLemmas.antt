@@ -10,8 +10,7 @@ use Rattle.lrpar_parse_cpctplus.specs.AnyForm.{CostNoLess, HaveRepairs, WorksAt}
 use Rattle.lrpar_parse_cpctplus.specs.Cheapest.{cost_of}
 use Rattle.lrpar_parse_cpctplus.specs.Costs.{step_cost, steps_cost}
 use Rattle.lrpar_parse_cpctplus.specs.Forms.{Has, IsFormed}
-use Rattle.lrpar_parse_cpctplus.specs.Walking.{IsStepOf}
-use Rattle.lrpar_parse_cpctplus.proofs.FormLemmas.{formed_before, formed_none, has_after}
+use Rattle.lrpar_parse_cpctplus.proofs.FormLemmas.{IsStepOf, formed_before, formed_none, has_after}
 use Rattle.lrpar_parse_cpctplus.proofs.PruneLemmas.{Stripped, strip}
 use Rattle.lrpar_parse_cpctplus.proofs.LeadLemmas.{cost_begins, fewer_go_on, leads_works, replays_parted, shifts_go_on, works_leads}
 

@@ -1,21 +1,21 @@
 -- The repairs of least cost are the well-formed chains to ends. Of a repair of least cost each beginning is a cheapest sequence to
 -- where it leads, so its steps are links; and a chain to an end works, costs what the end is far, and its last step is no Shift,
 -- since a Shift costs nothing and the tail of the last link is nearer.
-use Rattle.std.proofs.Common.{◌≡◌, ◌≢◌, ◌<◌, ◌≤◌, ◌+◌, ◌∙◌, inl, inr, ℕ, suc, List, [], ◌∷◌, ◌++◌, refl, sym, subst, ap, arith}
+use Rattle.std.proofs.Common.{◌≡◌, ◌≢◌, ◌<◌, ◌≤◌, ◌+◌, ◌∙◌, inl, inr, ℕ, List, [], ◌∷◌, ◌++◌, refl, sym, subst, ap, arith}
 use Rattle.std.proofs.lemmas.List.{append_assoc}
 use Rattle.lrpar_parse_repair.specs.Asked.{Asked, IsStop}
-use Rattle.lrpar_parse_repair.specs.Sequences.{PlainStep, PlainInsert, PlainDelete, PlainShift, CanGoOn}
+use Rattle.lrpar_parse_repair.specs.Sequences.{PlainStep, PlainInsert, PlainDelete, PlainShift}
 use Rattle.lrpar_table_stacks.specs.Run.{token_at}
 use Rattle.lrpar_parse_cpctplus.specs.AnyForm.{WorksAt}
 use Rattle.lrpar_parse_cpctplus.specs.Chains.{IsChain, IsChainToEnd, IsLink, RepairsAreChains}
 use Rattle.lrpar_parse_cpctplus.specs.Cheapest.{IsLeastCost, RepairsAt, cost_of}
-use Rattle.lrpar_parse_cpctplus.specs.Configurations.{Configured, GoesOnFrom, IsDistance, IsEdge, IsNearer, LeadTo, edge_cost, root_of}
+use Rattle.lrpar_parse_cpctplus.specs.Configurations.{Configured, GoesOnFrom, IsDistance, IsNearer, LeadTo, edge_cost, root_of}
 use Rattle.lrpar_parse_cpctplus.specs.Costs.{AreCosts, steps_cost}
 use Rattle.lrpar_parse_cpctplus.specs.Forms.{EndsIn}
 use Rattle.lrpar_parse_cpctplus.proofs.AnyFormLemmas.{cost_no_less}
 use Rattle.lrpar_parse_cpctplus.proofs.DistanceLemmas.{Runs, cheapest_are_links, configured, cost_first, cost_from, one_distance, root_distance, runs_nowhere, runs_on}
 use Rattle.lrpar_parse_cpctplus.proofs.FormLemmas.{last_view, push_some}
-use Rattle.lrpar_parse_cpctplus.proofs.LeadLemmas.{cost_append, cost_some, fewer_go_on, leads_works, place_past, works_leads}
+use Rattle.lrpar_parse_cpctplus.proofs.LeadLemmas.{cost_append, cost_some, leads_works, place_past, works_leads}
 use Rattle.lrpar_parse_cpctplus.proofs.PruneLemmas.{nothing_goes_on}
 
 module _ {X : Type 0} (token : X → ℕ) (at : Asked X) where
@@ -42,17 +42,6 @@ module _ {X : Type 0} (token : X → ℕ) (at : Asked X) where
         | inl none ↦ absurd (root_stops stop (subst (λ (l : List PlainStep). WorksAt token at l) none h))
         | inr v ↦ v
       ]
-
-  -- from where a Shift leads to a place where a parse can go on, it can go on
-  pub shift_goes_on : (u v : Configured) → IsEdge token at u PlainShift v → GoesOnFrom token at v → GoesOnFrom token at u
-  shift_goes_on u v e on =
-      let g = at.checked.grammar in
-      let table = at.checked.table in
-      let k = at.shifts in
-      let next = subst (λ (m : ℕ). CanGoOn token g table at.lexemes k v.stack m) e.1.2 on in
-      let more : CanGoOn token g table at.lexemes (suc k) u.stack u.place = inl (e.1.0, (e.0, v.stack, e.1.1, next)) in
-      let turned : suc k ≡ k + 1 = omega arith in
-      fewer_go_on token g table at.lexemes k 1 u.stack u.place (subst (λ (n : ℕ). CanGoOn token g table at.lexemes n u.stack u.place) turned more)
 
 module _ {X : Type 0} (token : X → ℕ) (costs : List ℕ) (at : Asked X) where
   -- no sequence that works costs less than c

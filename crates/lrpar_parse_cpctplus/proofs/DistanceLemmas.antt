@@ -165,14 +165,6 @@ module _ {X : Type 0} (token : X → ℕ) (costs : List ℕ) (at : Asked X) wher
       let way = edge_leads u v x d far edge in
       omega (arith, there.none way.0 way.1, way.2)
 
-  -- a link makes up the difference of the distances
-  pub link_sum : (u v : Configured) (x : PlainStep) (d e : ℕ) → IsLink token costs at u x v → IsDistance token costs at u d → IsDistance token costs at v e
-      → e ≡ d + edge_cost token costs at u x
-  link_sum u v x d e link tail head =
-      let one = one_distance u link.distance d link.tail tail in
-      let other = one_distance v (link.distance + edge_cost token costs at u x) e link.head head in
-      omega (arith, one, other)
-
   pub link_of : (u v : Configured) (x : PlainStep) (d e : ℕ) → IsEdge token at u x v → IsDistance token costs at u d → IsDistance token costs at v e
       → e ≡ d + edge_cost token costs at u x → IsLink token costs at u x v
   link_of u v x d e edge tail head sum =
@@ -238,21 +230,3 @@ module _ {X : Type 0} (token : X → ℕ) (costs : List ℕ) (at : Asked X) wher
     all_nearer v near =
         let known = has_after (root_of at) v 0 near.0 begins near.1 (omega (arith, near.2)) in
         (known.0, known.1, omega (arith, known.2))
-
-    -- and their costs are their distances, if each has one cost, which is that of a sequence
-    pub costs_are_distances : ((v : Configured) (d e : ℕ) → Has v d → Has v e → d ≡ e)
-        → ((v : Configured) (d : ℕ) → Has v d → (steps : List PlainStep) × LeadTo token at steps v × (cost_of token costs at steps ≡ d))
-        → (v : Configured) (d : ℕ) → Has v d → d ≤ c → IsDistance token costs at v d
-    costs_are_distances one led v d known within = record {
-      some = led v d known;
-      none = λ steps there.
-          elim (compare (cost_of token costs at steps) c) as (λ _. d ≤ cost_of token costs at steps) [
-            | inl below ↦
-                let other = all_nearer v (steps, there, below) in
-                omega (arith, one v d other.0 known other.1, other.2)
-            | inr above ↦
-                let past : c ≤ cost_of token costs at steps =
-                elim above as (λ _. c ≤ cost_of token costs at steps) [ inl same ↦ omega (arith, same) | inr over ↦ omega (arith, over) ] in
-                omega (arith, past, within)
-          ];
-    }

@@ -1,23 +1,21 @@
 -- Each end is that of a repair: in a cheapest sequence that comes to it by a link, the Deletes move after the Inserts that follow
 -- them, which changes neither the cost, nor where it leads, nor that the last step is no Shift.
-use Rattle.std.proofs.Common.{◌≡◌, ◌<◌, ◌≤◌, ◌+◌, ◌∙◌, ◌↔◌, ℕ, List, [], ◌∷◌, ◌++◌, length, refl, sym, subst, ap, arith}
+use Rattle.std.proofs.Common.{◌≡◌, ◌<◌, ◌+◌, ◌∙◌, ◌↔◌, ℕ, List, [], ◌∷◌, ◌++◌, length, refl, sym, subst, ap, arith}
 use Rattle.lrpar_grammar.specs.Grammar.{Grammar, end_token}
 use Rattle.lrpar_table_rows.specs.Table.{Table}
-use Rattle.lrpar_parse_repair.specs.Asked.{Asked, IsStop}
+use Rattle.lrpar_parse_repair.specs.Asked.{Asked}
 use Rattle.lrpar_parse_repair.specs.Sequences.{PlainStep, PlainInsert, PlainDelete, PlainShift, Replays}
 use Rattle.lrpar_parse_repair.proofs.ReplayLemmas.{replay_one_way}
 use Rattle.lrpar_parse_cpctplus.specs.Chains.{EndsHaveRepairs, IsEnd}
 use Rattle.lrpar_parse_cpctplus.specs.Cheapest.{RepairsAt, cost_of}
 use Rattle.lrpar_parse_cpctplus.specs.Configurations.{Configured, LeadTo, edge_cost, root_of}
-use Rattle.lrpar_parse_cpctplus.specs.Costs.{AreCosts, steps_cost}
+use Rattle.lrpar_parse_cpctplus.specs.Costs.{steps_cost}
 use Rattle.lrpar_parse_cpctplus.specs.Forms.{EndsIn, IsFormed}
-use Rattle.lrpar_parse_cpctplus.specs.Listing.{GoesFurthest, Settings}
 use Rattle.lrpar_parse_cpctplus.specs.Reaching.{GoesAsFar, Reaches}
 use Rattle.lrpar_parse_cpctplus.proofs.AnyFormLemmas.{formed_prepend, sunk, sunk_costs, sunk_formed}
-use Rattle.lrpar_parse_cpctplus.proofs.ChainLemmas.{CostAtLeast, chain_runs, near_link_moves, repair_is_chain, works_to}
+use Rattle.lrpar_parse_cpctplus.proofs.ChainLemmas.{near_link_moves, works_to}
 use Rattle.lrpar_parse_cpctplus.proofs.DistanceLemmas.{cost_last, one_distance, runs_by, runs_joined}
 use Rattle.lrpar_parse_cpctplus.proofs.FormLemmas.{ends_in_one, formed_none, push_some}
-use Rattle.lrpar_parse_cpctplus.proofs.ReachLemmas.{goes_one_far}
 
 insert_no_shift : (t : ℕ) → ¬ (PlainInsert t ≡ PlainShift)
 insert_no_shift t e = cc
@@ -173,28 +171,4 @@ goes_as_far_from token at steps v far a =
           subst (λ (j : ℕ). Reaches token g table at.lexemes (at.place + 250) v.stack j far) same.2
           (subst (λ (l : List ℕ). Reaches token g table at.lexemes (at.place + 250) l h.1 far) same.1 h.3)),
       (λ r. (v.stack, v.place, a, r)),
-    )
-
--- a parse goes on furthest after a repair of least cost if from no end it goes on further than from where the repair leads
-pub furthest_by_ends : {X : Type 0} (token : X → ℕ) (settings : Settings) (at : Asked X) (c : ℕ) → IsStop token at → AreCosts settings.costs
-    → CostAtLeast token settings.costs at c → (steps : List PlainStep) (v : Configured) (far : ℕ) → LeadTo token at steps v
-    → Reaches token at.checked.grammar at.checked.table at.lexemes (at.place + 250) v.stack v.place far
-    → GoesFurthest token settings at c steps
-    ↔ ((w : Configured) (n : ℕ) → IsEnd token settings.costs at c w
-    → Reaches token at.checked.grammar at.checked.table at.lexemes (at.place + 250) w.stack w.place n → n ≤ far)
-furthest_by_ends token settings at c stop each least steps v far a reaches =
-    let costs = settings.costs in
-    let goes = (goes_as_far_from token at steps v far a).1 reaches in (
-      (λ h w n end reach.
-          let repair = end_has_repair token costs at c w end in
-          let one = goes_one_far token at steps h.0 far h.1 goes in
-          omega (arith, one, h.2 repair.0 n repair.1 ((goes_as_far_from token at repair.0 w n repair.2).1 reach))),
-      (λ ends. (
-        far,
-        goes,
-        λ other n repair reach.
-            let chain = repair_is_chain token costs at c stop each least other repair in
-            let there : LeadTo token at other chain.end = chain_runs token costs at c (root_of at) chain.end other chain.chain in
-            ends chain.end n chain.ends ((goes_as_far_from token at other chain.end n there).0 reach),
-      )),
     )

@@ -1,6 +1,5 @@
 -- The configurations to which steps lead, and what steps cost, step by step.
 use Rattle.std.proofs.Common.{◌≡◌, ◌<◌, ◌≤◌, ◌+◌, ◌∙◌, inl, inr, ℕ, zero, suc, List, [], ◌∷◌, ◌++◌, refl, sym, subst, ap, arith, replicate}
-use Rattle.std.proofs.lemmas.List.{append-nil, append_assoc}
 use Rattle.lrpar_grammar.specs.Grammar.{Grammar}
 use Rattle.lrpar_table_rows.specs.Table.{Table}
 use Rattle.lrpar_table_stacks.specs.Run.{token_at}
@@ -51,24 +50,6 @@ module _ {X : Type 0} (token : X → ℕ) (g : Grammar) (table : Table) (lexemes
   replays_place st i [] ps after j x = x.2
   replays_place st i (s ∷ p) ps after j x =
       replays_place x.1 x.2 p x.3 after j x.5 ∙ ap (λ (m : ℕ). place_past m p) (step_place st i s x.0 x.1 x.2 x.4)
-
-  -- one step more
-  pub replays_push : (st : List ℕ) (i : ℕ) (p : List PlainStep) (ps mid : List ℕ) (j : ℕ) (s : PlainStep) (qs next : List ℕ) (n : ℕ)
-      → Replays token g table lexemes st i p ps mid j → StepsTo token g table lexemes mid j s qs next n
-      → Replays token g table lexemes st i (p ++ s ∷ []) (ps ++ qs) next n
-  replays_push st i [] ps mid j s qs next n x step =
-      let here = subst (λ (l : List ℕ). StepsTo token g table lexemes l i s qs next n) x.1
-      (subst (λ (m : ℕ). StepsTo token g table lexemes mid m s qs next n) x.2 step) in
-      (qs, next, n, [], here, (refl, refl, refl), ap (λ (l : List ℕ). l ++ qs) x.0 ∙ sym (append-nil qs))
-  replays_push st i (y ∷ p) ps mid j s qs next n x step = (
-    x.0,
-    x.1,
-    x.2,
-    x.3 ++ qs,
-    x.4,
-    replays_push x.1 x.2 p x.3 mid j s qs next n x.5 step,
-    ap (λ (l : List ℕ). l ++ qs) x.6 ∙ append_assoc x.0 x.3 qs,
-  )
 
   -- steps in two parts
   pub record Parted (st : List ℕ) (i : ℕ) (p q : List PlainStep) (after : List ℕ) (j : ℕ) : Type 0 where

@@ -9,9 +9,8 @@ use Rattle.lrpar_parse_cpctplus.specs.Order.{IsEarlier, IsStepBefore}
 use Rattle.lrpar_parse_cpctplus.proofs.AnyFormLemmas.{first_or_later}
 use Rattle.lrpar_parse_cpctplus.proofs.DistanceLemmas.{compare}
 use Rattle.lrpar_parse_cpctplus.proofs.FormLemmas.{has_after, has_none}
-use Rattle.lrpar_parse_cpctplus.proofs.MemberLemmas.{contained, is_in}
-use Rattle.lrpar_parse_cpctplus.proofs.OneAnswerLemmas.{at_any, earlier_one_way}
-use Rattle.lrpar_parse_cpctplus.proofs.OrderLemmas.{pairs_head, pairs_tail}
+use Rattle.lrpar_parse_cpctplus.proofs.MemberLemmas.{at_any, contained, is_in}
+use Rattle.lrpar_parse_cpctplus.proofs.OrderLemmas.{earlier_one_way, pairs_head, pairs_tail}
 use Rattle.lrpar_parse_cpctplus.proofs.ReachLemmas.{goes_one_far}
 
 -- of two steps one comes before the other, or they are the same
@@ -192,7 +191,7 @@ module _ {A : Type 0} (R : A → A → Type 0) (one_way : (x y : A) → R x y �
       elim (h.others y p) as (λ _. (y ≡ x) ⊎ R x y) [
         | inl within ↦ elim (is_in y (x ∷ xs) within) as (λ _. (y ≡ x) ⊎ R x y) [
           | inl e ↦ inl e
-          | inr later ↦ inr (at_any R one_way (R x) y xs (pairs_head R x xs h.ordered) later)
+          | inr later ↦ inr (at_any (R x) y xs (pairs_head R x xs h.ordered) later)
         ]
         | inr past ↦ inr (past.1 zero x (omega arith))
       ]
@@ -213,7 +212,7 @@ module _ {A : Type 0} (R : A → A → Type 0) (one_way : (x y : A) → R x y �
     each = λ z m. (
       h.each z (contained z (x ∷ xs) (inr (is_in z xs m))),
       λ e.
-          let after = at_any R one_way (R x) z xs (pairs_head R x xs h.ordered) (is_in z xs m) in
+          let after = at_any (R x) z xs (pairs_head R x xs h.ordered) (is_in z xs m) in
           let itself = subst (λ (w : A). R x w) e after in
           one_way x x itself itself,
     );

@@ -1,72 +1,11 @@
--- The order of the repairs in an answer: what is tried before a repair is earlier than it, no repair comes first before itself,
--- and a stable sort leaves those that tie in their order.
-use Rattle.std.proofs.Common.{◌≡◌, ◌≢◌, ◌<◌, ◌∙◌, ◌⊎◌, inl, inr, ℕ, zero, suc, List, [], ◌∷◌, ◌++◌, Bool, true, false, cond, filter, length, get_or, map, refl, sym, subst, ap, arith, All, AllPairs}
+-- The order of sequences: of two at most one is earlier; and a stable sort leaves those that tie in their order.
+use Rattle.std.proofs.Common.{◌≡◌, ◌<◌, ◌∙◌, ℕ, zero, suc, List, [], ◌∷◌, ◌++◌, Bool, true, false, cond, filter, length, get_or, map, sym, subst, ap, arith, All, AllPairs}
 use Rattle.std.specs.List.Sorted.{IsStableBy, ties}
-use Rattle.std.proofs.lemmas.List.{append_cancel_left, get_or-map, length-map}
+use Rattle.std.proofs.lemmas.List.{get_or-map, length-map}
 use Rattle.std.proofs.lemmas.List.Elements.{All-map}
 use Rattle.std.proofs.lemmas.List.Kept.{AllPairs-cons, AllPairs-filter}
-use Rattle.lrpar_parse_repair.specs.Asked.{Asked}
 use Rattle.lrpar_parse_repair.specs.Sequences.{PlainStep, PlainInsert, PlainDelete, PlainShift}
-use Rattle.lrpar_parse_cpctplus.specs.Order.{ComesFirst, IsEarlier, IsStepBefore}
-use Rattle.lrpar_parse_cpctplus.specs.Reaching.{GoesAsFar}
-use Rattle.lrpar_parse_cpctplus.specs.Walking.{IsStepOf, rank_of}
-use Rattle.lrpar_parse_cpctplus.proofs.BeforeLemmas.{AreStepsOf, IsBefore}
-use Rattle.lrpar_parse_cpctplus.proofs.ReachLemmas.{goes_one_far}
-
--- of two steps the one of the smaller rank comes before the other
-step_before : (end : ℕ) (x y : PlainStep) → IsStepOf end x → IsStepOf end y → rank_of end x < rank_of end y → IsStepBefore x y
-step_before end (PlainInsert t) (PlainInsert u) a b less = less
-step_before end (PlainInsert t) PlainDelete a b less = tt
-step_before end (PlainInsert t) PlainShift a b less = tt
-step_before end PlainDelete (PlainInsert u) a b less = absurd (omega (arith, b, less))
-step_before end PlainDelete PlainDelete a b less = absurd (omega (arith, less))
-step_before end PlainDelete PlainShift a b less = tt
-step_before end PlainShift (PlainInsert u) a b less = absurd (omega (arith, b, less))
-step_before end PlainShift PlainDelete a b less = absurd (omega (arith, less))
-step_before end PlainShift PlainShift a b less = absurd (omega (arith, less))
-
--- what comes before a path with one step more is earlier, or the path begins with it
-pub earlier_or_begins : (end : ℕ) (q p : List PlainStep) (s : PlainStep) → AreStepsOf end q → AreStepsOf end (p ++ s ∷ []) → IsBefore end q p (rank_of end s)
-    → IsEarlier q (p ++ s ∷ []) ⊎ ((rest : List PlainStep) × (p ≡ q ++ rest))
-earlier_or_begins end [] p s is are h = inr (p, refl)
-earlier_or_begins end (x ∷ q) [] s is are h =
-    inl (record {
-      same = [];
-      x = x;
-      y = s;
-      after_x = q;
-      after_y = [];
-      left = refl;
-      right = refl;
-      before = step_before end x s is.0 are.0 h;
-    })
-earlier_or_begins end (x ∷ q) (y ∷ p) s is are h =
-    elim h as (λ _. IsEarlier (x ∷ q) (y ∷ (p ++ s ∷ [])) ⊎ ((rest : List PlainStep) × (y ∷ p ≡ x ∷ (q ++ rest)))) [
-      | inl less ↦ inl (record {
-        same = [];
-        x = x;
-        y = y;
-        after_x = q;
-        after_y = p ++ s ∷ [];
-        left = refl;
-        right = refl;
-        before = step_before end x y is.0 are.0 less;
-      })
-      | inr both ↦ elim (earlier_or_begins end q p s is.1 are.1 both.1)
-          as (λ _. IsEarlier (x ∷ q) (y ∷ (p ++ s ∷ [])) ⊎ ((rest : List PlainStep) × (y ∷ p ≡ x ∷ (q ++ rest)))) [
-            | inl e ↦ inl (record {
-              same = x ∷ e.same;
-              x = e.x;
-              y = e.y;
-              after_x = e.after_x;
-              after_y = e.after_y;
-              left = ap (λ (l : List PlainStep). x ∷ l) e.left;
-              right = ap (λ (z : PlainStep). z ∷ (p ++ s ∷ [])) (sym both.0) ∙ ap (λ (l : List PlainStep). x ∷ l) e.right;
-              before = e.before;
-            })
-            | inr begins ↦ inr (begins.0, ap (λ (z : PlainStep). z ∷ p) (sym both.0) ∙ ap (λ (l : List PlainStep). x ∷ l) begins.1)
-          ]
-    ]
+use Rattle.lrpar_parse_cpctplus.specs.Order.{IsEarlier, IsStepBefore}
 
 -- no step comes before itself, no sequence is earlier than itself, and no repair comes first before itself
 pub not_before_itself : (x : PlainStep) → ¬ (IsStepBefore x x)
@@ -74,18 +13,39 @@ not_before_itself (PlainInsert t) h = omega (arith, h)
 not_before_itself PlainDelete h = h
 not_before_itself PlainShift h = h
 
-pub earlier_apart : (xs ys : List PlainStep) → IsEarlier xs ys → xs ≢ ys
-earlier_apart xs ys e same =
-    let rest : e.x ∷ e.after_x ≡ e.y ∷ e.after_y =
-    append_cancel_left e.same (e.x ∷ e.after_x) (e.y ∷ e.after_y) (sym e.left ∙ same ∙ e.right) in
-    let first : e.x ≡ e.y = cc in
-    not_before_itself e.y (subst (λ (z : PlainStep). IsStepBefore z e.y) first e.before)
+-- of two steps at most one comes before the other
+steps_one_way : (x y : PlainStep) → IsStepBefore x y → ¬ (IsStepBefore y x)
+steps_one_way (PlainInsert t) (PlainInsert u) h k = omega (arith, h, k)
+steps_one_way (PlainInsert t) PlainDelete h k = k
+steps_one_way (PlainInsert t) PlainShift h k = k
+steps_one_way PlainDelete (PlainInsert u) h k = h
+steps_one_way PlainDelete PlainDelete h k = h
+steps_one_way PlainDelete PlainShift h k = k
+steps_one_way PlainShift (PlainInsert u) h k = h
+steps_one_way PlainShift PlainDelete h k = h
+steps_one_way PlainShift PlainShift h k = h
 
-pub first_apart : {X : Type 0} (token : X → ℕ) (at : Asked X) (xs ys : List PlainStep) → ComesFirst token at xs ys → xs ≢ ys
-first_apart token at xs ys h same =
-    let there = subst (λ (l : List PlainStep). GoesAsFar token at l h.1) (sym same) h.3 in
-    let one = goes_one_far token at xs h.0 h.1 h.2 there in
-    elim h.4 as (λ _. ⊥) [ inl less ↦ omega (arith, less, one) | inr both ↦ earlier_apart xs ys both.1 same ]
+-- two sequences have one first difference
+differ_one_way : (s : List PlainStep) (x y : PlainStep) (a b : List PlainStep) (t : List PlainStep) (u v : PlainStep) (c d : List PlainStep)
+    → s ++ x ∷ a ≡ t ++ v ∷ d → s ++ y ∷ b ≡ t ++ u ∷ c → IsStepBefore x y → ¬ (IsStepBefore u v)
+differ_one_way [] x y a b [] u v c d left right h k =
+    let one : x ≡ v = let e : x ∷ a ≡ v ∷ d = left in cc in
+    let other : y ≡ u = let e : y ∷ b ≡ u ∷ c = right in cc in
+    steps_one_way x y h (subst (λ (z : PlainStep). IsStepBefore z x) (sym other) (subst (λ (z : PlainStep). IsStepBefore u z) (sym one) k))
+differ_one_way [] x y a b (z ∷ t) u v c d left right h k =
+    let same : x ≡ y = let e : x ∷ a ≡ z ∷ (t ++ v ∷ d) = left in let f : y ∷ b ≡ z ∷ (t ++ u ∷ c) = right in cc in
+    not_before_itself y (subst (λ (w : PlainStep). IsStepBefore w y) same h)
+differ_one_way (z ∷ s) x y a b [] u v c d left right h k =
+    let same : u ≡ v = let e : z ∷ (s ++ x ∷ a) ≡ v ∷ d = left in let f : z ∷ (s ++ y ∷ b) ≡ u ∷ c = right in cc in
+    not_before_itself v (subst (λ (w : PlainStep). IsStepBefore w v) same k)
+differ_one_way (z ∷ s) x y a b (w ∷ t) u v c d left right h k =
+    let one : s ++ x ∷ a ≡ t ++ v ∷ d = let e : z ∷ (s ++ x ∷ a) ≡ w ∷ (t ++ v ∷ d) = left in cc in
+    let other : s ++ y ∷ b ≡ t ++ u ∷ c = let e : z ∷ (s ++ y ∷ b) ≡ w ∷ (t ++ u ∷ c) = right in cc in
+    differ_one_way s x y a b t u v c d one other h k
+
+pub earlier_one_way : (xs ys : List PlainStep) → IsEarlier xs ys → ¬ (IsEarlier ys xs)
+earlier_one_way xs ys h k =
+    differ_one_way h.same h.x h.y h.after_x h.after_y k.same k.x k.y k.after_x k.after_y (sym h.left ∙ k.right) (sym h.right ∙ k.left) h.before k.before
 
 -- pairs of a list, in order
 module _ {A : Type 0} (R : A → A → Type 0) where

@@ -1,24 +1,20 @@
 -- The rounds of a search: what is known at the head of round c are the configurations nearer than c, at their distances. A round adds
 -- those at distance c, of which the steps other than Shifts come from what is known, and then those to which Shifts lead.
-use Rattle.std.proofs.Common.{◌≡◌, ◌≢◌, ◌<◌, ◌≤◌, ◌+◌, ◌⊎◌, inl, inr, ℕ, List, [], length, refl, sym, subst, arith}
+use Rattle.std.proofs.Common.{◌≡◌, ◌≢◌, ◌<◌, ◌≤◌, ◌+◌, ◌⊎◌, inl, inr, ℕ, List, [], refl, sym, subst, arith}
 use Rattle.lrpar_parse_repair.specs.Asked.{Asked, IsStop}
 use Rattle.lrpar_parse_repair.specs.Sequences.{PlainStep, PlainInsert, PlainDelete, PlainShift}
 use Rattle.lrpar_table_stacks.specs.Run.{token_at}
 use Rattle.lrpar_parse_cpctplus.specs.AnyForm.{WorksAt}
 use Rattle.lrpar_parse_cpctplus.specs.Chains.{IsLastStep, IsLink}
-use Rattle.lrpar_parse_cpctplus.specs.Cheapest.{IsRepair}
 use Rattle.lrpar_parse_cpctplus.specs.Configurations.{Configured, IsDistance, IsEdge, IsNearer, LeadTo, edge_cost, root_of}
 use Rattle.lrpar_parse_cpctplus.specs.Costs.{AreCosts, token_cost}
-use Rattle.lrpar_parse_cpctplus.specs.Listing.{AreListed, Settings}
-use Rattle.lrpar_parse_cpctplus.specs.Tallied.{AreApart, IsIn}
 use Rattle.lrpar_parse_cpctplus.proofs.ChainLemmas.{CostAtLeast, moves_cost, nearer_stops, works_leads_to}
 use Rattle.lrpar_parse_cpctplus.proofs.DistanceLemmas.{all_led_to, all_nearer, compare, distance_nearer, edge_bounds, edge_leads, one_distance, root_distance, runs_nowhere}
 use Rattle.lrpar_parse_cpctplus.proofs.LastStepLemmas.{none_at, none_below_zero}
-use Rattle.lrpar_parse_cpctplus.proofs.MemberLemmas.{apart_few, is_in}
 use Rattle.lrpar_parse_cpctplus.proofs.PruneLemmas.{nothing_fed}
 
 -- a step is a Shift, or it isn't
-shift_or_not : (x : PlainStep) → (x ≡ PlainShift) ⊎ (x ≢ PlainShift)
+pub shift_or_not : (x : PlainStep) → (x ≡ PlainShift) ⊎ (x ≢ PlainShift)
 shift_or_not (PlainInsert t) = inr (λ e. cc)
 shift_or_not PlainDelete = inr (λ e. cc)
 shift_or_not PlainShift = inl refl
@@ -155,22 +151,3 @@ module _ {X : Type 0} (token : X → ℕ) (costs : List ℕ) (at : Asked X) wher
   nothing_works c dearest most near least steps works =
       let way = works_leads_to token at steps works in
       nearer_stops token costs at (c + 1) way.0 least (nothing_farther c dearest most near way.0 steps way.1) way.2
-
-module _ {X : Type 0} (token : X → ℕ) (settings : Settings) (at : Asked X) where
-  -- without a repair nothing is listed
-  pub listed_none : ((steps : List PlainStep) → ¬ (IsRepair token at steps)) → AreListed token settings at []
-  listed_none none = record { first = λ c found. absurd (none found.least.some.0 found.least.some.1.0); else = inl refl }
-
-  -- nor if more configurations than may be kept are nearer than c, and no sequence that works costs less than c
-  pub listed_past_limit : (c : ℕ) → CostAtLeast token settings.costs at c → (nodes : List Configured) → AreApart nodes
-      → ((v : Configured) → IsIn v nodes → IsNearer token settings.costs at c v) → settings.limit < length nodes → AreListed token settings at []
-  listed_past_limit c least nodes apart each more = record {
-    first = λ b found.
-        let repair = found.least.some in
-        let above = least repair.0 repair.1.0.works in
-        let few = apart_few nodes found.within.0 apart (λ v m.
-        let near = each v m in
-        is_in v found.within.0 (found.within.1 v (near.0, near.1, omega (arith, near.2, above, repair.1.1)))) in
-        absurd (omega (arith, few, more, found.within.2));
-    else = inl refl;
-  }

@@ -1,21 +1,20 @@
 -- The ways to ends, step by step: those from the error point are the repairs of least cost; a way from an end has no steps; and one from
 -- another configuration has a link and then a way from where it leads.
-use Rattle.std.proofs.Common.{◌≡◌, ◌<◌, ◌+◌, ◌||◌, ◌∙◌, ◌↔◌, ◌⊎◌, inl, inr, ℕ, List, [], ◌∷◌, Bool, true, false, IsTrue, length, refl, sym, subst, ap, ap₂, arith}
+use Rattle.std.proofs.Common.{◌≡◌, ◌<◌, ◌||◌, ◌∙◌, ◌↔◌, ◌⊎◌, inl, inr, ℕ, List, [], ◌∷◌, Bool, true, false, IsTrue, length, refl, sym, subst, ap, ap₂}
 use Rattle.std.specs.Prelude.{slice_index_or}
 use Rattle.lrpar_grammar.specs.Grammar.{end_token}
 use Rattle.lrpar_parse_repair.specs.Asked.{Asked}
 use Rattle.lrpar_parse_repair.specs.Sequences.{PlainStep, PlainInsert, PlainDelete, PlainShift}
 use Rattle.lrpar_parse_repair.proofs.SequenceLemmas.{steps_one_way}
-use Rattle.lrpar_parse_cpctplus.specs.Chains.{IsChain, IsChainToEnd, IsEnd, IsLink}
-use Rattle.lrpar_parse_cpctplus.specs.Configurations.{Configured, IsEdge, IsNearer, root_of}
+use Rattle.lrpar_parse_cpctplus.specs.Chains.{IsChain, IsChainToEnd}
+use Rattle.lrpar_parse_cpctplus.specs.Configurations.{Configured, IsEdge, root_of}
 use Rattle.lrpar_parse_cpctplus.specs.Forms.{IsFormed}
-use Rattle.lrpar_parse_cpctplus.specs.Listing.{AreAlike, InsertsAvoided, IsPreferred, Settings, avoids, is_earlier, is_shorter}
+use Rattle.lrpar_parse_cpctplus.specs.Listing.{AreAlike, InsertsAvoided, IsPreferred, avoids, is_earlier, is_shorter}
 use Rattle.lrpar_parse_cpctplus.specs.Order.{IsEarlier}
-use Rattle.lrpar_parse_cpctplus.specs.Walking.{IsStepOf}
-use Rattle.lrpar_parse_cpctplus.specs.Ways.{FitAfter, FitsAfter, HasWay, IsWay, has_avoided, is_avoided, is_delete}
+use Rattle.lrpar_parse_cpctplus.specs.Ways.{FitAfter, FitsAfter, IsWay, has_avoided, is_avoided, is_delete}
 use Rattle.lrpar_parse_cpctplus.proofs.AnyFormLemmas.{BeginsBy, first_or_later, formed_after, formed_prepend}
-use Rattle.lrpar_parse_cpctplus.proofs.DistanceLemmas.{configured, nearer_distance}
-use Rattle.lrpar_parse_cpctplus.proofs.FormLemmas.{formed_none, has_after, has_none}
+use Rattle.lrpar_parse_cpctplus.proofs.DistanceLemmas.{configured}
+use Rattle.lrpar_parse_cpctplus.proofs.FormLemmas.{IsStepOf, formed_none, has_after, has_none}
 
 no_true : ¬ (true ≡ false)
 no_true e = cc
@@ -88,38 +87,6 @@ module _ {X : Type 0} (token : X → ℕ) (costs : List ℕ) (at : Asked X) wher
       chain = h.chain;
     }),
     (λ h. record { fits = formed_fit (end_token at.checked.grammar) steps h.formed; end = h.end; ends = h.ends; chain = h.chain }),
-  )
-
-  -- a way without steps is one from an end
-  pub way_none : (c : ℕ) (deleted : Bool) (v : Configured) → IsWay token costs at c deleted v [] ↔ IsEnd token costs at c v
-  way_none c deleted v = (
-    (λ h. subst (λ (w : Configured). IsEnd token costs at c w) (sym h.chain) h.ends),
-    (λ h. record { fits = tt; end = v; ends = h; chain = refl }),
-  )
-
-  -- from an end there is no other one
-  pub end_has_no_steps : (c : ℕ) (deleted : Bool) (v : Configured) (steps : List PlainStep) → IsEnd token costs at c v → IsWay token costs at c deleted v steps
-      → steps ≡ []
-  end_has_no_steps c deleted v [] end way = refl
-  end_has_no_steps c deleted v (x ∷ steps) end way =
-      let near = way.chain.2 in
-      let below = nearer_distance token costs at c c v end.distance near in
-      absurd (omega (arith, below))
-
-  -- a way with a first step
-  pub way_first : (c : ℕ) (deleted : Bool) (v : Configured) (x : PlainStep) (steps : List PlainStep)
-      → IsWay token costs at c deleted v (x ∷ steps)
-      ↔ (FitsAfter deleted x × IsNearer token costs at c v
-      × ((next : Configured) × IsLink token costs at v x next × IsWay token costs at c (is_delete x) next steps))
-  way_first c deleted v x steps = (
-    (λ h. (
-      h.fits.0,
-      h.chain.2,
-      (h.chain.0, h.chain.1, record { fits = h.fits.1; end = h.end; ends = h.ends; chain = h.chain.3 }),
-    )),
-    (λ h.
-        let rest = h.2.2 in
-        record { fits = (h.0, rest.fits); end = rest.end; ends = rest.ends; chain = (h.2.0, h.2.1, h.1, rest.chain) }),
   )
 
 -- whether a sequence inserts a token that is to be avoided
@@ -197,54 +164,3 @@ module _ (avoided : List Bool) where
   pub preferred_earlier : (xs ys : List PlainStep) → has_avoided avoided xs ≡ has_avoided avoided ys → length xs ≡ length ys → IsEarlier xs ys
       → IsPreferred avoided xs ys
   preferred_earlier xs ys same long earlier = is_earlier (alike_by xs ys same) long earlier
-
-module _ {X : Type 0} (token : X → ℕ) (settings : Settings) (at : Asked X) where
-  -- which numbers of steps ways have: none from an end, and one more from where a link begins
-  pub no_steps : (c : ℕ) (deleted : Bool) (v : Configured) (b : Bool) → HasWay token settings at c deleted v 0 b ↔ (IsEnd token settings.costs at c v × (b ≡ false))
-  no_steps c deleted v b = (
-    (λ h. without_steps h.0 h.1 h.2 h.3),
-    (λ h. ([], (way_none token settings.costs at c deleted v).1 h.0, refl, sym h.1)),
-  )
-    where
-      without_steps : (steps : List PlainStep) → IsWay token settings.costs at c deleted v steps → length steps ≡ 0 → has_avoided settings.avoided steps ≡ b
-          → IsEnd token settings.costs at c v × (b ≡ false)
-      without_steps [] way long has = ((way_none token settings.costs at c deleted v).0 way, sym has)
-      without_steps (x ∷ steps) way long has = absurd (omega (arith, long))
-
-  -- a first step, and a way of one step less from where it leads
-  pub record HasFirst (c : ℕ) (deleted : Bool) (v : Configured) (n : ℕ) (b : Bool) : Type 0 where
-    pub near : IsNearer token settings.costs at c v
-    pub step : PlainStep
-    pub next : Configured
-    pub rest : Bool
-    pub fits : FitsAfter deleted step
-    pub link : IsLink token settings.costs at v step next
-    pub way : HasWay token settings at c (is_delete step) next n rest
-    pub has : b ≡ is_avoided settings.avoided step || rest
-
-  pub more_steps : (c : ℕ) (deleted : Bool) (v : Configured) (n : ℕ) (b : Bool) → HasWay token settings at c deleted v (n + 1) b ↔ HasFirst c deleted v n b
-  more_steps c deleted v n b = (
-    (λ h. with_steps h.0 h.1 h.2 h.3),
-    (λ h. (
-      h.step ∷ h.way.0,
-      (way_first token settings.costs at c deleted v h.step h.way.0).1 (h.fits, h.near, (h.next, h.link, h.way.1)),
-      omega (arith, h.way.2),
-      ap (λ (r : Bool). is_avoided settings.avoided h.step || r) h.way.3 ∙ sym h.has,
-    )),
-  )
-    where
-      with_steps : (steps : List PlainStep) → IsWay token settings.costs at c deleted v steps → length steps ≡ n + 1 → has_avoided settings.avoided steps ≡ b
-          → HasFirst c deleted v n b
-      with_steps [] way long has = absurd (omega (arith, long))
-      with_steps (x ∷ steps) way long has =
-          let first = (way_first token settings.costs at c deleted v x steps).0 way in
-          record {
-            near = first.1;
-            step = x;
-            next = first.2.0;
-            rest = has_avoided settings.avoided steps;
-            fits = first.0;
-            link = first.2.1;
-            way = (steps, first.2.2, omega (arith, long), refl);
-            has = sym has;
-          }

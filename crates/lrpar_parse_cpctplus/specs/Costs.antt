@@ -4,15 +4,10 @@ use Rattle.lrpar_grammar.specs.Grammar.{Grammar}
 use Rattle.lrpar_table_stacks.specs.Run.{token_at}
 use Rattle.lrpar_parse_repair.specs.Sequences.{PlainStep, PlainInsert, PlainDelete, PlainShift}
 
--- how many candidates may be tried, and what each token costs, by its number; a token past these costs 1
-pub record Terms : Type 0 where
-  pub limit : ℕ
-  pub costs : List ℕ
-
--- the costs that are kept; if none are, each token costs 1
-abbrev pub costs_of : {A : Type 0} → Option (Vec ℕ A) → List ℕ
-costs_of None = []
-costs_of (Some costs) = costs.items
+-- what is kept; nothing if there is no list
+abbrev pub items_of : {T A : Type 0} → Option (Vec T A) → List T
+items_of None = []
+items_of (Some list) = list.items
 
 -- what a token costs
 abbrev pub token_cost : List ℕ → ℕ → ℕ

@@ -19,6 +19,10 @@ pub record Settings : Type 0 where
   pub most : ℕ
   pub lists_all : Bool
 
+-- these tokens are to be avoided, and no others
+abbrev pub AreAvoided : List Bool → List ℕ → Type 0
+AreAvoided avoided tokens = (t : ℕ) → IsTrue (slice_index_or avoided t false) ↔ Contains tokens t
+
 -- the sequence inserts a token that is to be avoided
 abbrev pub InsertsAvoided : List Bool → List PlainStep → Type 0
 InsertsAvoided avoided steps = (t : ℕ) × IsTrue (slice_index_or avoided t false) × Has steps (PlainInsert t ∷ [])

@@ -1,10 +1,9 @@
 -- The ways from a configuration to ends: what is left of the repairs of least cost that pass it.
-use Rattle.std.specs.Prelude.{◌≡◌, ◌||◌, ℕ, Bool, true, false, List, [], ◌∷◌, length, slice_index_or}
+use Rattle.std.specs.Prelude.{◌≡◌, ◌||◌, ℕ, Bool, true, false, List, [], ◌∷◌, slice_index_or}
 use Rattle.lrpar_parse_repair.specs.Asked.{Asked}
 use Rattle.lrpar_parse_repair.specs.Sequences.{PlainStep, PlainInsert, PlainDelete, PlainShift}
 use Rattle.lrpar_parse_cpctplus.specs.Chains.{IsChain, IsEnd}
 use Rattle.lrpar_parse_cpctplus.specs.Configurations.{Configured}
-use Rattle.lrpar_parse_cpctplus.specs.Listing.{Settings}
 
 -- whether it is a Delete
 abbrev pub is_delete : PlainStep → Bool
@@ -40,8 +39,3 @@ is_avoided avoided PlainShift = false
 abbrev pub has_avoided : List Bool → List PlainStep → Bool
 has_avoided avoided [] = false
 has_avoided avoided (step ∷ steps) = is_avoided avoided step || has_avoided avoided steps
-
--- there is a way of n steps, one of which inserts such a token, or none does
-abbrev pub HasWay : {X : Type 0} → (X → ℕ) → Settings → Asked X → ℕ → Bool → Configured → ℕ → Bool → Type 0
-HasWay token settings at c deleted v n avoided =
-    (steps : List PlainStep) × IsWay token settings.costs at c deleted v steps × (length steps ≡ n) × (has_avoided settings.avoided steps ≡ avoided)

@@ -1,16 +1,18 @@
 //! The recoverer CPCT+, which returns the repairs of least cost.
-ghost use Rattle.std.specs.Prelude.{◌≡◌, [], IfErr, IfOk, IfSome, IsNone};
+ghost use Rattle.std.specs.Prelude.{◌≡◌, ◌↔◌, ◌⊎◌, ℕ, [], false, true, map, slice_index_or, IfErr, IfOk, IfSome, IsNone, IsTrue, OnOk};
+ghost use Rattle.std.specs.List.{Contains};
 ghost use Rattle.lrpar_grammar.specs.Grammar.{tokens_len};
 ghost use Rattle.lrpar_parse_lexemes.specs.Views.{token_by};
 ghost use Rattle.lrpar_parse_repair.specs.PlainSteps.{plain_sequences};
-ghost use Rattle.lrpar_parse_cpctplus.specs.Answer.{AreCheapest};
-ghost use Rattle.lrpar_parse_cpctplus.specs.Costs.{AreCosts, token_cost};
+ghost use Rattle.lrpar_parse_cpctplus.specs.Costs.{AreCosts, items_of, token_cost};
+ghost use Rattle.lrpar_parse_cpctplus.specs.Listing.{AreAvoided, AreListed};
 ghost use Rattle.lrpar_parse_cpctplus.specs.Refused.{IsFirstFree, IsFreeBy, IsFreeToken};
 ghost use Rattle.lrpar_parse_cpctplus.specs.Said.{AreSaid, said_by};
+ghost use Rattle.lrpar_parse_cpctplus.specs.SearchRound.{AreOnce, AreWeights};
 
 use crate::fault::CostFault;
+use crate::listing::{Wanted, first_repairs};
 use crate::search::Search;
-use crate::tally::{Tally, sequences_of};
 use lrpar_grammar::grammar::YaccGrammar;
 use lrpar_grammar::span::{StorageIndex, TIdx};
 use lrpar_parse_lexemes::lex_api::Lexeme;
@@ -18,53 +20,86 @@ use lrpar_parse_repair::repair::{Recoverer, RecoveryPoint, RepairStep};
 use std::alloc::{AllocError, Global};
 use std::marker::Model;
 
+/// How many repairs are listed at most, if nothing else is said.
+const MOST: usize = 100;
+
 /// Returns the repair sequences of least cost, after Diekmann and Tratt, *Don't Panic! Better, Fewer, Syntax Errors for LR
 /// Parsers*.
 ///
-/// It looks for repairs of one cost after the other. For each cost it tries again the candidates, sequences that may begin a
-/// repair, that cost no more. At the first cost that has more of them than the limit it returns no repairs.
+/// The search adds what can be reached from the error point, one cost after the other: configurations, each a stack of states and a
+/// place among the lexemes. Each is kept once, however many sequences lead to it. The search ends at the least cost of a repair. The
+/// limit bounds the configurations that are nearer than that, over the whole search at one error point. If there are more of them,
+/// nothing is found.
+///
+/// Of the cheapest repairs those are listed after which a parse goes on furthest, up to 250 places past the error point. First come
+/// those that insert no token to be avoided, then those of fewer steps. Of as many steps, the first step that differs decides: an Insert
+/// comes before a Delete, that before a Shift, and Inserts by their tokens, ascending. After these `all` lists the others, in the
+/// same order. `at_most` bounds how many are listed; without it 100 are.
 #[derive(Debug, Drop)]
 pub struct CpctPlus {
     limit: usize,
     costs: Option<Vec<u8>>,
+    /// Whether a token is to be avoided, by its number.
+    avoided: Option<Vec<bool>>,
+    most: usize,
+    lists_all: bool,
 }
 
 impl Model for CpctPlus {
-    ghost use Rattle.lrpar_parse_cpctplus.specs.Costs.{AreCosts, Terms, costs_of};
+    ghost use Rattle.lrpar_parse_cpctplus.specs.Costs.{AreCosts, items_of};
+    ghost use Rattle.lrpar_parse_cpctplus.specs.Listing.{Settings};
 
-    ghost Value = { Terms };
+    ghost Value = { Settings };
 
-    ghost view = { λ c. record { limit = c.limit; costs = costs_of c.costs } };
+    ghost view = { λ c. record {
+      limit = c.limit;
+      costs = items_of c.costs;
+      avoided = items_of c.avoided;
+      most = c.most;
+      lists_all = c.lists_all;
+    } };
 
-    ghost invariant = { λ c. AreCosts (costs_of c.costs) };
+    ghost invariant = { λ c. AreCosts (items_of c.costs) };
 }
 
 impl CpctPlus {
-    /// Each token costs 1. Allocates nothing.
+    /// Each token costs 1. No token is to be avoided, and at most 100 repairs are listed, of those after which a parse goes on furthest.
+    /// Allocates nothing.
     pub fn new(limit: usize) -> Self
-        ensures { result ≡ record { limit = limit; costs = [] } }
+        ensures { result ≡ record { limit = limit; costs = []; avoided = []; most = 100; lists_all = false } }
     {
-        CpctPlus { limit, costs: None }
+        CpctPlus::with(limit, None)
     }
 
-    /// Each token costs what the list says at its number; one past the list costs 1. Refused by the first token that would cost
-    /// nothing. Allocates nothing.
+    // With these costs, and nothing else set.
+    fn with(limit: usize, costs: Option<Vec<u8>>) -> Self
+        requires { AreCosts (items_of costs) }
+        ensures { result ≡ record { limit = limit; costs = items_of costs; avoided = []; most = 100; lists_all = false } }
+    {
+        CpctPlus {
+            limit,
+            costs,
+            avoided: None,
+            most: MOST,
+            lists_all: false,
+        }
+    }
+
+    /// Each token costs what the list says at its number; one past the list costs 1. The rest is as `new` sets it. Refused by the
+    /// first token that would cost nothing. Allocates nothing.
     pub fn with_costs(limit: usize, costs: Vec<u8>) -> Result<Self, CostFault>
-        ensures made { IfOk result (λ c. c ≡ record { limit = limit; costs = costs.items }) }
+        ensures made { IfOk result (λ c. c ≡ record { limit = limit; costs = costs.items; avoided = []; most = 100; lists_all = false }) }
         ensures priced { IfOk result (λ c. AreCosts c.costs) }
         ensures refused { IfErr result (IsFreeToken costs.items) }
     {
         match first_free(&costs) {
             Some(token) => Err(CostFault::CostsNothing(token)),
-            None => Ok(CpctPlus {
-                limit,
-                costs: Some(costs),
-            }),
+            None => Ok(CpctPlus::with(limit, Some(costs))),
         }
     }
 
-    /// Each token costs what the function returns for it; it is called for each token of the grammar, the end token among them.
-    /// Refused by the first token that would cost nothing.
+    /// Each token costs what the function returns for it; it is called for each token of the grammar, the end token among them. The
+    /// rest is as `new` sets it. Refused by the first token that would cost nothing.
     pub fn from_costs<StorageT: StorageIndex, F: Fn(TIdx<StorageT>) -> u8 + Drop>(
         alloc: Global,
         limit: usize,
@@ -72,13 +107,56 @@ impl CpctPlus {
         cost: F,
     ) -> Result<Self, CostFault>
         requires callable { F.IsAlwaysCallable cost }
-        ensures limit { IfOk result (λ c. c.limit ≡ limit) }
+        ensures others { IfOk result (λ c. c ≡ record { limit = limit; costs = c.costs; avoided = []; most = 100; lists_all = false }) }
         ensures made { IfOk result (λ c. AreSaid (said_by StorageT.index (F.post cost)) (tokens_len grm.now) c.costs) }
         ensures priced { IfOk result (λ c. AreCosts c.costs) }
         ensures refused { IfErr result (IsFreeBy (said_by StorageT.index (F.post cost)) (tokens_len grm.now)) }
     {
         let costs = costs_by(alloc, grm, &cost)?;
         CpctPlus::with_costs(limit, costs)
+    }
+
+    /// These tokens are to be avoided, in place of those that were before: repairs that insert one come after all others after which a
+    /// parse goes on as far. Takes as much memory as the greatest number of a token. `Err`: out of memory; the recoverer is gone then.
+    pub fn avoid_insert<StorageT: StorageIndex>(
+        mut self,
+        alloc: Global,
+        tokens: &[TIdx<StorageT>],
+    ) -> Result<Self, AllocError>
+        ensures avoided { IfOk result (λ c. AreAvoided c.avoided (map (λ t. StorageT.index t.0) tokens.now)) }
+        ensures others { IfOk result (λ c. c ≡ record self { avoided = c.avoided }) }
+    {
+        self.avoided = Some(avoided_by(alloc, tokens)?);
+        Ok(self)
+    }
+
+    /// At most so many repairs are listed: the first ones. Allocates nothing.
+    pub fn at_most(mut self, most: usize) -> Self
+        ensures { result ≡ record self { most = most } }
+    {
+        self.most = most;
+        self
+    }
+
+    /// All repairs of least cost are listed: after those after which a parse goes on furthest the others. Allocates nothing.
+    pub fn all(mut self) -> Self
+        ensures { result ≡ record self { lists_all = true } }
+    {
+        self.lists_all = true;
+        self
+    }
+
+    // Which repairs are listed.
+    fn wanted(&self) -> Wanted<'_>
+        ensures avoided { result.avoided.now ≡ self.now.avoided }
+        ensures most { result.most ≡ self.now.most }
+        ensures lists_all { result.lists_all ≡ self.now.lists_all }
+    {
+        Wanted {
+            avoided: listed(&self.avoided),
+            most: self.most,
+            lists_all: self.lists_all,
+        }
     }
 
     /// What a token costs, by its number.
@@ -94,13 +172,102 @@ impl CpctPlus {
         }
     }
 
-    /// How many candidates may be tried for one cost.
+    /// What tokens cost, each once.
+    pub(crate) fn weights(&self, alloc: Global) -> Result<Vec<u8>, AllocError>
+        ensures { IfOk result (λ weights. AreWeights self.now.costs weights.items) }
+    {
+        let mut weights = Vec::new(alloc);
+        weights.push(1)?;
+        match &self.costs {
+            None => Ok(weights),
+            Some(costs) => {
+                add_weights(costs, &mut weights)?;
+                Ok(weights)
+            }
+        }
+    }
+
+    /// How many configurations may be nearer than the cheapest repairs.
     pub(crate) fn limit(&self) -> usize
         ensures limit { result ≡ self.now.limit }
         ensures costs { AreCosts self.now.costs }
     {
         self.limit
     }
+}
+
+// Adds those of the costs that aren't among the weights.
+fn add_weights(costs: &[u8], weights: &mut Vec<u8>) -> Result<(), AllocError>
+    requires { AreOnce weights.old.items }
+    ensures once { OnOk result (AreOnce weights.new.items) }
+    ensures stay { OnOk result ((w : ℕ) → Contains weights.old.items w → Contains weights.new.items w) }
+    ensures added { OnOk result ((w : ℕ) → Contains costs.now w → Contains weights.new.items w) }
+{
+    for cost in costs {
+        add_weight(*cost, weights)?;
+    }
+    Ok(())
+}
+
+// Adds the weight, if it isn't among these.
+fn add_weight(weight: u8, weights: &mut Vec<u8>) -> Result<(), AllocError>
+    requires { AreOnce weights.old.items }
+    ensures once { OnOk result (AreOnce weights.new.items) }
+    ensures stay { OnOk result ((w : ℕ) → Contains weights.old.items w → Contains weights.new.items w) }
+    ensures added { OnOk result (Contains weights.new.items weight) }
+{
+    if has(weights, weight) {
+        return Ok(());
+    }
+    weights.push(weight)?;
+    Ok(())
+}
+
+// Whether the weight is among these.
+fn has(weights: &[u8], weight: u8) -> bool
+    ensures { IsTrue result ↔ Contains weights.now weight }
+{
+    for one in weights {
+        if *one == weight {
+            return true;
+        }
+    }
+    false
+}
+
+// What is listed; nothing if there is no list.
+fn listed(list: &Option<Vec<bool>>) -> &[bool]
+    ensures { result.now ≡ items_of list.now }
+{
+    match list {
+        None => &[],
+        Some(list) => list,
+    }
+}
+
+// A list that says of numbers whether they are those of these tokens.
+fn avoided_by<StorageT: StorageIndex>(
+    alloc: Global,
+    tokens: &[TIdx<StorageT>],
+) -> Result<Vec<bool>, AllocError>
+    ensures { IfOk result (λ avoided. AreAvoided avoided.items (map (λ t. StorageT.index t.0) tokens.now)) }
+{
+    let mut avoided = Vec::new(alloc);
+    for token in tokens {
+        set(&mut avoided, usize::from(*token))?;
+    }
+    Ok(avoided)
+}
+
+// From now on the list says so of the number also.
+fn set(list: &mut Vec<bool>, number: usize) -> Result<(), AllocError>
+    ensures { OnOk result ((t : ℕ) → IsTrue (slice_index_or list.new.items t false) ↔ (IsTrue (slice_index_or list.old.items t false) ⊎ (t ≡ number))) }
+{
+    'longer: while list.len() <= number {
+        list.push(false)?;
+    }
+    list[number] = true;
+    Ok(())
 }
 
 // What the function says of each token of the grammar.
@@ -134,38 +301,22 @@ fn first_free(costs: &[u8]) -> Option<usize>
 }
 
 impl<StorageT: StorageIndex, LexemeT: Lexeme<StorageT>> Recoverer<StorageT, LexemeT> for CpctPlus {
-    ghost allows = { λ terms at answer. AreCheapest (token_by StorageT.index LexemeT.parts) terms at answer };
+    ghost allows = { λ settings at answer. AreListed (token_by StorageT.index LexemeT.parts) settings at answer };
 
     fn recover(
         &self,
         alloc: Global,
         point: &RecoveryPoint<'_, StorageT, LexemeT>,
     ) -> Result<Vec<Vec<RepairStep<StorageT>>>, AllocError>
-        ensures allowed { IfOk result (λ answer. AreCheapest (token_by StorageT.index LexemeT.parts) self.now point.now
+        ensures allowed { IfOk result (λ answer. AreListed (token_by StorageT.index LexemeT.parts) self.now point.now
             (plain_sequences StorageT.index answer.items)) }
     {
-        let search = Search::new(point, self);
         // Each token costs something, and some lexeme has to follow a repair.
         let (_limit, _shifts) = (self.limit(), point.shifts());
-        let mut bound = 0;
-        'bounds: loop {
-            let Some(
-                Tally {
-                    found,
-                    next,
-                    left: _,
-                },
-            ) = search.tally(alloc, bound)?
-            else {
-                return Ok(Vec::new(alloc));
-            };
-            if !found.is_empty() {
-                return sequences_of(alloc, found);
-            }
-            match next {
-                None => return Ok(Vec::new(alloc)),
-                Some(cost) => bound = cost,
-            }
-        }
+        let search = Search::new(point, self);
+        let Some(found) = search.found(alloc)? else {
+            return Ok(Vec::new(alloc));
+        };
+        first_repairs::<StorageT, LexemeT>(alloc, &self.wanted(), &found.linked())
     }
 }

@@ -3,7 +3,6 @@ ghost use Rattle.lrpar_grammar.specs.Sentence.{LexemeFacts};
 ghost use Rattle.lrpar_parse_cpctplus.specs.AnyForm.{CostNoLess, HaveRepairs};
 ghost use Rattle.lrpar_parse_cpctplus.specs.Chains.{EndsHaveRepairs, LastStepsAreLinks, LeastCostByLastSteps, RepairsAreChains};
 ghost use Rattle.lrpar_parse_cpctplus.specs.Listing.{ListedAreOne, ListedInOrder};
-ghost use Rattle.lrpar_parse_cpctplus.specs.OneAnswer.{CheapestAreOne};
 
 /// The form of repairs leaves out nothing that is cheaper: for each sequence that works at an error point, whatever the order of
 /// its steps, there is a repair that costs no more; so none costs less than the cheapest repair.
@@ -14,9 +13,12 @@ pub fn no_sequence_is_cheaper_than_repairs<LexemeT>()
     ensures facts_least { CostNoLess LexemeFacts }
 {}
 
-/// At an error point there is one answer: its proved properties leave no choice, neither of the repairs nor of their order.
+/// At an error point there is one answer: what is listed is one list, as of two repairs one is listed before the other.
 pub fn cheapest_repairs_have_one_answer<LexemeT>()
-    ensures { CheapestAreOne LexemeT }
+    ensures one { ListedAreOne LexemeT }
+    ensures order { ListedInOrder LexemeT }
+    ensures facts_one { ListedAreOne LexemeFacts }
+    ensures facts_order { ListedInOrder LexemeFacts }
 {}
 
 /// The repairs of least cost are the well-formed chains of links from the error point to an end, and each end is that of a repair. So
@@ -35,12 +37,4 @@ pub fn last_steps_give_the_least_cost<LexemeT>()
     ensures links { LastStepsAreLinks LexemeT }
     ensures facts_least { LeastCostByLastSteps LexemeFacts }
     ensures facts_links { LastStepsAreLinks LexemeFacts }
-{}
-
-/// At an error point one list is allowed: of two repairs that may be listed, one comes before the other.
-pub fn listed_repairs_have_one_answer<LexemeT>()
-    ensures one { ListedAreOne LexemeT }
-    ensures order { ListedInOrder LexemeT }
-    ensures facts_one { ListedAreOne LexemeFacts }
-    ensures facts_order { ListedInOrder LexemeFacts }
 {}

@@ -1,42 +1,84 @@
-//! What the search needs at an error point: which steps there are and what they cost, and the configurations to which they lead.
-ghost use Rattle.std.specs.Prelude.{◌≡◌, ◌<◌, ◌≤◌, ◌+◌, ◌^◌, ◌↔◌, ℕ, List, [], ◌∷◌, length, replicate, IfOk, IfSome, IsTrue, IsNone, OnOk};
-ghost use Rattle.lrpar_grammar.specs.Grammar.{end_token, tokens_len};
-ghost use Rattle.lrpar_table_rows.specs.PlainRows.{plain_action};
+//! The search at an error point: the configurations, distance by distance, up to the least cost of a repair.
+ghost use Rattle.std.specs.Prelude.{◌≡◌, ◌≢◌, ◌<◌, ◌≤◌, ◌+◌, ◌-◌, ◌↔◌, ◌⊎◌, ◌∷◌, [], ℕ, length, map, IfOk, IfSome, IsTrue, OnOk};
+ghost use Rattle.std.specs.List.{Contains};
+ghost use Rattle.std.specs.List.Sorted.{IsStrictlyIncreasing};
+ghost use Rattle.lrpar_grammar.specs.Grammar.{tokens_len};
 ghost use Rattle.lrpar_table_rows.specs.Table.{Fails};
-ghost use Rattle.lrpar_table_stacks.specs.Overlay.{overlaid};
 ghost use Rattle.lrpar_table_stacks.specs.Reduction.{top_action};
 ghost use Rattle.lrpar_table_stacks.specs.Run.{token_at};
+ghost use Rattle.lrpar_table_stacks.specs.SharedStacks.{Extends, stack_at};
 ghost use Rattle.lrpar_table_stacks.specs.Stack.{IsStack};
 ghost use Rattle.lrpar_parse_lexemes.specs.Views.{token_by};
 ghost use Rattle.lrpar_parse_repair.specs.Asked.{HaveTokens};
-ghost use Rattle.lrpar_parse_repair.specs.PlainSteps.{plain_step, plain_steps};
-ghost use Rattle.lrpar_parse_repair.specs.Sequences.{PlainDelete, PlainShift, StepsTo};
-ghost use Rattle.lrpar_parse_cpctplus.specs.Forms.{EndsIn};
-ghost use Rattle.lrpar_parse_cpctplus.specs.Walking.{IsStepOf, MayFollow, rank_of};
+ghost use Rattle.lrpar_parse_repair.specs.PlainSteps.{plain_step};
+ghost use Rattle.lrpar_parse_cpctplus.specs.Costs.{token_cost};
+ghost use Rattle.lrpar_parse_cpctplus.specs.Levels.{AreLevels};
+ghost use Rattle.lrpar_parse_cpctplus.specs.SearchRound.{AreWeights};
 
 use crate::cpct_plus::CpctPlus;
+use crate::graph::{Configuration, Graph};
+use crate::link::{Ending, Linked};
 use lrpar_grammar::span::{StorageIndex, TIdx};
 use lrpar_parse_lexemes::lex_api::Lexeme;
 use lrpar_parse_repair::engine::Engine;
 use lrpar_parse_repair::repair::{RecoveryPoint, RepairStep};
-use lrpar_table_check::check::{Overlay, ParserData};
-use lrpar_table_rows::table::Action;
-use std::alloc::AllocError;
+use lrpar_table_stacks::shared_stacks::SharedStacks;
+use lrpar_table_stacks::state_stack::StateStack;
+use std::alloc::{AllocError, Global};
 
 /// How many places past the error point a parse is followed to see how far it goes on after a repair.
 const FURTHEST: usize = 250;
 
+/// The most that a token costs.
+const DEAREST: usize = 255;
+
 /// An error point, and what steps cost there.
 #[derive(Drop)]
 pub(crate) struct Search<'a, 'p, StorageT: StorageIndex, LexemeT: Lexeme<StorageT>> {
-    pub(crate) point: &'a RecoveryPoint<'p, StorageT, LexemeT>,
-    pub(crate) terms: &'a CpctPlus,
+    point: &'a RecoveryPoint<'p, StorageT, LexemeT>,
+    terms: &'a CpctPlus,
+}
+
+/// A step that is tried, from the configuration with this number.
+#[derive(Clone, Copy, Debug)]
+pub(crate) struct Attempt<StorageT: Copy> {
+    from: usize,
+    step: RepairStep<StorageT>,
+}
+
+/// The configurations that are nearer than the least cost of a repair, with their stacks, and the last steps of the repairs of this cost.
+#[derive(Drop)]
+pub(crate) struct Found<StorageT: StorageIndex> {
+    stacks: SharedStacks<StorageT>,
+    graph: Graph<StorageT>,
+    endings: Vec<Ending<StorageT>>,
+}
+
+impl<StorageT: StorageIndex> Found<StorageT> {
+    /// How many configurations there are, with the links and the last steps.
+    pub(crate) fn linked(self) -> Linked<StorageT>
+        ensures len { result.len ≡ length self.graph.configurations.keys }
+        ensures links { result.links ≡ self.graph.links }
+        ensures endings { result.endings ≡ self.endings }
+    {
+        let Found {
+            stacks,
+            graph,
+            endings,
+        } = self;
+        drop(stacks);
+        Linked {
+            len: graph.len(),
+            links: graph.into_links(),
+            endings,
+        }
+    }
 }
 
 impl<'a, 'p, StorageT: StorageIndex, LexemeT: Lexeme<StorageT>> Search<'a, 'p, StorageT, LexemeT> {
-    ghost use Rattle.lrpar_parse_cpctplus.specs.SearchView.{GoesOnFrom, IsTakenBy, ReachesFrom, step_cost_by};
+    ghost use Rattle.lrpar_parse_cpctplus.specs.RoundView.{AddsAttemptsAt, AddsAttemptsOf, AddsDelete, AddsEnding, AddsInserts, AreAttemptsBy, AreDueBy, AreEndingsBy, AreHeldBy, CanGoOnFrom, GrowsByAttempts, GrowsByShifts, GrowsByStep, HasNoShifts, IsAddedLevel, IsDueBy, IsFoundIn, IsGrowingBy, IsHeldBy, IsNextLeast, IsReachBy, IsResult, IsRoundBy, LeadsBy, ReachesBy};
 
-    /// The search for repairs at the point.
+    /// The search at this error point, by these terms.
     pub(crate) fn new(point: &'a RecoveryPoint<'p, StorageT, LexemeT>, terms: &'a CpctPlus) -> Self
         ensures point { result.point.now ≡ point.now }
         ensures terms { result.terms.now ≡ terms.now }
@@ -44,97 +86,444 @@ impl<'a, 'p, StorageT: StorageIndex, LexemeT: Lexeme<StorageT>> Search<'a, 'p, S
         Search { point, terms }
     }
 
-    /// The step of this rank: an Insert of each token but the end token, ascending, then Delete, and Shift as the last.
-    pub(crate) fn step_at(&self, rank: usize) -> Option<RepairStep<StorageT>>
-        ensures step { IfSome result (λ step. rank_of (end_token self.now.point.now.checked.grammar) (plain_step StorageT.index step) ≡ rank) }
-        ensures within { IfSome result (λ step. IsStepOf (end_token self.now.point.now.checked.grammar) (plain_step StorageT.index step)) }
-        ensures none { IsNone result → end_token self.now.point.now.checked.grammar + 2 ≤ rank }
-        ensures fits { end_token self.now.point.now.checked.grammar < 2 ^ 32 }
+    /// What is found: nothing, if there is no repair, or if more configurations than the limit are nearer than its least cost.
+    pub(crate) fn found(&self, alloc: Global) -> Result<Option<Found<StorageT>>, AllocError>
+        ensures { IfOk result (IsFoundIn StorageT.index LexemeT.parts self.now) }
     {
-        let grm = self.point.data().grm();
-        let (end, _len) = (usize::from(grm.eof_token_idx()), grm.tokens_len());
-        if rank < end {
-            return Some(RepairStep::Insert(TIdx(StorageT::from_index(rank).unwrap())));
-        }
-        match rank - end {
-            0 => Some(RepairStep::Delete),
-            1 => Some(RepairStep::Shift),
-            _ => None,
+        let weights = self.terms.weights(alloc)?;
+        let mut stacks = SharedStacks::new(alloc, self.point.stack())?;
+        // Each token costs something.
+        let (stack, place, _limit) = (stacks.number(), self.point.place(), self.terms.limit());
+        let mut graph = Graph::new(alloc, Configuration { stack, place })?;
+        match self.rounds(alloc, &mut stacks, &mut graph, &weights)? {
+            Some(endings) => Ok(Some(Found {
+                stacks,
+                graph,
+                endings,
+            })),
+            None => Ok(None),
         }
     }
 
-    /// The rank of the step.
-    pub(crate) fn rank_of(&self, step: RepairStep<StorageT>) -> usize
-        requires { IsStepOf (end_token self.now.point.now.checked.grammar) (plain_step StorageT.index step) }
-        ensures rank { result ≡ rank_of (end_token self.now.point.now.checked.grammar) (plain_step StorageT.index step) }
-        ensures fits { result < 2 ^ 33 }
+    // Adds all that is nearer than the least cost of a repair, and returns the last steps at that cost.
+    fn rounds(
+        &self,
+        alloc: Global,
+        stacks: &mut SharedStacks<StorageT>,
+        graph: &mut Graph<StorageT>,
+        weights: &[u8],
+    ) -> Result<Option<Vec<Ending<StorageT>>>, AllocError>
+        requires held { AreHeldBy StorageT.index LexemeT.parts self.now stacks.old graph.old }
+        requires round { IsRoundBy StorageT.index LexemeT.parts self.now stacks.old graph.old }
+        requires weights { AreWeights self.now.terms.now.costs weights.now }
+        ensures { IfOk result (IsResult StorageT.index LexemeT.parts self.now stacks.new graph.new) }
     {
-        let grm = self.point.data().grm();
-        let (end, _len) = (usize::from(grm.eof_token_idx()), grm.tokens_len());
-        match step {
-            RepairStep::Insert(token) => usize::from(token),
-            RepairStep::Delete => end,
-            RepairStep::Shift => end + 1,
+        // The point is an error point.
+        let (limit, _shifts) = (self.terms.limit(), self.point.shifts());
+        if limit < graph.len() {
+            return Ok(None);
+        }
+        let mut empty = 0;
+        'rounds: while empty < DEAREST {
+            let attempts = self.attempts(alloc, stacks, graph, weights)?;
+            let endings = self.endings(alloc, stacks, graph, &attempts)?;
+            if !endings.is_empty() {
+                return Ok(Some(endings));
+            }
+            let before = graph.len();
+            if !self.add_level(stacks, graph, &attempts)? {
+                return Ok(None);
+            }
+            empty = rounds_without(empty, before, graph.len());
+        }
+        Ok(None)
+    }
+
+    // The steps that lead to what is one further than the greatest distance so far, if it isn't nearer, and aren't Shifts.
+    fn attempts(
+        &self,
+        alloc: Global,
+        stacks: &mut SharedStacks<StorageT>,
+        graph: &Graph<StorageT>,
+        weights: &[u8],
+    ) -> Result<Vec<Attempt<StorageT>>, AllocError>
+        requires held { AreHeldBy StorageT.index LexemeT.parts self.now stacks.old graph.now }
+        requires levels { AreLevels graph.now.firsts.items (length graph.now.configurations.keys) }
+        requires weights { AreWeights self.now.terms.now.costs weights.now }
+        ensures attempts { IfOk result (λ attempts. AreAttemptsBy StorageT.index LexemeT.parts self.now stacks.old graph.now attempts.items) }
+        ensures stacks { stacks.new.stacks ≡ stacks.old.stacks }
+    {
+        let mut attempts = Vec::new(alloc);
+        for weight in weights {
+            self.add_attempts_at(stacks, graph, *weight, &mut attempts)?;
+        }
+        Ok(attempts)
+    }
+
+    // Adds those that cost as much.
+    fn add_attempts_at(
+        &self,
+        stacks: &mut SharedStacks<StorageT>,
+        graph: &Graph<StorageT>,
+        weight: u8,
+        attempts: &mut Vec<Attempt<StorageT>>,
+    ) -> Result<(), AllocError>
+        requires held { AreHeldBy StorageT.index LexemeT.parts self.now stacks.old graph.now }
+        requires levels { AreLevels graph.now.firsts.items (length graph.now.configurations.keys) }
+        ensures adds { OnOk result (AddsAttemptsAt StorageT.index LexemeT.parts self.now stacks.old graph.now weight attempts.old.items attempts.new.items) }
+        ensures stacks { stacks.new.stacks ≡ stacks.old.stacks }
+    {
+        let (levels, less) = (graph.levels(), usize::from(weight));
+        if levels < less {
+            return Ok(());
+        }
+        let distance = levels - less;
+        for from in graph.first(distance)..graph.first(distance + 1) {
+            self.add_attempts_of(stacks, graph.at(from), from, weight, attempts)?;
+        }
+        Ok(())
+    }
+
+    // Adds those from the configuration with this number.
+    fn add_attempts_of(
+        &self,
+        stacks: &mut SharedStacks<StorageT>,
+        at: Configuration,
+        from: usize,
+        weight: u8,
+        attempts: &mut Vec<Attempt<StorageT>>,
+    ) -> Result<(), AllocError>
+        requires held { IsHeldBy StorageT.index LexemeT.parts self.now stacks.old at }
+        ensures adds { OnOk result (AddsAttemptsOf StorageT.index LexemeT.parts self.now stacks.old at from weight attempts.old.items attempts.new.items) }
+        ensures stacks { stacks.new.stacks ≡ stacks.old.stacks }
+    {
+        let tokens = self.tokens(stacks, at.stack);
+        self.add_inserts(tokens, from, weight, attempts)?;
+        self.add_delete(at.place, from, weight, attempts)
+    }
+
+    // Adds the Inserts of those of the tokens that cost as much.
+    fn add_inserts(
+        &self,
+        tokens: &[TIdx<StorageT>],
+        from: usize,
+        weight: u8,
+        attempts: &mut Vec<Attempt<StorageT>>,
+    ) -> Result<(), AllocError>
+        requires ascending { IsStrictlyIncreasing (map (λ t. StorageT.index t.0) tokens.now) }
+        ensures adds { OnOk result (AddsInserts StorageT.index LexemeT.parts self.now (map (λ t. StorageT.index t.0) tokens.now) from weight attempts.old.items attempts.new.items) }
+    {
+        for token in tokens {
+            self.add_insert(*token, from, weight, attempts)?;
+        }
+        Ok(())
+    }
+
+    // Adds the Insert of the token, if it isn't the end token and costs as much.
+    fn add_insert(
+        &self,
+        token: TIdx<StorageT>,
+        from: usize,
+        weight: u8,
+        attempts: &mut Vec<Attempt<StorageT>>,
+    ) -> Result<(), AllocError>
+        ensures adds { OnOk result (AddsInserts StorageT.index LexemeT.parts self.now (StorageT.index token.0 ∷ []) from weight attempts.old.items attempts.new.items) }
+    {
+        if usize::from(token) >= usize::from(self.point.data().grm().eof_token_idx()) {
+            return Ok(());
+        }
+        if self.cost_of(token) == weight {
+            attempts.push(Attempt {
+                from,
+                step: RepairStep::Insert(token),
+            })?;
+        }
+        Ok(())
+    }
+
+    // Adds the Delete at the place, if a lexeme is left and costs as much.
+    fn add_delete(
+        &self,
+        place: usize,
+        from: usize,
+        weight: u8,
+        attempts: &mut Vec<Attempt<StorageT>>,
+    ) -> Result<(), AllocError>
+        ensures adds { OnOk result (AddsDelete StorageT.index LexemeT.parts self.now place from weight attempts.old.items attempts.new.items) }
+    {
+        if place >= self.point.lexemes().len() {
+            return Ok(());
+        }
+        if self.cost_of(self.token_at(place)) == weight {
+            attempts.push(Attempt {
+                from,
+                step: RepairStep::Delete,
+            })?;
+        }
+        Ok(())
+    }
+
+    // The tokens at which the top state of the stack with this number has an action.
+    fn tokens(&self, stacks: &mut SharedStacks<StorageT>, stack: usize) -> &'p [TIdx<StorageT>]
+        requires within { stack < length stacks.old.stacks }
+        requires stack { IsStack self.now.point.now.checked.table (stack_at stacks.old.stacks stack) }
+        ensures exact { (t : ℕ) → Contains (map (λ t. StorageT.index t.0) result.now) t
+            ↔ (top_action self.now.point.now.checked.table t (stack_at stacks.old.stacks stack) ≢ Fails) }
+        ensures ascending { IsStrictlyIncreasing (map (λ t. StorageT.index t.0) result.now) }
+        ensures stacks { stacks.new.stacks ≡ stacks.old.stacks }
+    {
+        stacks.go_to(stack);
+        let table = self.point.data().stable();
+        let (tokens, _actions) = table.actions_of(stacks.top());
+        tokens
+    }
+
+    // The last steps of repairs: those of the steps after which a parse can go on, and how far it goes on.
+    fn endings(
+        &self,
+        alloc: Global,
+        stacks: &mut SharedStacks<StorageT>,
+        graph: &Graph<StorageT>,
+        attempts: &[Attempt<StorageT>],
+    ) -> Result<Vec<Ending<StorageT>>, AllocError>
+        requires held { AreHeldBy StorageT.index LexemeT.parts self.now stacks.old graph.now }
+        requires attempts { AreAttemptsBy StorageT.index LexemeT.parts self.now stacks.old graph.now attempts.now }
+        ensures endings { IfOk result (λ endings. AreEndingsBy StorageT.index LexemeT.parts self.now stacks.old graph.now attempts.now endings.items) }
+        ensures extends { OnOk result (Extends stacks.old stacks.new) }
+    {
+        let mut endings = Vec::new(alloc);
+        for attempt in attempts {
+            self.add_ending(stacks, graph.at(attempt.from), *attempt, &mut endings)?;
+        }
+        Ok(endings)
+    }
+
+    // Adds the step, if a parse can go on after it.
+    fn add_ending(
+        &self,
+        stacks: &mut SharedStacks<StorageT>,
+        at: Configuration,
+        attempt: Attempt<StorageT>,
+        endings: &mut Vec<Ending<StorageT>>,
+    ) -> Result<(), AllocError>
+        requires held { IsHeldBy StorageT.index LexemeT.parts self.now stacks.old at }
+        ensures adds { OnOk result (AddsEnding StorageT.index LexemeT.parts self.now stacks.old at attempt endings.old.items endings.new.items) }
+        ensures extends { OnOk result (Extends stacks.old stacks.new) }
+    {
+        let Attempt { from, step } = attempt;
+        match self.reach_after(stacks, at, step)? {
+            None => Ok(()),
+            Some(reach) => {
+                endings.push(Ending { reach, from, step })?;
+                Ok(())
+            }
         }
     }
 
-    /// What the step costs at the place.
-    pub(crate) fn cost_at(&self, place: usize, step: RepairStep<StorageT>) -> u8
-        ensures cost { result ≡ step_cost_by StorageT.index LexemeT.parts self.now place (plain_step StorageT.index step) }
+    // Adds what is one further than the greatest distance so far. Returns whether the limit allows as many configurations; if not, some may
+    // be missing.
+    fn add_level(
+        &self,
+        stacks: &mut SharedStacks<StorageT>,
+        graph: &mut Graph<StorageT>,
+        attempts: &[Attempt<StorageT>],
+    ) -> Result<bool, AllocError>
+        requires held { AreHeldBy StorageT.index LexemeT.parts self.now stacks.old graph.old }
+        requires round { IsRoundBy StorageT.index LexemeT.parts self.now stacks.old graph.old }
+        requires attempts { AreAttemptsBy StorageT.index LexemeT.parts self.now stacks.old graph.old attempts.now }
+        requires least { IsNextLeast StorageT.index LexemeT.parts self.now (length graph.old.firsts.items) }
+        requires within { length graph.old.configurations.keys ≤ self.now.terms.now.limit }
+        ensures added { IfOk result (IsAddedLevel StorageT.index LexemeT.parts self.now stacks.old graph.old stacks.new graph.new) }
+        ensures held { OnOk result (AreHeldBy StorageT.index LexemeT.parts self.now stacks.new graph.new) }
     {
-        match step {
-            RepairStep::Insert(token) => self.terms.cost_of(usize::from(token)),
-            RepairStep::Delete => self.terms.cost_of(usize::from(self.token_at(place))),
-            RepairStep::Shift => 0,
+        // Each token costs something.
+        let (first, _limit) = (graph.len(), self.terms.limit());
+        graph.begin_level()?;
+        if self.add_reached(stacks, graph, first, attempts)? {
+            self.add_shifts(stacks, graph, first)
+        } else {
+            Ok(false)
         }
+    }
+
+    // Adds the configurations to which the steps lead. Returns whether the limit allows as many.
+    fn add_reached(
+        &self,
+        stacks: &mut SharedStacks<StorageT>,
+        graph: &mut Graph<StorageT>,
+        first: usize,
+        attempts: &[Attempt<StorageT>],
+    ) -> Result<bool, AllocError>
+        requires held { AreHeldBy StorageT.index LexemeT.parts self.now stacks.old graph.old }
+        requires growing { IsGrowingBy StorageT.index LexemeT.parts self.now stacks.old graph.old first }
+        requires due { AreDueBy StorageT.index LexemeT.parts self.now stacks.old graph.old first attempts.now }
+        requires within { length graph.old.configurations.keys ≤ self.now.terms.now.limit }
+        requires least { IsNextLeast StorageT.index LexemeT.parts self.now (length graph.old.firsts.items - 1) }
+        ensures grows { IfOk result (GrowsByAttempts StorageT.index LexemeT.parts self.now first attempts.now stacks.old graph.old stacks.new graph.new) }
+        ensures held { OnOk result (AreHeldBy StorageT.index LexemeT.parts self.now stacks.new graph.new) }
+        ensures firsts { OnOk result (graph.new.firsts ≡ graph.old.firsts) }
+    {
+        for attempt in attempts {
+            self.add_step(stacks, graph, first, attempt.from, attempt.step)?;
+            if self.terms.limit() < graph.len() {
+                return Ok(false);
+            }
+        }
+        Ok(true)
+    }
+
+    // Adds the configurations to which Shifts lead from those with numbers from the first one on. Returns whether the limit allows as many.
+    fn add_shifts(
+        &self,
+        stacks: &mut SharedStacks<StorageT>,
+        graph: &mut Graph<StorageT>,
+        first: usize,
+    ) -> Result<bool, AllocError>
+        requires held { AreHeldBy StorageT.index LexemeT.parts self.now stacks.old graph.old }
+        requires growing { IsGrowingBy StorageT.index LexemeT.parts self.now stacks.old graph.old first }
+        requires none { HasNoShifts StorageT.index first graph.old }
+        requires within { length graph.old.configurations.keys ≤ self.now.terms.now.limit }
+        requires least { IsNextLeast StorageT.index LexemeT.parts self.now (length graph.old.firsts.items - 1) }
+        ensures grows { IfOk result (GrowsByShifts StorageT.index LexemeT.parts self.now first stacks.old graph.old stacks.new graph.new) }
+        ensures held { OnOk result (AreHeldBy StorageT.index LexemeT.parts self.now stacks.new graph.new) }
+        ensures firsts { OnOk result (graph.new.firsts ≡ graph.old.firsts) }
+    {
+        let mut from = first;
+        'shifts: while from < graph.len() {
+            self.add_step(stacks, graph, first, from, RepairStep::Shift)?;
+            if self.terms.limit() < graph.len() {
+                return Ok(false);
+            }
+            from += 1;
+        }
+        Ok(true)
+    }
+
+    // Adds the configuration to which the step leads, with the link.
+    fn add_step(
+        &self,
+        stacks: &mut SharedStacks<StorageT>,
+        graph: &mut Graph<StorageT>,
+        first: usize,
+        from: usize,
+        step: RepairStep<StorageT>,
+    ) -> Result<(), AllocError>
+        requires held { AreHeldBy StorageT.index LexemeT.parts self.now stacks.old graph.old }
+        requires growing { IsGrowingBy StorageT.index LexemeT.parts self.now stacks.old graph.old first }
+        requires due { IsDueBy StorageT.index LexemeT.parts self.now stacks.old graph.old first from step }
+        ensures grows { OnOk result (GrowsByStep StorageT.index LexemeT.parts self.now first from step stacks.old graph.old stacks.new graph.new) }
+        ensures held { OnOk result (AreHeldBy StorageT.index LexemeT.parts self.now stacks.new graph.new) }
+        ensures firsts { OnOk result (graph.new.firsts ≡ graph.old.firsts) }
+    {
+        if let Some(reached) = self.taken(stacks, graph.at(from), step)? {
+            // No two numbers have the same stack.
+            let _stack = stacks.number();
+            graph.link(first, from, step, reached)?;
+        }
+        Ok(())
+    }
+
+    // How far a parse goes on after the step, if the step can be taken, and a parse can go on then.
+    fn reach_after(
+        &self,
+        stacks: &mut SharedStacks<StorageT>,
+        at: Configuration,
+        step: RepairStep<StorageT>,
+    ) -> Result<Option<u128>, AllocError>
+        requires held { IsHeldBy StorageT.index LexemeT.parts self.now stacks.old at }
+        ensures reach { IfOk result (IsReachBy StorageT.index LexemeT.parts self.now stacks.old at (plain_step StorageT.index step)) }
+        ensures extends { OnOk result (Extends stacks.old stacks.new) }
+    {
+        let Some(reached) = self.taken(stacks, at, step)? else {
+            return Ok(None);
+        };
+        if self.goes_on(stacks, reached)? {
+            Ok(Some(self.reach(stacks, reached)?))
+        } else {
+            Ok(None)
+        }
+    }
+
+    // The configuration to which the step leads, if it can be taken.
+    fn taken(
+        &self,
+        stacks: &mut SharedStacks<StorageT>,
+        at: Configuration,
+        step: RepairStep<StorageT>,
+    ) -> Result<Option<Configuration>, AllocError>
+        requires held { IsHeldBy StorageT.index LexemeT.parts self.now stacks.old at }
+        ensures taken { IfOk result (LeadsBy StorageT.index LexemeT.parts self.now stacks.old at (plain_step StorageT.index step) stacks.new) }
+        ensures held { IfOk result (λ reached. IfSome reached (IsHeldBy StorageT.index LexemeT.parts self.now stacks.new)) }
+        ensures extends { OnOk result (Extends stacks.old stacks.new) }
+    {
+        stacks.go_to(at.stack);
+        let engine = self.engine();
+        match engine.take(stacks, at.place, step)? {
+            Some(place) => Ok(Some(Configuration {
+                stack: stacks.number(),
+                place,
+            })),
+            None => Ok(None),
+        }
+    }
+
+    // Whether a parse can go on from the configuration.
+    fn goes_on(
+        &self,
+        stacks: &mut SharedStacks<StorageT>,
+        at: Configuration,
+    ) -> Result<bool, AllocError>
+        requires held { IsHeldBy StorageT.index LexemeT.parts self.now stacks.old at }
+        ensures goes_on { IfOk result (λ goes_on. IsTrue goes_on ↔ CanGoOnFrom StorageT.index LexemeT.parts self.now stacks.old at) }
+        ensures extends { OnOk result (Extends stacks.old stacks.new) }
+    {
+        stacks.go_to(at.stack);
+        let engine = self.engine();
+        engine.can_go_on(stacks, at.place)
+    }
+
+    // How far a parse goes on from the configuration: to the first lexeme that can't be fed, and at most `FURTHEST` places past the error
+    // point; one more if all are fed and the stack then accepts.
+    fn reach(
+        &self,
+        stacks: &mut SharedStacks<StorageT>,
+        at: Configuration,
+    ) -> Result<u128, AllocError>
+        requires held { IsHeldBy StorageT.index LexemeT.parts self.now stacks.old at }
+        ensures reach { IfOk result (ReachesBy StorageT.index LexemeT.parts self.now stacks.old at) }
+        ensures extends { OnOk result (Extends stacks.old stacks.new) }
+    {
+        stacks.go_to(at.stack);
+        let most = self.point.place().saturating_add(FURTHEST);
+        let end = self.point.lexemes().len();
+        let engine = self.engine();
+        'feeding: for place in at.place..most.min(end) {
+            let Some(_next) = engine.shift(stacks, place)? else {
+                return Ok(place as u128);
+            };
+        }
+        if at.place.max(most) < end {
+            return Ok(most as u128);
+        }
+        let ends = engine.accepts(stacks)?;
+        Ok(most.min(end) as u128 + u128::from(ends))
+    }
+
+    // What the token costs.
+    fn cost_of(&self, token: TIdx<StorageT>) -> u8
+        ensures { result ≡ token_cost self.now.terms.now.costs (StorageT.index token.0) }
+    {
+        self.terms.cost_of(usize::from(token))
     }
 
     // The token of the lexeme at the place; past the last one, the end token.
     fn token_at(&self, place: usize) -> TIdx<StorageT>
-        ensures token { StorageT.index result.0
+        ensures { StorageT.index result.0
             ≡ token_at (token_by StorageT.index LexemeT.parts) self.now.point.now.checked.grammar self.now.point.now.lexemes place }
-        ensures within { StorageT.index result.0 < tokens_len self.now.point.now.checked.grammar }
     {
         match self.point.lexemes().get(place) {
             Some(lexeme) => TIdx(lexeme.tok_id()),
             None => self.point.data().grm().eof_token_idx(),
-        }
-    }
-
-    /// Whether the step may come after these: no Insert after a Delete, and no Shift that makes as many in a row as have to follow a
-    /// repair.
-    pub(crate) fn may_follow(
-        &self,
-        path: &[RepairStep<StorageT>],
-        step: RepairStep<StorageT>,
-    ) -> bool
-        ensures { IsTrue result ↔ MayFollow self.now.point.now.shifts (plain_steps StorageT.index path.now) (plain_step StorageT.index step) }
-    {
-        match step {
-            RepairStep::Insert(_) => !ends_in_delete(path),
-            RepairStep::Delete => true,
-            RepairStep::Shift => !ends_in_shifts(path, self.point.shifts() - 1),
-        }
-    }
-
-    /// Whether it is clear at once that the step can't be taken: the top state has no action at its token, or nothing is left to
-    /// delete.
-    pub(crate) fn refuses(
-        &self,
-        states: &Overlay<'_, StorageT>,
-        place: usize,
-        step: RepairStep<StorageT>,
-    ) -> bool
-        requires stack { IsStack self.now.point.now.checked.table (overlaid states.now) }
-        requires step { IsStepOf (end_token self.now.point.now.checked.grammar) (plain_step StorageT.index step) }
-        ensures { IsTrue result → (prods after : List ℕ) (j : ℕ) → ¬ (StepsTo (token_by StorageT.index LexemeT.parts)
-            self.now.point.now.checked.grammar self.now.point.now.checked.table self.now.point.now.lexemes
-            (overlaid states.now) place (plain_step StorageT.index step) prods after j) }
-    {
-        match step {
-            RepairStep::Insert(token) => finds_error(self.point.data(), states, token),
-            RepairStep::Delete => place >= self.point.lexemes().len(),
-            RepairStep::Shift => finds_error(self.point.data(), states, self.token_at(place)),
         }
     }
 
@@ -147,127 +536,12 @@ impl<'a, 'p, StorageT: StorageIndex, LexemeT: Lexeme<StorageT>> Search<'a, 'p, S
     {
         Engine::new(self.point.data(), self.point.lexemes(), self.point.shifts())
     }
-
-    /// Takes the step from the states at the place, and returns the place after it; `None` if it can't be taken.
-    pub(crate) fn take(
-        &self,
-        states: &mut Overlay<'_, StorageT>,
-        place: usize,
-        step: RepairStep<StorageT>,
-    ) -> Result<Option<usize>, AllocError>
-        requires stack { IsStack self.now.point.now.checked.table (overlaid states.old) }
-        ensures taken { IfOk result (IsTakenBy StorageT.index LexemeT.parts self.now
-            (overlaid states.old) place (plain_step StorageT.index step) (overlaid states.new)) }
-        ensures stack { IsStack self.now.point.now.checked.table (overlaid states.new) }
-        ensures base { OnOk result (states.new.base ≡ states.old.base) }
-    {
-        self.engine().take(states, place, step)
-    }
-
-    /// Whether as many lexemes as have to follow a repair can be fed in turn; or all that are left, if they are fewer, and the
-    /// states then accept.
-    pub(crate) fn can_go_on(
-        &self,
-        states: &mut Overlay<'_, StorageT>,
-        place: usize,
-    ) -> Result<bool, AllocError>
-        requires stack { IsStack self.now.point.now.checked.table (overlaid states.old) }
-        requires within { place ≤ length self.now.point.now.lexemes }
-        ensures goes_on { IfOk result (λ goes_on. IsTrue goes_on ↔ GoesOnFrom StorageT.index LexemeT.parts self.now (overlaid states.old) place) }
-        ensures stack { IsStack self.now.point.now.checked.table (overlaid states.new) }
-        ensures base { OnOk result (states.new.base ≡ states.old.base) }
-    {
-        self.engine().can_go_on(states, place)
-    }
-
-    /// Whether it is clear at once that no parse can go on: the top state has no action at the token of the place.
-    pub(crate) fn stops(&self, states: &Overlay<'_, StorageT>, place: usize) -> bool
-        requires stack { IsStack self.now.point.now.checked.table (overlaid states.now) }
-        ensures { IsTrue result → ¬ (GoesOnFrom StorageT.index LexemeT.parts self.now (overlaid states.now) place) }
-    {
-        // At least one lexeme has to follow.
-        let _shifts = self.point.shifts();
-        finds_error(self.point.data(), states, self.token_at(place))
-    }
-
-    /// How far a parse goes on from the states at the place: to the first lexeme that can't be fed, and at most `FURTHEST` places
-    /// past the error point; one more if all are fed and the states then accept.
-    pub(crate) fn reach(
-        &self,
-        states: &mut Overlay<'_, StorageT>,
-        place: usize,
-    ) -> Result<u128, AllocError>
-        requires stack { IsStack self.now.point.now.checked.table (overlaid states.old) }
-        requires within { place ≤ length self.now.point.now.lexemes }
-        ensures reach { IfOk result (ReachesFrom StorageT.index LexemeT.parts self.now (overlaid states.old) place) }
-        ensures stack { IsStack self.now.point.now.checked.table (overlaid states.new) }
-        ensures base { OnOk result (states.new.base ≡ states.old.base) }
-    {
-        let most = self.point.place().saturating_add(FURTHEST);
-        let end = self.point.lexemes().len();
-        let engine = self.engine();
-        'feeding: for at in place..most.min(end) {
-            let Some(_next) = engine.shift(states, at)? else {
-                return Ok(at as u128);
-            };
-        }
-        if place.max(most) < end {
-            return Ok(most as u128);
-        }
-        let ends = engine.accepts(states)?;
-        Ok(most.min(end) as u128 + u128::from(ends))
-    }
 }
 
-// Whether the last step is a Delete.
-fn ends_in_delete<StorageT: StorageIndex>(path: &[RepairStep<StorageT>]) -> bool
-    ensures { IsTrue result ↔ EndsIn (plain_steps StorageT.index path.now) (PlainDelete ∷ []) }
+// How many rounds in a row have added nothing, after one more.
+fn rounds_without(empty: usize, before: usize, after: usize) -> usize
+    requires { empty < 255 }
+    ensures { ((before < after) × (result ≡ 0)) ⊎ ((after ≤ before) × (result ≡ empty + 1)) }
 {
-    match path.last() {
-        Some(RepairStep::Delete) => true,
-        Some(RepairStep::Insert(_) | RepairStep::Shift) | None => false,
-    }
-}
-
-// Whether there are at least n steps and the last n are Shifts.
-pub(crate) fn ends_in_shifts<StorageT: StorageIndex>(
-    path: &[RepairStep<StorageT>],
-    n: usize,
-) -> bool
-    ensures { IsTrue result ↔ EndsIn (plain_steps StorageT.index path.now) (replicate n PlainShift) }
-{
-    if path.len() < n {
-        return false;
-    }
-    for step in &path[path.len() - n..] {
-        match step {
-            RepairStep::Shift => {}
-            RepairStep::Insert(_) | RepairStep::Delete => return false,
-        }
-    }
-    true
-}
-
-// Whether the top state has no action at the token.
-fn finds_error<StorageT: StorageIndex>(
-    checked: &ParserData<StorageT>,
-    states: &Overlay<'_, StorageT>,
-    token: TIdx<StorageT>,
-) -> bool
-    requires stack { IsStack checked.now.table (overlaid states.now) }
-    requires token { StorageT.index token.0 < tokens_len checked.now.grammar }
-    ensures { IsTrue result → top_action checked.now.table (StorageT.index token.0) (overlaid states.now) ≡ Fails }
-{
-    let table = checked.stable();
-    is_error(table.action(states.top(), token))
-}
-
-// Whether the action is an error.
-fn is_error<StorageT: StorageIndex>(action: Action<StorageT>) -> bool
-    ensures { IsTrue result → (plain_action StorageT.index action ≡ Fails) }
-{
-    match action {
-        Action::Error => true,
-        Action::Shift(_) | Action::Reduce(_) | Action::Accept => false,
-    }
+    if before < after { 0 } else { empty + 1 }
 }

@@ -6,3 +6,4 @@ pub mod EngineLemmas
 pub mod ReplayLemmas
 pub mod SomeWorksLemmas
 pub mod ListedLemmas
+pub mod EngineLemmas

@@ -9,3 +9,5 @@ pub mod Moves
 pub mod Asked
 pub mod AlwaysRepairs
 pub mod Replays
+pub mod Moves
+pub mod EngineView

@@ -1,5 +1,0 @@
-use Rattle.lrpar_parse_cpctplus.proofs.ListingLemmas.{listed_are_one, listed_in_order}
-use Rattle.lrpar_parse_cpctplus.proofs.laws.listed_repairs_have_one_answer.Goals as goal
-
-pub returns : goal.returns
-returns g c = record { one = listed_are_one; order = listed_in_order; facts_one = listed_are_one; facts_order = listed_in_order }

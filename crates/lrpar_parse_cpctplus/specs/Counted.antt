@@ -1,0 +1,59 @@
+-- How many rests of repairs there are.
+use Rattle.std.specs.Prelude.{◌≡◌, ◌<◌, ◌≤◌, ◌+◌, ◌-◌, ◌^◌, ℕ, List, [], Option, Some, None, MatchOption, cond, length, min, nat_eq, slice_index_or}
+use Rattle.std.specs.HashMap.{get}
+use Rattle.std.specs.List.{Contains}
+use Rattle.lrpar_parse_repair.specs.Sequences.{PlainStep}
+use Rattle.lrpar_parse_cpctplus.specs.declared.form.Class.{Class}
+use Rattle.lrpar_parse_cpctplus.specs.declared.form.Class.TheVariants.{Clean, Avoided, Any, Nothing}
+use Rattle.lrpar_parse_cpctplus.specs.declared.form.Form.{Form}
+use Rattle.lrpar_parse_cpctplus.specs.declared.layer.Counts.{Counts}
+use Rattle.lrpar_parse_cpctplus.specs.declared.layer.Layer.{Layer}
+use Rattle.lrpar_parse_cpctplus.specs.declared.layer.Numbers.{Numbers}
+
+-- the number of a class
+abbrev pub number_of : Numbers → Class → ℕ
+number_of numbers Clean = numbers.clean
+number_of numbers Avoided = numbers.avoided
+number_of numbers Any = numbers.any
+number_of numbers Nothing = 0
+
+-- the number of a form
+abbrev pub count_of : Counts → Form → ℕ
+count_of counts form = number_of (cond form.deleted counts.after_delete counts.after_other) form.class
+
+-- the number of a form at a node; there are none at a node that the layer doesn't have
+abbrev pub count_at : Option Counts → Form → ℕ
+count_at None form = 0
+count_at (Some counts) form = count_of counts form
+
+abbrev pub count_in : Layer → Form → ℕ → ℕ
+count_in layer form u = count_at (get nat_eq layer.counts u) form
+
+-- as many as there are, or as many as a machine number can say
+abbrev pub counted : {A : Type 0} → List A → ℕ
+counted xs = min (length xs) (2 ^ 64 - 1)
+
+-- these are the numbers of what each form has
+abbrev pub AreCounts : (Form → List (List PlainStep)) → Counts → Type 0
+AreCounts rests counts = (form : Form) → count_of counts form ≡ counted (rests form)
+
+-- these are the numbers of what each class has
+abbrev pub AreNumbers : (Class → List (List PlainStep)) → Numbers → Type 0
+AreNumbers rests numbers = (class : Class) → number_of numbers class ≡ counted (rests class)
+
+-- the layer has the numbers at each node at which anything begins; `rests` are what begins at a node
+abbrev pub IsLayer : (Form → ℕ → List (List PlainStep)) → Layer → Type 0
+IsLayer rests layer =
+    (u : ℕ) → MatchOption (get nat_eq layer.counts u) ((form : Form) → rests form u ≡ [])
+    (λ counts. AreCounts (λ form. rests form u) counts × Contains layer.nodes.items u)
+
+-- it has them at some of these nodes
+abbrev pub IsPartOfLayer : (Form → ℕ → List (List PlainStep)) → Layer → Type 0
+IsPartOfLayer rests layer =
+    (u : ℕ) → MatchOption (get nat_eq layer.counts u) (Unit {0}) (λ counts. AreCounts (λ form. rests form u) counts × Contains layer.nodes.items u)
+
+-- one layer for each number of steps from 0 on; no more steps are left, or none up to `longest`
+pub record AreLayers (rests : ℕ → Form → ℕ → List (List PlainStep)) (longest : ℕ) (layers : List Layer) : Type 0 where
+  pub each : (s : ℕ) (d : Layer) → s < length layers → IsLayer (rests s) (slice_index_or layers s d)
+  pub few : length layers ≤ longest + 1
+  pub others : (s : ℕ) → length layers ≤ s → s ≤ longest → (form : Form) (u : ℕ) → rests s form u ≡ []
