@@ -245,9 +245,9 @@ refuse_each_call_of_nimbleparse 1 '' "$work/text:1:3: error: unexpected 'n', exp
 1| (nn
      ^
 repairs that were found, of which the first is taken:
-   1: Insert +, Shift n, Insert )
-   2: Insert ), Insert +
-   3: Insert ), Delete n
+   1: Insert ), Insert +
+   2: Insert ), Delete n
+   3: Insert +, Shift n, Insert )
 " -q "$work/brackets.lex" "$work/brackets.y" "$work/text"
 refuse_each_call_of_nimbleparse 0 'E[ "(" E[ N "n" ] ")" ]
 ' "$work/brackets.y: note: rules 2, productions 4, tokens 5, states 14, least cap 1

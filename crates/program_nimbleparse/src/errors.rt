@@ -11,6 +11,9 @@ use std::alloc::{AllocError, Global};
 /// How many repairs of an error are shown.
 const SHOWN: usize = 3;
 
+/// How many repairs of an error the search for the cheapest ones lists at most.
+const LISTED: usize = 100;
+
 /// What messages about the errors of an input need.
 #[derive(Clone, Copy)]
 pub(crate) struct Subject<'a> {
@@ -56,7 +59,7 @@ pub(crate) fn push_parse_error(
     }
 }
 
-// Adds the first repairs that were found for an error, a line each, and how many more there are.
+// Adds the first repairs that were found for an error, a line each, and how many more there are, unless there may be more than are listed.
 fn push_listed(
     out: &mut String,
     subject: &Subject<'_>,
@@ -68,7 +71,11 @@ fn push_listed(
         push_repairs(out, subject.grm, subject.input, repairs)?;
         out.push('\n')?;
     }
-    match error.repairs().len().saturating_sub(SHOWN) {
+    let many = error.repairs().len();
+    if many >= LISTED {
+        return out.push_str("   and more\n");
+    }
+    match many.saturating_sub(SHOWN) {
         0 => Ok(()),
         more => writeln!(out, "   and {more} more"),
     }

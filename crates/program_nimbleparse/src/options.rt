@@ -20,7 +20,7 @@ pub(crate) struct Options<'a> {
 }
 
 /// The limit of the search for repairs, if the words give none.
-const LIMIT: usize = 4_000;
+const LIMIT: usize = 20_000;
 
 /// The help text that follows the usage line.
 pub(crate) const HELP: &str = "
@@ -31,7 +31,7 @@ Reads the rules of a lexer and a grammar, and parses each input: standard input 
   -r none      search for no repairs: the first error of an input is the last
   -r cpctplus  search for the cheapest repairs at each error, and go on with the first of them
   -r complete  the same; where none is found, insert and delete what leads to the nearest place to go on (the default)
-  --limit N    give up at an error if more than N candidates cost no more than its repairs (4000)
+  --limit N    give up at an error if more than N configurations (stack and place) cost less than its repairs (20000)
   --shifts K   K lexemes have to follow a repair (3)
   --format F   print trees in brackets on one line, as an indented tree, as json, or as a graph (dot)
   -h           print this

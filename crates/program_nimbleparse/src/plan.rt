@@ -23,7 +23,7 @@ pub enum Recovery {
     Nothing,
     /// The cheapest ones.
     Cheapest {
-        /// How many candidates, beginnings of repairs, may cost no more than the repairs.
+        /// How many configurations, a stack and a place among the lexemes each, may be reached at less cost than the repairs have.
         limit: usize,
     },
     /// The cheapest ones, and a completion where none of these is found.

@@ -86,8 +86,32 @@ fn completion_of<'a>(
     }
 }
 
-// The search with this limit; the line `costs` says what tokens cost that don't cost 1.
+// The search with this limit; the lines `avoid`, `at-most` and `list` say which repairs are listed, and in which order.
 fn cpct_plus_of(
+    alloc: Global,
+    grm: &YaccGrammar<u32>,
+    case: Case<'_, '_>,
+    limit: usize,
+) -> Result<CpctPlus, Fault> {
+    let mut recoverer = priced(alloc, grm, case, limit)?;
+    if let Some((names, number)) = case.value("avoid") {
+        recoverer = recoverer.avoid_insert(alloc, &tokens_of(alloc, grm, names, number)?)?;
+    }
+    if let Some((most, number)) = case.value("at-most") {
+        let Ok(most) = most.parse::<usize>() else {
+            return Err(Fault::Line(number, "a number is wanted"));
+        };
+        recoverer = recoverer.at_most(most);
+    }
+    match case.value("list") {
+        None => Ok(recoverer),
+        Some(("all", _)) => Ok(recoverer.all()),
+        Some((_, number)) => Err(Fault::Line(number, "all is wanted")),
+    }
+}
+
+// The search with this limit; the line `costs` says what tokens cost that don't cost 1.
+fn priced(
     alloc: Global,
     grm: &YaccGrammar<u32>,
     case: Case<'_, '_>,
@@ -103,6 +127,23 @@ fn cpct_plus_of(
         }
         Err(CostFault::Memory) => Err(Fault::Memory),
     }
+}
+
+// The tokens of these names, which blanks separate.
+fn tokens_of(
+    alloc: Global,
+    grm: &YaccGrammar<u32>,
+    names: &str,
+    number: usize,
+) -> Result<Vec<TIdx<u32>>, Fault> {
+    let mut tokens = Vec::new(alloc);
+    for name in names.split(' ') {
+        let Some(token) = token_number(grm, name) else {
+            return Err(Fault::Line(number, "a token is wanted"));
+        };
+        tokens.push(TIdx(token))?;
+    }
+    Ok(tokens)
 }
 
 // The token's cost by the text `NAME=COST ..`; 1 if the text doesn't name it.
