@@ -1,5 +1,4 @@
--- The first things in an order, put together: of two kinds of which one comes before the other, of the images of things, and of other
--- words for the same things.
+-- Members of lists that are put together, and of the images of lists; and pairs of members that are in an order.
 use Rattle.std.proofs.Common.{◌≡◌, ◌-◌, ◌⊎◌, inl, inr, ℕ, zero, suc, List, [], ◌∷◌, ◌++◌, map, refl, subst, ap, arith, All, AllPairs}
 use Rattle.std.proofs.lemmas.List.Kept.{AllPairs-cons}
 use Rattle.lrpar_parse_cpctplus.specs.Listing.{AreFirst}

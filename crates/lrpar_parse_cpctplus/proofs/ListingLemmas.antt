@@ -8,8 +8,9 @@ use Rattle.lrpar_parse_cpctplus.specs.Listing.{AreAlike, AreFirst, InsertsAvoide
 use Rattle.lrpar_parse_cpctplus.specs.Order.{IsEarlier, IsStepBefore}
 use Rattle.lrpar_parse_cpctplus.proofs.AnyFormLemmas.{first_or_later}
 use Rattle.lrpar_parse_cpctplus.proofs.DistanceLemmas.{compare}
+use Rattle.lrpar_parse_cpctplus.proofs.FirstLemmas.{all_members}
 use Rattle.lrpar_parse_cpctplus.proofs.FormLemmas.{has_after, has_none}
-use Rattle.lrpar_parse_cpctplus.proofs.MemberLemmas.{at_any, contained, is_in}
+use Rattle.lrpar_parse_cpctplus.proofs.MemberLemmas.{contained, is_in}
 use Rattle.lrpar_parse_cpctplus.proofs.OrderLemmas.{earlier_one_way, pairs_head, pairs_tail}
 use Rattle.lrpar_parse_cpctplus.proofs.ReachLemmas.{goes_one_far}
 
@@ -191,7 +192,7 @@ module _ {A : Type 0} (R : A → A → Type 0) (one_way : (x y : A) → R x y �
       elim (h.others y p) as (λ _. (y ≡ x) ⊎ R x y) [
         | inl within ↦ elim (is_in y (x ∷ xs) within) as (λ _. (y ≡ x) ⊎ R x y) [
           | inl e ↦ inl e
-          | inr later ↦ inr (at_any (R x) y xs (pairs_head R x xs h.ordered) later)
+          | inr later ↦ inr (all_members (R x) xs (pairs_head R x xs h.ordered) y later)
         ]
         | inr past ↦ inr (past.1 zero x (omega arith))
       ]
@@ -212,7 +213,7 @@ module _ {A : Type 0} (R : A → A → Type 0) (one_way : (x y : A) → R x y �
     each = λ z m. (
       h.each z (contained z (x ∷ xs) (inr (is_in z xs m))),
       λ e.
-          let after = at_any (R x) z xs (pairs_head R x xs h.ordered) (is_in z xs m) in
+          let after = all_members (R x) xs (pairs_head R x xs h.ordered) z (is_in z xs m) in
           let itself = subst (λ (w : A). R x w) e after in
           one_way x x itself itself,
     );

@@ -1,5 +1,5 @@
 -- Members of lists: that a list of things that are apart is no longer than one that has all of them.
-use Rattle.std.proofs.Common.{◌≡◌, ◌<◌, ◌≤◌, ◌+◌, ◌∙◌, ◌⊎◌, inl, inr, ℕ, zero, suc, List, [], ◌∷◌, length, get_or, refl, sym, subst, arith, All}
+use Rattle.std.proofs.Common.{◌≡◌, ◌<◌, ◌≤◌, ◌+◌, ◌∙◌, ◌⊎◌, inl, inr, ℕ, zero, suc, List, [], ◌∷◌, length, get_or, refl, sym, subst, arith}
 use Rattle.std.specs.List.{Contains}
 
 -- x is one of these
@@ -28,9 +28,6 @@ module _ {A : Type 0} where
 
   pub is_in : (x : A) (xs : List A) → Contains xs x → IsIn x xs
   is_in x xs h = at_place x xs h.0 h.1 h.2
-
-  pub at_any : (P : A → Type 0) (x : A) (xs : List A) → All P xs → IsIn x xs → P x
-  at_any P x xs all m = let h = contained x xs m in subst P h.2 (all h.0 x h.1)
 
   -- without x: one less, and all others
   record Without (x : A) (ys : List A) : Type 0 where

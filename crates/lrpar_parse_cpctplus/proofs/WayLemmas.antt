@@ -1,5 +1,5 @@
--- The ways to ends, step by step: those from the error point are the repairs of least cost; a way from an end has no steps; and one from
--- another configuration has a link and then a way from where it leads.
+-- The ways to ends: those from the error point are the repairs of least cost. And how sequences are preferred: by whether they insert a
+-- token to be avoided, which is worked out step by step.
 use Rattle.std.proofs.Common.{◌≡◌, ◌<◌, ◌||◌, ◌∙◌, ◌↔◌, ◌⊎◌, inl, inr, ℕ, List, [], ◌∷◌, Bool, true, false, IsTrue, length, refl, sym, subst, ap, ap₂}
 use Rattle.std.specs.Prelude.{slice_index_or}
 use Rattle.lrpar_grammar.specs.Grammar.{end_token}

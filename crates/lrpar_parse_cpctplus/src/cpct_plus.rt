@@ -117,7 +117,8 @@ impl CpctPlus {
     }
 
     /// These tokens are to be avoided, in place of those that were before: repairs that insert one come after all others after which a
-    /// parse goes on as far. Takes as much memory as the greatest number of a token. `Err`: out of memory; the recoverer is gone then.
+    /// parse goes on as far. A token may have any number of the storage type; memory grows with the greatest one. `Err`: out of memory;
+    /// the recoverer is gone then.
     pub fn avoid_insert<StorageT: StorageIndex>(
         mut self,
         alloc: Global,
@@ -138,7 +139,7 @@ impl CpctPlus {
         self
     }
 
-    /// All repairs of least cost are listed: after those after which a parse goes on furthest the others. Allocates nothing.
+    /// All repairs of least cost may be listed: those after which a parse goes on furthest come first, then the others. Allocates nothing.
     pub fn all(mut self) -> Self
         ensures { result ≡ record self { lists_all = true } }
     {
