@@ -6,4 +6,3 @@ pub mod EngineLemmas
 pub mod ReplayLemmas
 pub mod SomeWorksLemmas
 pub mod ListedLemmas
-pub mod EngineLemmas

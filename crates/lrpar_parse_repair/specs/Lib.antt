@@ -9,5 +9,3 @@ pub mod Moves
 pub mod Asked
 pub mod AlwaysRepairs
 pub mod Replays
-pub mod Moves
-pub mod EngineView
