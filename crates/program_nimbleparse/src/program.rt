@@ -378,7 +378,9 @@ fn no_completion(
     match refusal {
         NoCompletion::Unproductive(rule) => {
             why.push_str("rule '")?;
-            why.push_str(grm.rule_name_str(rule))?;
+            if usize::from(rule) < grm.rules_len() {
+                why.push_str(grm.rule_name_str(rule))?;
+            }
             why.push_str("' derives no text")?;
         }
         NoCompletion::Incomplete(_, _) | NoCompletion::Memory => {
