@@ -1,0 +1,279 @@
+"""Says what looking for repairs comes to, and what it takes: on random changes of random sentences, on errors as people make them, and
+on long texts.
+
+    errors.py [--texts N] [--only NAME] --bench BENCH_PROGRAM --nimbleparse NIMBLEPARSE TOOLS
+
+TOOLS is as for run.sh: with `tools/data.py`, whose sentences are changed, and `../grammars`. The programs are the built ones. README.md
+says what the figures are. The same words give the same texts.
+"""
+import argparse
+import os
+import random
+import re
+import resource
+import statistics
+import subprocess
+import sys
+import tempfile
+
+import wrong_texts
+
+HERE = os.path.dirname(os.path.abspath(__file__))
+CASES = os.path.join(HERE, "..", "..", "crates", "test_cases", "data")
+# A rule of each grammar that is a list, by which sentences are made long; and the texts of tokens that their patterns don't spell.
+LISTS = {
+    "json": "JSONElementList",
+    "ansic": "translation_unit",
+    "lua": "chunk_1",
+    "c99": "translation_unit",
+    "c": "Unit",
+}
+SAMPLES = {
+    **dict.fromkeys(("ID", "NAME", "Name"), "x"),
+    **dict.fromkeys(("ICONST", "INTEGER", "INT_CONST_DEC", "NUMBER", "Number"), "1"),
+    **dict.fromkeys(("FCONST", "FLOATING", "FLOAT_CONST"), "1.5"),
+    **dict.fromkeys(("SCONST", "STRING", "STRING_LITERAL", "String"), '"s"'),
+    **dict.fromkeys(("CCONST", "CHARACTER", "CHAR_CONST"), "'c'"),
+    "TYPEID": "x_t", "INT_CONST_OCT": "07", "INT_CONST_HEX": "0xf", "INT_CONST_BIN": "0b1", "HEX_FLOAT_CONST": "0x1p1",
+    "INT_CONST_CHAR": "'cc'", "WCHAR_CONST": "L'c'", "U8CHAR_CONST": "u8'c'", "U16CHAR_CONST": "u'c'", "U32CHAR_CONST": "U'c'",
+    "WSTRING_LITERAL": 'L"s"', "U8STRING_LITERAL": 'u8"s"', "U16STRING_LITERAL": 'u"s"', "U32STRING_LITERAL": 'U"s"',
+    "PPPRAGMASTR": "@@x",
+}
+SHORTEST, LONGEST = 50, 300
+MOST_CHANGES = 3
+
+
+def texts_of(lexer):
+    """a text of each token, by name, that the lexer reads as that token"""
+    found = dict(SAMPLES)
+    for line in open(lexer, encoding="utf-8"):
+        rule = re.fullmatch(r"(\S+)[ \t]+'(.*)'\s*", line)
+        if rule and rule[2] not in found:
+            plain = re.sub(r"\\(.)", r"\1", rule[1])
+            if re.fullmatch(r"(\\.|[^\\.+*?()|\[\]{}^$])+", rule[1]):
+                found[rule[2]] = plain
+    return found
+
+
+class Language:
+    """a grammar with its lexer, and random sentences of it"""
+
+    def __init__(self, tools, name, folder, grammar, lexer):
+        self.tools, self.name = tools, name
+        self.grammar, self.lexer = os.path.join(folder, grammar), os.path.join(folder, lexer)
+
+    def sentences(self, count):
+        """random sentences, as lists of texts of tokens"""
+        sys.path.insert(0, os.path.join(self.tools, "tools"))
+        import data
+        import gram
+        import lr1
+
+        grammar = gram.load(self.grammar)
+        table, texts = lr1.Lr1(grammar), texts_of(self.lexer)
+        table.tables()
+        listed = grammar.rules.index(LISTS[self.name])
+        for seed in range(count):
+            made = data.Sentences(table, seed)
+            lexemes = made.sentence(listed, random.Random(seed).randint(SHORTEST, LONGEST))
+            yield [texts[grammar.tokens[it]] for it in lexemes]
+
+
+def changed(words, seed):
+    """the words with one to three of them removed, doubled or exchanged, or others added"""
+    chance, words = random.Random(seed), list(words)
+    known = sorted(set(words))
+    for _ in range(chance.randint(1, MOST_CHANGES)):
+        at = chance.randrange(max(len(words) - 1, 1))
+        change = chance.choice(("remove", "add", "double", "exchange"))
+        if change == "remove":
+            del words[at]
+        elif change == "add":
+            words.insert(at, chance.choice(known))
+        elif change == "double":
+            words.insert(at, words[at])
+        else:
+            words[at], words[at + 1] = words[at + 1], words[at]
+    return words
+
+
+class Programs:
+    def __init__(self, bench, nimbleparse, folder):
+        self.bench, self.nimbleparse = bench, nimbleparse
+        self.input = os.path.join(folder, "input")
+
+    def given(self, text):
+        with open(self.input, "w", encoding="utf-8") as out:
+            out.write(text)
+        return self.input
+
+    def errors(self, language, text):
+        """how many errors there are, and how many without a repair"""
+        words = [self.bench, "errors", "1", language.grammar, language.lexer, self.given(text)]
+        return tuple(map(int, subprocess.run(words, capture_output=True, text=True, check=True).stdout.split()))
+
+    def milliseconds(self, language, text, mode="cheapest", repetitions=4):
+        """the least that a parse takes, without the first repetition"""
+        words = [self.bench, mode, str(repetitions), language.grammar, language.lexer, self.given(text)]
+        wrote = subprocess.run(words, capture_output=True, text=True)
+        if wrote.returncode:
+            return None
+        return min(map(int, wrote.stdout.split()[1:])) / 1e6
+
+    def peak(self, language, text, mode="cheapest"):
+        """the most bytes that a process had"""
+        words = [self.bench, mode, "1", language.grammar, language.lexer, self.given(text)]
+        started = subprocess.Popen(words, stdout=subprocess.DEVNULL, stderr=subprocess.DEVNULL)
+        _, _, used = os.wait4(started.pid, 0)
+        started.returncode = 0
+        return used.ru_maxrss * 1024
+
+    def seconds(self, language, text, recoverer="cpctplus", rounds=5):
+        """the least processor seconds of nimbleparse as a whole, which prints no tree"""
+        words = [self.nimbleparse, "-q", "-r", recoverer, language.lexer, language.grammar, self.given(text)]
+        found = []
+        for _ in range(rounds):
+            before = resource.getrusage(resource.RUSAGE_CHILDREN)
+            subprocess.run(words, stdout=subprocess.DEVNULL, stderr=subprocess.DEVNULL, check=False)
+            after = resource.getrusage(resource.RUSAGE_CHILDREN)
+            found.append(after.ru_utime + after.ru_stime - before.ru_utime - before.ru_stime)
+        return min(found)
+
+
+def share(part, whole):
+    return f"{part} of {whole} ({100 * part / whole:.1f} %)" if whole else "none"
+
+
+def spread(times):
+    times = sorted(times)
+    return f"half under {statistics.median(times):.2f} ms, 99 of 100 under {times[int(len(times) * 0.99)]:.2f}, the most {times[-1]:.2f}"
+
+
+def random_errors(programs, languages, count):
+    print("\nRandom changes: one to three in a sentence of 50 to 300 lexemes. Errors with a repair, and milliseconds of a parse")
+    all_errors = all_repaired = 0
+    for language in languages:
+        errors = repaired = 0
+        times = []
+        for seed, words in enumerate(language.sentences(count)):
+            text = " ".join(changed(words, seed)) + "\n"
+            found, bare = programs.errors(language, text)
+            if found:
+                errors, repaired = errors + found, repaired + found - bare
+                times.append(programs.milliseconds(language, text))
+        print(f"{language.name}: {share(repaired, errors)}; {spread(times)}", flush=True)
+        all_errors, all_repaired = all_errors + errors, all_repaired + repaired
+    print(f"all: {share(all_repaired, all_errors)}")
+
+
+def hand_errors(programs, languages):
+    print("\nErrors by hand: texts in which each error has a repair, and milliseconds of a parse")
+    texts = {"ansic": wrong_texts.C, "json": wrong_texts.JSON, "lua": wrong_texts.LUA}
+    all_texts = all_repaired = 0
+    for language in languages:
+        times, repaired = [], 0
+        for text in texts.get(language.name, ()):
+            _, bare = programs.errors(language, text)
+            repaired += bare == 0
+            times.append(programs.milliseconds(language, text))
+            if bare:
+                print(f"{language.name}: no repair: {text!r}")
+        if times:
+            print(f"{language.name}: {share(repaired, len(times))}; {spread(times)}", flush=True)
+        all_texts, all_repaired = all_texts + len(times), all_repaired + repaired
+    print(f"all: {share(all_repaired, all_texts)}")
+
+
+def named_errors(programs, languages):
+    c, json = languages["ansic"], languages["json"]
+    body = "int f(int a) {\n" + "if (a) {\n" * 6 + "a = 1;\n"
+    whole = "int f(int a) {\n    a = g((a + 1) * 2);\n    return a;\n}\n"
+    nested = '{"a": ' * 10 + "1" + "}" * 10
+    named = [
+        ("C, three } are missing at the end", c, body + "}\n" * 4),
+        ("C, five } are missing at the end", c, body + "}\n" * 2),
+        ("C, five ) too many", c, whole.replace("2);", "2))))));")),
+        ("C, for (a, b, c)", c, "int f(int a) {\n    for (a, b, c)\n        g(a);\n    return a;\n}\n"),
+        ("C, an expression of prose", c, "int f(int a) {\n    this is some text in the middle;\n    return a;\n}\n"),
+        ("JSON, eight closers are missing", json, nested[:-8] + "\n"),
+        ("JSON, eight closers too many", json, nested + "}" * 8 + "\n"),
+        ("JSON, eight colons are missing", json, nested.replace(":", "", 8) + "\n"),
+        ("JSON, eight colons too many", json, nested.replace(":", ":::::::::", 1) + "\n"),
+        ("JSON, closed halfway with 400 objects after it", json,
+         '[{"a": 1}], ' + ", ".join('{"name": "x", "size": 1, "tags": [1, 2, 3], "left": null, "right": true, "note": {"a": 1}}' for _ in range(400)) + "\n"),
+    ]
+    print("\nErrors by name: errors, those without a repair, milliseconds of a parse")
+    for name, language, text in named:
+        errors, bare = programs.errors(language, text)
+        print(f"{name}: {errors}, {bare}, {programs.milliseconds(language, text):.2f}", flush=True)
+
+
+def objects(count, wrong=()):
+    """a list of objects of nine lexemes with the commas; the wrong ones lack their colon"""
+    made = ['{"a": 1, "b": 2}' if at not in wrong else '{"a" 1, "b": 2}' for at in range(count)]
+    return "[" + ",\n".join(made) + "]\n"
+
+
+def whole_program(programs, json):
+    print("\nnimbleparse as a whole, JSON of 100,000 lexemes: seconds, and times those of the text without errors")
+    count = 10_000
+    plain = programs.seconds(json, objects(count))
+    marked = objects(count).replace('"b"', ': "b"')
+    for name, text in (
+        ("without errors", objects(count)),
+        ("100 errors", objects(count, range(50, count, count // 100))),
+        ("a wrong lexeme every ten", marked),
+    ):
+        taken = programs.seconds(json, text)
+        print(f"{name}: {taken:.3f}, {taken / plain:.2f}", flush=True)
+
+
+def completions(programs, c, folder):
+    grammar = open(c.grammar, encoding="utf-8").read()
+    without = re.sub(r"\|\s*IF LPAREN expression RPAREN statement ELSE statement", "", grammar)
+    path = os.path.join(folder, "c_without_else.y")
+    with open(path, "w", encoding="utf-8") as out:
+        out.write(without)
+    language = Language(c.tools, "c_without_else", folder, path, c.lexer)
+    line = "it was a dark and stormy night; the rain fell in torrents, except at occasional intervals, when it was checked by a violent gust\n"
+    print("\nProse in C without else: milliseconds of a parse with the cheapest repairs, then a completion")
+    for name, text in (("a line", line), ("a line in a function", "int f(int a) {\n" + line + "return a;\n}\n"), ("100 lines", line * 100)):
+        print(f"{name}: {programs.milliseconds(language, text, 'completed'):.2f}", flush=True)
+
+
+def memory(programs, c):
+    print("\nMemory: bytes for each of 20,000 configurations, by what a search that gives up takes more than one for a missing semicolon")
+    given_up = "int f(int a) {\n    " + "a b c d e f g h i j k l m n o p q r s t u v w x y z;\n    return a;\n}\n"
+    short = given_up.replace("a b c d e f g h i j k l m n o p q r s t u v w x y z;", "a = 1")
+    most, least = programs.peak(c, given_up), programs.peak(c, short)
+    print(f"{(most - least) / 20_000:.0f}, errors without a repair: {programs.errors(c, given_up)[1]}")
+
+
+def main():
+    parser = argparse.ArgumentParser(description=__doc__.split("\n", 1)[0])
+    parser.add_argument("--texts", type=int, default=100)
+    parser.add_argument("--only")
+    parser.add_argument("--bench", required=True)
+    parser.add_argument("--nimbleparse", required=True)
+    parser.add_argument("tools")
+    given = parser.parse_args()
+    shared = os.path.join(given.tools, "..", "grammars")
+    languages = [Language(given.tools, it, shared, f"{it}.y", f"{it}.lex") for it in ("json", "ansic", "lua", "c99")]
+    languages.append(Language(given.tools, "c", os.path.join(CASES, "c"), "grammar.y", "lexer.lex"))
+    by_name = {it.name: it for it in languages}
+    with tempfile.TemporaryDirectory() as folder:
+        programs = Programs(given.bench, given.nimbleparse, folder)
+        parts = {
+            "random": lambda: random_errors(programs, languages, given.texts),
+            "hand": lambda: hand_errors(programs, languages),
+            "named": lambda: named_errors(programs, by_name),
+            "whole": lambda: whole_program(programs, by_name["json"]),
+            "completions": lambda: completions(programs, by_name["ansic"], folder),
+            "memory": lambda: memory(programs, by_name["ansic"]),
+        }
+        for name, part in parts.items():
+            if given.only in (None, name):
+                part()
+
+
+main()
