@@ -1,0 +1,18 @@
+-- The erasure of a `.y` file: the same bytes, with blanks in place of the parts that a grammar text doesn't have.
+use Rattle.std.specs.Prelude.{◌≡◌, ◌-◌, ◌==◌, ℕ, List, [], ◌∷◌, ◌++◌, drop, map, take, slice_range, if◌then◌else◌}
+use Rattle.lrpar_grammar_yacc.specs.declared.parts.YaccKind.{YaccKind}
+use Rattle.lrpar_grammar_yacc.specs.declared.text.TextPart.{TextPart}
+use Rattle.lrpar_grammar_yacc.specs.Steps.{parts_of}
+
+-- a space for each byte but LF
+abbrev pub blanks : List ℕ → List ℕ
+blanks s = map (λ c. if c == 10 then 10 else 32) s
+
+-- the text from that place on: what comes before the first of these parts, blanks for it, and so on after it
+abbrev pub erased_from : List ℕ → ℕ → List TextPart → List ℕ
+erased_from text place [] = drop place text
+erased_from text place (x ∷ xs) = slice_range text place x.start ++ (blanks (slice_range text x.start x.end) ++ erased_from text x.end xs)
+
+-- the erasure of a text: blanks in place of its parts
+abbrev pub erasure : YaccKind → List ℕ → List ℕ
+erasure kind text = erased_from text 0 (parts_of kind text)

@@ -1,0 +1,129 @@
+//! The parts of a `.y` file, and its erasure.
+
+use crate::parts::{PartKind, YaccKind};
+use crate::steps::{Step, StepKind, step_at};
+use lrpar_grammar_places::span::Span;
+use lrpar_grammar_words::word_order::Expected;
+use std::alloc::{AllocError, Global};
+
+/// A part of a `.y` file. Places are bytes, counted from the start of the file.
+#[derive(Clone, Copy)]
+pub struct TextPart {
+    /// What it is.
+    pub kind: PartKind,
+    /// The place where it begins.
+    pub start: usize,
+    /// The place where its names, its number or its type begins.
+    pub body: usize,
+    /// The place after it.
+    pub end: usize,
+    /// The number of alternatives that end before it.
+    pub prod: usize,
+}
+
+/// The parts of a `.y` file.
+pub struct TextParts {
+    /// The parts, in the order of the text.
+    pub parts: Vec<TextPart>,
+    /// The first action that isn't the last of its alternative.
+    pub mid_action: Option<Span>,
+}
+
+// Hand-written, so that code that drops parts needs the proof of one call only.
+impl Drop for TextParts {
+    fn drop(self) {
+        let TextParts {
+            parts,
+            mid_action: _,
+        } = self;
+        drop(parts);
+    }
+}
+
+impl TextParts {
+    /// The parts of the text, as far as it can be read. Takes time linear in the text, and memory linear in the number of parts.
+    pub fn read(alloc: Global, kind: YaccKind, text: &str) -> Result<Self, AllocError> {
+        let bytes = text.as_bytes();
+        let mut parts = Vec::new(alloc);
+        let mut last = None;
+        let mut mid_action = None;
+        let mut expected = Expected::Declaration;
+        let mut prod = 0;
+        let mut place = 0;
+        while let Some(step) = step_at(kind, expected, &bytes[place..]) {
+            push_part(&mut parts, place, prod, step)?;
+            mid_action = mid_action.or(mid_before(step.kind, &last));
+            last = action_after(place, step.len, step.kind, &last);
+            prod += ends(step.kind);
+            expected = step.next;
+            place += step.len;
+        }
+        Ok(TextParts { parts, mid_action })
+    }
+
+    /// The text, with blanks in place of its parts: each byte of a part but LF becomes a space, so that places and lines stay. The
+    /// parts must be those of the text.
+    pub fn erase(&self, alloc: Global, text: &str) -> Result<String, AllocError> {
+        let mut erased = String::with_capacity(alloc, text.len())?;
+        let mut place = 0;
+        for part in &self.parts {
+            erased.push_str(&text[place..part.start])?;
+            push_blanks(&mut erased, &text[part.start..part.end])?;
+            place = part.end;
+        }
+        erased.push_str(&text[place..])?;
+        Ok(erased)
+    }
+}
+
+// Appends the part that a step passes over at that place, if it is one.
+fn push_part(
+    parts: &mut Vec<TextPart>,
+    place: usize,
+    prod: usize,
+    step: Step,
+) -> Result<(), AllocError> {
+    if let StepKind::Part(kind) = step.kind {
+        parts.push(TextPart {
+            kind,
+            start: place,
+            body: place + step.head,
+            end: place + step.len,
+            prod,
+        })?;
+    }
+    Ok(())
+}
+
+// How many alternatives a step ends.
+fn ends(kind: StepKind) -> usize {
+    match kind {
+        StepKind::End => 1,
+        _ => 0,
+    }
+}
+
+// Appends blanks for the text: an LF for each LF, and a space for each other byte.
+fn push_blanks(erased: &mut String, text: &str) -> Result<(), AllocError> {
+    for byte in text.as_bytes() {
+        erased.push(if *byte == b'\n' { '\n' } else { ' ' })?;
+    }
+    Ok(())
+}
+
+// The action right before what comes after a step at that place, with only blanks between. `last`: that before the step.
+fn action_after(place: usize, len: usize, kind: StepKind, last: &Option<Span>) -> Option<Span> {
+    match kind {
+        StepKind::Blank => *last,
+        StepKind::Part(PartKind::Action) => Some(Span::new(place, place + len)),
+        _ => None,
+    }
+}
+
+// The action before a step of that kind, if the step shows that it isn't the last of its alternative.
+fn mid_before(kind: StepKind, last: &Option<Span>) -> Option<Span> {
+    match kind {
+        StepKind::Blank | StepKind::End => None,
+        _ => *last,
+    }
+}
