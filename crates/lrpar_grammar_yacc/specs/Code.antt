@@ -5,7 +5,7 @@ use Rattle.std.specs.List.{prefix_len, position_or_len, starts_with}
 use Rattle.std.specs.Option.{option_and_then}
 use Rattle.lrpar_grammar_words.specs.Words.{is_byte_at}
 use Rattle.lrpar_grammar_yacc.specs.declared.code.Run.{Run}
-use Rattle.lrpar_grammar_yacc.specs.declared.code.Run.TheVariants.{Braces, Type}
+use Rattle.lrpar_grammar_yacc.specs.declared.code.Run.TheVariants.{Braced, Typed}
 
 -- n more bytes
 abbrev pub more : ℕ → Option ℕ → Option ℕ
@@ -19,17 +19,25 @@ is_in_word c = (nat_le 97 c && nat_le c 122) || (nat_le 65 c && nat_le c 90) || 
 abbrev pub hashes_len : List ℕ → ℕ
 hashes_len s = prefix_len (λ c. c == 35) s
 
+-- the byte c is that one, and not escaped
+abbrev pub is_unescaped : Bool → ℕ → ℕ → Bool
+is_unescaped escaped c one = not escaped && (c == one)
+
+-- the byte c is a `"` with that many `#` after it
+abbrev pub ends_raw : ℕ → ℕ → List ℕ → Bool
+ends_raw hashes c s = (c == 34) && nat_le hashes (hashes_len s)
+
 -- The number of bytes up to the end of the first quote that no backslash escapes. `escaped`: whether one before s escapes its
 -- first byte.
 abbrev pub escaped_len : ℕ → Bool → List ℕ → Option ℕ
 escaped_len quote escaped [] = None
 escaped_len quote escaped (c ∷ s) =
-    if not escaped && (c == quote) then Some 1 else more 1 (escaped_len quote (not escaped && (c == 92)) s)
+    if is_unescaped escaped c quote then Some 1 else more 1 (escaped_len quote (is_unescaped escaped c 92) s)
 
 -- the number of bytes up to the end of the first `"` with that many `#` after it
 abbrev pub raw_len : ℕ → List ℕ → Option ℕ
 raw_len hashes [] = None
-raw_len hashes (c ∷ s) = if (c == 34) && nat_le hashes (hashes_len s) then Some (1 + hashes) else more 1 (raw_len hashes s)
+raw_len hashes (c ∷ s) = if ends_raw hashes c s then Some (1 + hashes) else more 1 (raw_len hashes s)
 
 -- The number of bytes up to the end of the `*/` that closes a comment, with that many more open inside it. `paired`: whether the
 -- first byte of s belongs to a `/*` or `*/` that begins before it.
@@ -83,18 +91,22 @@ piece_len c s =
 
 -- the brackets that have to be closed in a run
 abbrev pub opens : Run → ℕ → Bool
-opens Braces c = c == 123
-opens Type c = (c == 40) || (c == 91) || (c == 123) || (c == 60)
+opens Braced c = c == 123
+opens Typed c = (c == 40) || (c == 91) || (c == 123) || (c == 60)
 
 -- their counterparts
 abbrev pub closes : Run → ℕ → Bool
-closes Braces c = c == 125
-closes Type c = (c == 41) || (c == 93) || (c == 125) || (c == 62)
+closes Braced c = c == 125
+closes Typed c = (c == 41) || (c == 93) || (c == 125) || (c == 62)
 
 -- the byte that ends a run, outside all brackets
 abbrev pub end_of : Run → ℕ
-end_of Braces = 125
-end_of Type = 58
+end_of Braced = 125
+end_of Typed = 58
+
+-- whether the piece of that length with the first byte c ends a run, if so many brackets are open
+abbrev pub is_end : Run → ℕ → ℕ → ℕ → Bool
+is_end run depth c len = (depth == 0) && (c == end_of run) && (len == 1)
 
 -- the number of open brackets after a piece that begins with the byte c
 abbrev pub depth_after : Run → ℕ → ℕ → ℕ
@@ -106,4 +118,4 @@ abbrev pub run_len : Run → ℕ → ℕ → List ℕ → Option ℕ
 run_len run depth skip [] = None
 run_len run depth (suc skip) (c ∷ s) = more 1 (run_len run depth skip s)
 run_len run depth zero (c ∷ s) =
-    option_and_then (λ len. if (depth == 0) && (c == end_of run) && (len == 1) then Some 0 else more 1 (run_len run (depth_after run depth c) (len - 1) s)) (piece_len c s)
+    option_and_then (λ len. if is_end run depth c len then Some 0 else more 1 (run_len run (depth_after run depth c) (len - 1) s)) (piece_len c s)

@@ -125,6 +125,21 @@ abbrev pub expected_rr_in : List ℕ → TextPart → PartKind → List TextNumb
 expected_rr_in text x ExpectRr = number_in text x ∷ []
 expected_rr_in text x _ = []
 
+-- no declaration
+abbrev pub nothing_declared : TextDeclarations
+nothing_declared = record { levels = []; precs = []; avoided = []; unused = []; expected = []; expected_rr = [] }
+
+-- declarations, and what one more part declares
+unfoldable pub with_part : List ℕ → TextDeclarations → TextPart → TextDeclarations
+with_part text d x = record {
+  levels = d.levels ++ levels_in text x x.kind;
+  precs = d.precs ++ precs_in text x x.kind;
+  avoided = d.avoided ++ avoided_in text x x.kind;
+  unused = d.unused ++ unused_in text x x.kind;
+  expected = d.expected ++ expected_in text x x.kind;
+  expected_rr = d.expected_rr ++ expected_rr_in text x x.kind;
+}
+
 -- what parts declare, in their order
 abbrev pub declared_by : List ℕ → List TextPart → TextDeclarations
 declared_by text parts = record {

@@ -1,5 +1,6 @@
 -- The erasure of a `.y` file: the same bytes, with blanks in place of the parts that a grammar text doesn't have.
-use Rattle.std.specs.Prelude.{◌≡◌, ◌-◌, ◌==◌, ℕ, List, [], ◌∷◌, ◌++◌, drop, map, take, slice_range, if◌then◌else◌}
+use Rattle.std.specs.Prelude.{◌≡◌, ◌≤◌, ◌-◌, ◌==◌, ℕ, List, [], ◌∷◌, ◌++◌, drop, map, take, slice_range, if◌then◌else◌}
+use Rattle.std.specs.Str.{IsCharBoundary}
 use Rattle.lrpar_grammar_yacc.specs.declared.parts.YaccKind.{YaccKind}
 use Rattle.lrpar_grammar_yacc.specs.declared.text.TextPart.{TextPart}
 use Rattle.lrpar_grammar_yacc.specs.Steps.{parts_of}
@@ -16,3 +17,15 @@ erased_from text place (x ∷ xs) = slice_range text place x.start ++ (blanks (s
 -- the erasure of a text: blanks in place of its parts
 abbrev pub erasure : YaccKind → List ℕ → List ℕ
 erasure kind text = erased_from text 0 (parts_of kind text)
+
+-- a part lies in the text, between two characters at each end
+pub record IsPartOfText (text : List ℕ) (x : TextPart) : Type 0 where
+  pub body : x.start ≤ x.body
+  pub end : x.body ≤ x.end
+  pub starts : IsCharBoundary text x.start
+  pub ends : IsCharBoundary text x.end
+
+-- the parts lie in the text from that place on, each after the one before
+abbrev pub AreApart : List ℕ → ℕ → List TextPart → Type 0
+AreApart text place [] = IsCharBoundary text place
+AreApart text place (x ∷ xs) = IsCharBoundary text place × (place ≤ x.start) × IsPartOfText text x × AreApart text x.end xs

@@ -10,7 +10,7 @@ use Rattle.lrpar_grammar_yacc.specs.declared.parts.PartKind.{PartKind}
 use Rattle.lrpar_grammar_yacc.specs.declared.parts.PartKind.TheVariants.{Expect, ExpectRr}
 use Rattle.lrpar_grammar_yacc.specs.declared.parts.YaccKind.{YaccKind}
 use Rattle.lrpar_grammar_yacc.specs.declared.text.TextPart.{TextPart}
-use Rattle.lrpar_grammar_yacc.specs.Declares.{TextLevel, TextPrec, declarations, digits_of, number_of}
+use Rattle.lrpar_grammar_yacc.specs.Declares.{TextDeclarations, TextLevel, TextPrec, declarations, digits_of, number_of}
 use Rattle.lrpar_grammar_yacc.specs.Steps.{mid_action, parts_of}
 
 -- the parts with a number
@@ -27,7 +27,7 @@ bad_number text parts =
 -- the first name that is among the earlier ones, or in the list before
 abbrev pub repeated_after : List (List ℕ) → List PlacedWord → Option Extent
 repeated_after before [] = None
-repeated_after before (w ∷ ws) = if list_any (bytes_eq w.name) before then Some w.span else repeated_after (w.name ∷ before) ws
+repeated_after before (w ∷ ws) = if list_any (bytes_eq w.name) before then Some w.span else repeated_after (before ++ w.name ∷ []) ws
 
 -- the first name whose precedence is declared a second time
 abbrev pub repeated_name : List TextLevel → Option Extent
@@ -53,14 +53,17 @@ earlier None b = b
 earlier (Some a) None = Some a
 earlier (Some a) (Some b) = if nat_lt (place_of b) (place_of a) then Some b else Some a
 
+-- the first fault of a text by its parts, by what they declare, and by the first action that isn't the last of its alternative
+abbrev pub fault_by : List ℕ → List TextPart → TextDeclarations → Option Extent → Option YaccFault
+fault_by text parts declared mid =
+    earlier (earlier (option_map BadNumber (bad_number text parts)) (option_map RepeatedPrecedence (repeated_name declared.levels)))
+    (earlier (option_map RepeatedPrec (repeated_prec None declared.precs)) (option_map MidRuleAction mid))
+
 -- the first fault of a text
 abbrev pub first_fault : YaccKind → List ℕ → Option YaccFault
-first_fault kind text =
-    let declared = declarations kind text in
-    earlier (earlier (option_map BadNumber (bad_number text (parts_of kind text))) (option_map RepeatedPrecedence (repeated_name declared.levels)))
-    (earlier (option_map RepeatedPrec (repeated_prec None declared.precs)) (option_map MidRuleAction (mid_action kind text)))
+first_fault kind text = fault_by text (parts_of kind text) (declarations kind text) (mid_action kind text)
 
--- the text has no fault, or this is its first one; or an allocation failed
+-- this is the first fault of the text, or an allocation failed
 abbrev pub IsFaultOf : YaccKind → List ℕ → YaccFault → Type 0
 IsFaultOf kind text Memory = Unit {0}
 IsFaultOf kind text fault = first_fault kind text ≡ Some fault

@@ -1,5 +1,5 @@
 -- The parts of a `.y` file that a grammar text doesn't have, by their bytes. 37 is `%`, 123 `{`.
-use Rattle.std.specs.Prelude.{◌≡◌, ◌<◌, ◌≤◌, ◌+◌, ◌-◌, ◌==◌, ◌&&◌, not, ℕ, zero, suc, Bool, true, false, List, [], ◌∷◌, drop, length, nat_eq, nat_le, codes, Option, Some, None, option_map, if◌then◌else◌}
+use Rattle.std.specs.Prelude.{◌≡◌, ◌<◌, ◌≤◌, ◌+◌, ◌-◌, ◌==◌, ◌&&◌, not, ℕ, zero, suc, Bool, true, false, List, [], ◌∷◌, drop, length, nat_eq, nat_le, codes, Option, Some, None, option_map, ◌⊎◌, slice_index, if◌then◌else◌}
 use Rattle.std.specs.List.{prefix_len, position_or_len, starts_with}
 use Rattle.std.specs.Option.{option_and_then, option_map_or, is_none}
 use Rattle.lrpar_grammar_words.specs.declared.words.WordKind.{WordKind}
@@ -8,7 +8,7 @@ use Rattle.lrpar_grammar_words.specs.declared.words.Piece.{Piece}
 use Rattle.lrpar_grammar_words.specs.declared.word_order.Expected.{Expected}
 use Rattle.lrpar_grammar_words.specs.declared.word_order.Expected.TheVariants.{Declaration, MoreTokens, RuleColon, NextSymbol, TextEnd}
 use Rattle.lrpar_grammar_words.specs.Words.{is_byte_at, is_digit, piece_at}
-use Rattle.lrpar_grammar_yacc.specs.declared.code.Run.TheVariants.{Braces, Type}
+use Rattle.lrpar_grammar_yacc.specs.declared.code.Run.TheVariants.{Braced, Typed}
 use Rattle.lrpar_grammar_yacc.specs.declared.parts.AssocKind.TheVariants.{Left, Right, Nonassoc}
 use Rattle.lrpar_grammar_yacc.specs.declared.parts.Part.{Part}
 use Rattle.lrpar_grammar_yacc.specs.declared.parts.PartKind.{PartKind}
@@ -65,7 +65,7 @@ line_part kind sign s = part kind sign (sign + position_or_len (λ c. c == 10) (
 -- the length of a `{` and of the code up to its `}`
 abbrev pub braces_len : List ℕ → Option ℕ
 braces_len [] = None
-braces_len (c ∷ s) = if c == 123 then more 2 (run_len Braces 0 0 s) else None
+braces_len (c ∷ s) = if c == 123 then more 2 (run_len Braced 0 0 s) else None
 
 -- `%grmtools`, blanks, and braces
 abbrev pub header_part : List ℕ → Option Part
@@ -104,7 +104,7 @@ declaration_at kind s =
 -- the type of a rule, up to the `:`
 unfoldable pub type_at : YaccKind → List ℕ → Option Part
 type_at kind s =
-    if starts_with nat_eq s (codes "->") && not (is_original kind) then option_map (λ n. part RuleType 2 (2 + n)) (run_len Type 0 0 (drop 2 s)) else None
+    if starts_with nat_eq s (codes "->") && not (is_original kind) then option_map (λ n. part RuleType 2 (2 + n)) (run_len Typed 0 0 (drop 2 s)) else None
 
 -- what an alternative may have beside its symbols
 unfoldable pub symbol_at : List ℕ → Option Part
@@ -126,3 +126,14 @@ part_at kind RuleColon s = type_at kind s
 part_at kind NextSymbol s = symbol_at s
 part_at kind TextEnd s = programs_at s
 part_at kind _ s = None
+
+-- n bytes of s end after an ASCII byte or before one, or at the end of s
+abbrev pub EndsAtAscii : List ℕ → ℕ → Type 0
+EndsAtAscii s n = (slice_index s n < 128) ⊎ ((0 < n) × (slice_index s (n - 1) < 128))
+
+-- a part has at least one byte, and it ends in s between two characters
+pub record IsPartWithin (s : List ℕ) (x : Part) : Type 0 where
+  pub some : 0 < x.len
+  pub body : x.head ≤ x.len
+  pub most : x.len ≤ length s
+  pub end : EndsAtAscii s x.len

@@ -1,5 +1,5 @@
 -- How a `.y` file is read: by steps over blanks, words and parts. Where a grammar text may go on with a word or blanks, there is no part.
-use Rattle.std.specs.Prelude.{◌≡◌, ◌+◌, ◌-◌, ℕ, zero, suc, List, [], ◌∷◌, ◌++◌, Option, Some, None, option_map, option_and_then}
+use Rattle.std.specs.Prelude.{◌≡◌, ◌<◌, ◌≤◌, length, ◌+◌, ◌-◌, ℕ, zero, suc, List, [], ◌∷◌, ◌++◌, Option, Some, None, option_map, option_and_then}
 use Rattle.std.specs.Option.{option_map_or, option_or, option_to_list}
 use Rattle.lrpar_grammar_places.specs.Span.{Extent}
 use Rattle.lrpar_grammar_words.specs.declared.words.WordKind.{WordKind}
@@ -18,7 +18,7 @@ use Rattle.lrpar_grammar_yacc.specs.declared.steps.Step.{Step}
 use Rattle.lrpar_grammar_yacc.specs.declared.steps.StepKind.{StepKind}
 use Rattle.lrpar_grammar_yacc.specs.declared.steps.StepKind.TheVariants.{Blank, Word, End, Part as PartStep}
 use Rattle.lrpar_grammar_yacc.specs.declared.text.TextPart.{TextPart}
-use Rattle.lrpar_grammar_yacc.specs.Parts.{part_at}
+use Rattle.lrpar_grammar_yacc.specs.Parts.{EndsAtAscii, part_at}
 
 -- what a word of that role is to a step
 abbrev pub word_kind : Role → StepKind
@@ -99,3 +99,10 @@ mid_from place last (x ∷ xs) = option_or (mid_before x.kind last) (mid_from (p
 -- the first action of a text that isn't the last of its alternative
 abbrev pub mid_action : YaccKind → List ℕ → Option Extent
 mid_action kind text = mid_from 0 None (steps_of kind text)
+
+-- a step passes over at least one byte, and it ends in s between two characters
+pub record IsStepWithin (s : List ℕ) (x : Step) : Type 0 where
+  pub some : 0 < x.len
+  pub body : x.head ≤ x.len
+  pub most : x.len ≤ length s
+  pub end : EndsAtAscii s x.len

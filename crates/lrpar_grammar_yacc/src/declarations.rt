@@ -1,4 +1,8 @@
 //! What a `.y` file declares beside its grammar.
+ghost use Rattle.std.specs.Prelude.{◌≡◌, ◌++◌, All, IfOk, OnOk, map};
+ghost use Rattle.lrpar_grammar_words.specs.Words.{placed};
+ghost use Rattle.lrpar_grammar_yacc.specs.Declares.{declared_by, names_of, number_as, number_in, number_of};
+ghost use Rattle.lrpar_grammar_yacc.specs.Erasure.{IsPartOfText};
 
 use crate::parts::{AssocKind, PartKind};
 use crate::text::TextPart;
@@ -77,8 +81,13 @@ impl<'a> Drop for Declarations<'a> {
 }
 
 impl<'a> Declarations<'a> {
-    /// What the parts of a text declare. The parts must be those of the text. A number that isn't one, or that is too large, is 0.
-    pub fn of_parts(alloc: Global, text: &'a str, parts: &[TextPart]) -> Result<Self, AllocError> {
+    ghost use Rattle.lrpar_grammar_yacc.specs.Declares.{declarations_of, nothing_declared, with_part};
+
+    // What the parts of a text declare. A number that isn't one, or that is too large, is 0.
+    pub(crate) fn of_parts(alloc: Global, text: &'a str, parts: &[TextPart]) -> Result<Self, AllocError>
+        requires { All (IsPartOfText text.now) parts.now }
+        ensures { IfOk result (λ d. declarations_of d ≡ declared_by text.now parts.now) }
+    {
         let mut declarations = Declarations::new(alloc);
         for part in parts {
             declarations.take(alloc, text, *part)?;
@@ -87,7 +96,9 @@ impl<'a> Declarations<'a> {
     }
 
     // No declaration.
-    fn new(alloc: Global) -> Self {
+    fn new(alloc: Global) -> Self
+        ensures { declarations_of result ≡ nothing_declared }
+    {
         Declarations {
             levels: Vec::new(alloc),
             precs: Vec::new(alloc),
@@ -99,7 +110,11 @@ impl<'a> Declarations<'a> {
     }
 
     // Adds what one more part declares.
-    fn take(&mut self, alloc: Global, text: &'a str, part: TextPart) -> Result<(), AllocError> {
+    #[tactic(auto, unfolding(crate::specs::Declares::with_part))]
+    fn take(&mut self, alloc: Global, text: &'a str, part: TextPart) -> Result<(), AllocError>
+        requires { IsPartOfText text.now part }
+        ensures { OnOk result (declarations_of self.new ≡ with_part text.now (declarations_of self.old) part) }
+    {
         match part.kind {
             PartKind::Level(kind) => {
                 let mut names = Vec::new(alloc);
@@ -117,12 +132,17 @@ impl<'a> Declarations<'a> {
     }
 
     // Adds a `%prec`.
+    #[tactic(auto, unfolding(crate::specs::Declares::with_part))]
     fn take_prec(
         &mut self,
         alloc: Global,
         text: &'a str,
         part: TextPart,
-    ) -> Result<(), AllocError> {
+    ) -> Result<(), AllocError>
+        requires part { IsPartOfText text.now part }
+        requires kind { part.kind ≡ PartKind.Prec }
+        ensures { OnOk result (declarations_of self.new ≡ with_part text.now (declarations_of self.old) part) }
+    {
         let mut names = Vec::new(alloc);
         push_words(&mut names, text, part)?;
         if let Some(name) = names.first() {
@@ -140,7 +160,10 @@ fn push_words<'a>(
     words: &mut Vec<Word<'a>>,
     text: &'a str,
     part: TextPart,
-) -> Result<(), AllocError> {
+) -> Result<(), AllocError>
+    requires { IsPartOfText text.now part }
+    ensures { OnOk result (map placed words.new.items ≡ map placed words.old.items ++ names_of text.now part) }
+{
     let bytes = text.as_bytes();
     let mut place = part.body;
     while place < part.end {
@@ -156,7 +179,10 @@ fn push_words<'a>(
 }
 
 // The number of a part.
-fn number_in(text: &str, part: TextPart) -> Number {
+fn number_in(text: &str, part: TextPart) -> Number
+    requires { IsPartOfText text.now part }
+    ensures { number_as result ≡ number_in text.now part }
+{
     let digits = &text.as_bytes()[part.body..part.end];
     Number {
         number: number_of(digits).unwrap_or(0),
@@ -164,8 +190,10 @@ fn number_in(text: &str, part: TextPart) -> Number {
     }
 }
 
-/// The number with these digits. `None` if there is none, or if the number doesn't fit.
-pub fn number_of(digits: &[u8]) -> Option<usize> {
+// The number with these digits. `None` if there is none, or if the number doesn't fit.
+pub(crate) fn number_of(digits: &[u8]) -> Option<usize>
+    ensures { result ≡ number_of digits.now }
+{
     if digits.is_empty() {
         return None;
     }

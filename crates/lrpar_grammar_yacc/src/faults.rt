@@ -1,11 +1,19 @@
 //! The faults that a `.y` file shows before its grammar is read.
+ghost use Rattle.std.specs.Prelude.{[], ◌≡◌, All, IfErr, IfOk, OnOk, None, map, string_bytes};
+ghost use Rattle.std.specs.List.{flat_map};
+ghost use Rattle.lrpar_grammar_words.specs.Words.{placed};
+ghost use Rattle.lrpar_grammar_yacc.specs.declared.faults.YaccFault.TheVariants.{Memory};
+ghost use Rattle.lrpar_grammar_yacc.specs.Declares.{declarations, declarations_of, declared_by, level_of, prec_of};
+ghost use Rattle.lrpar_grammar_yacc.specs.Erasure.{IsPartOfText, erasure};
+ghost use Rattle.lrpar_grammar_yacc.specs.Faults.{IsFaultOf, bad_number, earlier, fault_by, first_fault, place_of, repeated_after, repeated_name, repeated_prec};
 
 use crate::declarations::{Declarations, Level, Prec, number_of};
 use crate::parts::{PartKind, YaccKind};
 use crate::text::{TextPart, TextParts};
 use lrpar_grammar_places::span::Span;
+use lrpar_grammar_words::words::Word;
 use std::alloc::{AllocError, AllocFailed, Global};
-use std::collections::BTreeSet;
+use std::collections::BTreeMap;
 use thiserror::Error;
 
 /// Why a `.y` file isn't read.
@@ -29,12 +37,16 @@ pub enum YaccFault {
 }
 
 impl From<AllocError> for YaccFault {
+    ghost from_gives = { λ _ fault. fault ≡ Memory };
+
     fn from(_: AllocError) -> YaccFault {
         YaccFault::Memory
     }
 }
 
 impl<T: Drop> From<AllocFailed<T>> for YaccFault {
+    ghost from_gives = { λ _ fault. fault ≡ Memory };
+
     fn from(_: AllocFailed<T>) -> YaccFault {
         YaccFault::Memory
     }
@@ -65,7 +77,12 @@ impl<'a> YaccText<'a> {
     /// read on, the rest of it stays as it is, and the reader of grammar texts finds the same place.
     ///
     /// Takes memory linear in the text, and time linear in it but for names with precedences: each is looked up in logarithmic time.
-    pub fn read(alloc: Global, kind: YaccKind, text: &'a str) -> Result<Self, YaccFault> {
+    pub fn read(alloc: Global, kind: YaccKind, text: &'a str) -> Result<Self, YaccFault>
+        ensures erased { IfOk result (λ y. string_bytes y.erased ≡ erasure kind text.now) }
+        ensures declared { IfOk result (λ y. declarations_of y.declarations ≡ declarations kind text.now) }
+        ensures sound { OnOk result (first_fault kind text.now ≡ None) }
+        ensures faulty { IfErr result (IsFaultOf kind text.now) }
+    {
         let parts = TextParts::read(alloc, kind, text)?;
         let declarations = Declarations::of_parts(alloc, text, &parts.parts)?;
         if let Some(fault) = first_fault(alloc, text, &parts, &declarations)? {
@@ -84,7 +101,10 @@ fn first_fault(
     text: &str,
     parts: &TextParts,
     declarations: &Declarations,
-) -> Result<Option<YaccFault>, AllocError> {
+) -> Result<Option<YaccFault>, AllocError>
+    requires { All (IsPartOfText text.now) parts.now.parts.items }
+    ensures { IfOk result (λ fault. fault ≡ fault_by text.now parts.now.parts.items (declarations_of declarations.now) parts.now.mid_action) }
+{
     let number = bad_number(text, &parts.parts).map(YaccFault::BadNumber);
     let name = repeated_name(alloc, &declarations.levels)?.map(YaccFault::RepeatedPrecedence);
     let prec = repeated_prec(&declarations.precs).map(YaccFault::RepeatedPrec);
@@ -93,7 +113,10 @@ fn first_fault(
 }
 
 // The first number that isn't one.
-fn bad_number(text: &str, parts: &[TextPart]) -> Option<Span> {
+fn bad_number(text: &str, parts: &[TextPart]) -> Option<Span>
+    requires { All (IsPartOfText text.now) parts.now }
+    ensures { result ≡ bad_number text.now parts.now }
+{
     let bytes = text.as_bytes();
     for part in parts {
         if matches!(part.kind, PartKind::Expect | PartKind::ExpectRr)
@@ -106,20 +129,41 @@ fn bad_number(text: &str, parts: &[TextPart]) -> Option<Span> {
 }
 
 // The first name that an earlier one equals.
-fn repeated_name(alloc: Global, levels: &[Level]) -> Result<Option<Span>, AllocError> {
-    let mut seen = BTreeSet::new(alloc);
+fn repeated_name(alloc: Global, levels: &[Level]) -> Result<Option<Span>, AllocError>
+    ensures { IfOk result (λ found. found ≡ repeated_name (map level_of levels.now)) }
+{
+    let names = level_names(alloc, levels)?;
+    repeated(alloc, &names)
+}
+
+// The names of all levels.
+fn level_names<'a>(alloc: Global, levels: &[Level<'a>]) -> Result<Vec<Word<'a>>, AllocError>
+    ensures { IfOk result (λ names. map placed names.items ≡ flat_map (λ x. x.names) (map level_of levels.now)) }
+{
+    let mut names = Vec::new(alloc);
     for level in levels {
-        for name in &level.names {
-            if !seen.insert(name.name)? {
-                return Ok(Some(name.span()));
-            }
+        names.extend_from_slice(&level.names)?;
+    }
+    Ok(names)
+}
+
+// The first word whose name an earlier one has.
+fn repeated(alloc: Global, words: &[Word]) -> Result<Option<Span>, AllocError>
+    ensures { IfOk result (λ found. found ≡ repeated_after [] (map placed words.now)) }
+{
+    let mut seen = BTreeMap::new(alloc);
+    for word in words {
+        if seen.insert(word.name, ())?.is_some() {
+            return Ok(Some(word.span()));
         }
     }
     Ok(None)
 }
 
 // The first `%prec` after another one of the same production.
-fn repeated_prec(precs: &[Prec]) -> Option<Span> {
+fn repeated_prec(precs: &[Prec]) -> Option<Span>
+    ensures { result ≡ repeated_prec None (map prec_of precs.now) }
+{
     for pair in precs.windows(2) {
         if let [before, prec] = pair {
             if before.prod == prec.prod {
@@ -131,7 +175,9 @@ fn repeated_prec(precs: &[Prec]) -> Option<Span> {
 }
 
 // The one with the smaller place.
-fn earlier(a: Option<YaccFault>, b: Option<YaccFault>) -> Option<YaccFault> {
+fn earlier(a: Option<YaccFault>, b: Option<YaccFault>) -> Option<YaccFault>
+    ensures { result ≡ earlier a b }
+{
     match (a, b) {
         (Some(a), Some(b)) => Some(if b.place() < a.place() { b } else { a }),
         (Some(a), None) => Some(a),
@@ -141,7 +187,9 @@ fn earlier(a: Option<YaccFault>, b: Option<YaccFault>) -> Option<YaccFault> {
 
 impl YaccFault {
     // The place of the fault.
-    fn place(&self) -> usize {
+    fn place(&self) -> usize
+        ensures { result ≡ place_of self.now }
+    {
         match self {
             YaccFault::RepeatedPrec(span)
             | YaccFault::RepeatedPrecedence(span)

@@ -1,4 +1,8 @@
 //! The parts of a `.y` file that a grammar text doesn't have.
+ghost use Rattle.std.specs.Prelude.{◌≡◌, ◌<◌, ◌≤◌, ◌+◌, ◌-◌, IfSome, length, slice_index};
+ghost use Rattle.std.specs.List.{prefix_len};
+ghost use Rattle.lrpar_grammar_words.specs.Words.{is_digit};
+ghost use Rattle.lrpar_grammar_yacc.specs.Parts.{EndsAtAscii, IsPartWithin, blanks_len, braces_len, declaration_at, header_part, is_name, is_original, line_part, names_len, names_part, number_part, other_declaration_at, part_at, prec_part, programs_at, symbol_at, type_at};
 
 use crate::code::{Run, line_len, run_len};
 use lrpar_grammar_words::word_order::Expected;
@@ -69,7 +73,11 @@ pub struct Part {
 
 /// The part that the rest of a text begins with, where words as `expected` are allowed: `None` if there is none. A part whose
 /// code isn't closed is none, and neither is a `%prec` without a name.
-pub fn part_at(kind: YaccKind, expected: Expected, rest: &[u8]) -> Option<Part> {
+#[tactic(auto, unfolding(crate::specs::Parts::part_at))]
+pub fn part_at(kind: YaccKind, expected: Expected, rest: &[u8]) -> Option<Part>
+    ensures part { result ≡ part_at kind expected rest.now }
+    ensures within { IfSome result (IsPartWithin rest.now) }
+{
     match expected {
         Expected::Declaration | Expected::MoreTokens => declaration_at(kind, rest),
         Expected::RuleColon => type_at(kind, rest),
@@ -80,7 +88,11 @@ pub fn part_at(kind: YaccKind, expected: Expected, rest: &[u8]) -> Option<Part> 
 }
 
 // A declaration.
-fn declaration_at(kind: YaccKind, rest: &[u8]) -> Option<Part> {
+#[tactic(auto, unfolding(crate::specs::Parts::declaration_at))]
+fn declaration_at(kind: YaccKind, rest: &[u8]) -> Option<Part>
+    ensures part { result ≡ declaration_at kind rest.now }
+    ensures within { IfSome result (IsPartWithin rest.now) }
+{
     if rest.starts_with(b"%left") {
         Some(names_part(PartKind::Level(AssocKind::Left), 5, rest))
     } else if rest.starts_with(b"%right") {
@@ -97,14 +109,18 @@ fn declaration_at(kind: YaccKind, rest: &[u8]) -> Option<Part> {
 }
 
 // A declaration without a list of names.
-fn other_declaration_at(kind: YaccKind, rest: &[u8]) -> Option<Part> {
+#[tactic(auto, unfolding(crate::specs::Parts::other_declaration_at))]
+fn other_declaration_at(kind: YaccKind, rest: &[u8]) -> Option<Part>
+    ensures part { result ≡ other_declaration_at kind rest.now }
+    ensures within { IfSome result (IsPartWithin rest.now) }
+{
     if rest.starts_with(b"%expect-rr") {
         Some(number_part(PartKind::ExpectRr, 10, rest))
     } else if rest.starts_with(b"%expect") {
         Some(number_part(PartKind::Expect, 7, rest))
     } else if rest.starts_with(b"%parse-param") {
         Some(line_part(PartKind::ParseParam, 12, rest))
-    } else if rest.starts_with(b"%actiontype") && matches!(kind, YaccKind::Original) {
+    } else if rest.starts_with(b"%actiontype") && is_original(kind) {
         Some(line_part(PartKind::ActionType, 11, rest))
     } else if rest.starts_with(b"%grmtools") {
         header_part(rest)
@@ -114,9 +130,13 @@ fn other_declaration_at(kind: YaccKind, rest: &[u8]) -> Option<Part> {
 }
 
 // The type of a rule.
-fn type_at(kind: YaccKind, rest: &[u8]) -> Option<Part> {
-    if rest.starts_with(b"->") && matches!(kind, YaccKind::Grmtools) {
-        let len = 2 + run_len(Run::Type, &rest[2..])?;
+#[tactic(auto, unfolding(crate::specs::Parts::type_at))]
+fn type_at(kind: YaccKind, rest: &[u8]) -> Option<Part>
+    ensures part { result ≡ type_at kind rest.now }
+    ensures within { IfSome result (IsPartWithin rest.now) }
+{
+    if rest.starts_with(b"->") && !is_original(kind) {
+        let len = 2 + run_len(Run::Typed, &rest[2..])?;
         Some(Part {
             kind: PartKind::RuleType,
             head: 2,
@@ -128,7 +148,11 @@ fn type_at(kind: YaccKind, rest: &[u8]) -> Option<Part> {
 }
 
 // What an alternative may have beside its symbols.
-fn symbol_at(rest: &[u8]) -> Option<Part> {
+#[tactic(auto, unfolding(crate::specs::Parts::symbol_at))]
+fn symbol_at(rest: &[u8]) -> Option<Part>
+    ensures part { result ≡ symbol_at rest.now }
+    ensures within { IfSome result (IsPartWithin rest.now) }
+{
     if rest.starts_with(b"{") {
         let len = braces_len(rest)?;
         Some(Part {
@@ -150,7 +174,10 @@ fn symbol_at(rest: &[u8]) -> Option<Part> {
 }
 
 // All that is left.
-fn programs_at(rest: &[u8]) -> Option<Part> {
+fn programs_at(rest: &[u8]) -> Option<Part>
+    ensures part { result ≡ programs_at rest.now }
+    ensures within { IfSome result (IsPartWithin rest.now) }
+{
     if rest.is_empty() {
         None
     } else {
@@ -163,7 +190,13 @@ fn programs_at(rest: &[u8]) -> Option<Part> {
 }
 
 // A sign of that length, and names.
-fn names_part(kind: PartKind, sign: usize, rest: &[u8]) -> Part {
+fn names_part(kind: PartKind, sign: usize, rest: &[u8]) -> Part
+    requires within { sign ≤ length rest.now }
+    requires some { 0 < sign }
+    requires ascii { slice_index rest.now (sign - 1) < 128 }
+    ensures part { result ≡ names_part kind sign rest.now }
+    ensures within { IsPartWithin rest.now result }
+{
     Part {
         kind,
         head: sign,
@@ -172,7 +205,13 @@ fn names_part(kind: PartKind, sign: usize, rest: &[u8]) -> Part {
 }
 
 // A sign of that length, blanks, and digits.
-fn number_part(kind: PartKind, sign: usize, rest: &[u8]) -> Part {
+fn number_part(kind: PartKind, sign: usize, rest: &[u8]) -> Part
+    requires within { sign ≤ length rest.now }
+    requires some { 0 < sign }
+    requires ascii { slice_index rest.now (sign - 1) < 128 }
+    ensures part { result ≡ number_part kind sign rest.now }
+    ensures within { IsPartWithin rest.now result }
+{
     let head = sign + blanks_len(&rest[sign..]);
     Part {
         kind,
@@ -182,7 +221,12 @@ fn number_part(kind: PartKind, sign: usize, rest: &[u8]) -> Part {
 }
 
 // A sign of that length, and the rest of the line.
-fn line_part(kind: PartKind, sign: usize, rest: &[u8]) -> Part {
+fn line_part(kind: PartKind, sign: usize, rest: &[u8]) -> Part
+    requires within { sign ≤ length rest.now }
+    requires some { 0 < sign }
+    ensures part { result ≡ line_part kind sign rest.now }
+    ensures within { IsPartWithin rest.now result }
+{
     Part {
         kind,
         head: sign,
@@ -191,7 +235,11 @@ fn line_part(kind: PartKind, sign: usize, rest: &[u8]) -> Part {
 }
 
 // `%grmtools`, blanks, and braces.
-fn header_part(rest: &[u8]) -> Option<Part> {
+fn header_part(rest: &[u8]) -> Option<Part>
+    requires { 9 ≤ length rest.now }
+    ensures part { result ≡ header_part rest.now }
+    ensures within { IfSome result (IsPartWithin rest.now) }
+{
     let head = 9 + blanks_len(&rest[9..]);
     let len = head + braces_len(&rest[head..])?;
     Some(Part {
@@ -202,7 +250,11 @@ fn header_part(rest: &[u8]) -> Option<Part> {
 }
 
 // `%prec`, blanks, and a name.
-fn prec_part(rest: &[u8]) -> Option<Part> {
+fn prec_part(rest: &[u8]) -> Option<Part>
+    requires { 5 ≤ length rest.now }
+    ensures part { result ≡ prec_part rest.now }
+    ensures within { IfSome result (IsPartWithin rest.now) }
+{
     let head = 5 + blanks_len(&rest[5..]);
     let name = piece_at(&rest[head..])?;
     if is_name(name.word) {
@@ -217,20 +269,37 @@ fn prec_part(rest: &[u8]) -> Option<Part> {
 }
 
 // The length of a `{` and what follows it up to its `}`.
-fn braces_len(rest: &[u8]) -> Option<usize> {
+fn braces_len(rest: &[u8]) -> Option<usize>
+    ensures len { result ≡ braces_len rest.now }
+    ensures within { IfSome result (λ len. (2 ≤ len) × (len ≤ length rest.now)) }
+    ensures ascii { IfSome result (λ len. slice_index rest.now (len - 1) < 128) }
+{
     match rest {
-        [b'{', code @ ..] => Some(2 + run_len(Run::Braces, code)?),
+        [b'{', code @ ..] => Some(2 + run_len(Run::Braced, code)?),
         _ => None,
     }
 }
 
+// The files that name one type for all rules.
+fn is_original(kind: YaccKind) -> bool
+    ensures { result ≡ is_original kind }
+{
+    matches!(kind, YaccKind::Original)
+}
+
 // A name or a quoted word.
-fn is_name(word: Option<WordKind>) -> bool {
+fn is_name(word: Option<WordKind>) -> bool
+    ensures { result ≡ is_name word }
+{
     matches!(word, Some(WordKind::Name | WordKind::Quoted))
 }
 
 // The number of bytes of blanks at the start of the text.
-fn blanks_len(text: &[u8]) -> usize {
+fn blanks_len(text: &[u8]) -> usize
+    ensures len { result ≡ blanks_len text.now }
+    ensures within { result ≤ length text.now }
+    ensures end { 0 < result → EndsAtAscii text.now result }
+{
     let mut place = 0;
     while let Some(piece) = piece_at(&text[place..]) {
         if piece.word.is_some() {
@@ -242,7 +311,11 @@ fn blanks_len(text: &[u8]) -> usize {
 }
 
 // The number of bytes up to the end of the last of the names that the text begins with, with blanks before each.
-fn names_len(text: &[u8]) -> usize {
+fn names_len(text: &[u8]) -> usize
+    ensures len { result ≡ names_len text.now }
+    ensures within { result ≤ length text.now }
+    ensures ascii { 0 < result → slice_index text.now (result - 1) < 128 }
+{
     let mut end = 0;
     let mut place = 0;
     while let Some(piece) = piece_at(&text[place..]) {
@@ -257,7 +330,11 @@ fn names_len(text: &[u8]) -> usize {
 }
 
 // The number of digits at the start of the text.
-fn digits_len(text: &[u8]) -> usize {
+fn digits_len(text: &[u8]) -> usize
+    ensures len { result ≡ prefix_len is_digit text.now }
+    ensures within { result ≤ length text.now }
+    ensures ascii { 0 < result → slice_index text.now (result - 1) < 128 }
+{
     for (i, byte) in text.iter().enumerate() {
         if !byte.is_ascii_digit() {
             return i;

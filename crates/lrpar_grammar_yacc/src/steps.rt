@@ -1,4 +1,9 @@
 //! The steps by which a `.y` file is read: blanks, words and parts, as far as each is allowed at its place.
+ghost use Rattle.std.specs.Prelude.{◌≡◌, IfSome};
+ghost use Rattle.std.specs.Option.{option_and_then};
+ghost use Rattle.lrpar_grammar_words.specs.Words.{piece_at};
+ghost use Rattle.lrpar_grammar_yacc.specs.Parts.{IsPartWithin};
+ghost use Rattle.lrpar_grammar_yacc.specs.Steps.{IsStepWithin, after_part, part_step, piece_step, step_at, word_kind, word_step};
 
 use crate::parts::{Part, PartKind, YaccKind, part_at};
 use lrpar_grammar_words::word_order::{Expected, Role};
@@ -32,7 +37,11 @@ pub struct Step {
 
 /// The step at the start of the rest of a text, where words as `expected` are allowed: the blanks or the word there or, if there is
 /// none that is allowed, the part. `None` at the end, and where nothing that is allowed begins.
-pub fn step_at(kind: YaccKind, expected: Expected, rest: &[u8]) -> Option<Step> {
+#[tactic(auto, unfolding(crate::specs::Steps::step_at))]
+pub fn step_at(kind: YaccKind, expected: Expected, rest: &[u8]) -> Option<Step>
+    ensures step { result ≡ step_at kind expected rest.now }
+    ensures within { IfSome result (IsStepWithin rest.now) }
+{
     match piece_step(expected, rest) {
         Some(step) => Some(step),
         None => Some(part_step(expected, part_at(kind, expected, rest)?)),
@@ -40,7 +49,10 @@ pub fn step_at(kind: YaccKind, expected: Expected, rest: &[u8]) -> Option<Step> 
 }
 
 // The step over blanks, or over a word if it is allowed.
-fn piece_step(expected: Expected, rest: &[u8]) -> Option<Step> {
+fn piece_step(expected: Expected, rest: &[u8]) -> Option<Step>
+    ensures step { result ≡ option_and_then (λ x. piece_step expected x.len x.word) (piece_at rest.now) }
+    ensures within { IfSome result (IsStepWithin rest.now) }
+{
     let piece = piece_at(rest)?;
     match piece.word {
         None => Some(word_step(StepKind::Blank, piece.len, expected)),
@@ -52,7 +64,9 @@ fn piece_step(expected: Expected, rest: &[u8]) -> Option<Step> {
 }
 
 // A step of that length over a word or blanks.
-fn word_step(kind: StepKind, len: usize, next: Expected) -> Step {
+fn word_step(kind: StepKind, len: usize, next: Expected) -> Step
+    ensures { result ≡ word_step kind len next }
+{
     Step {
         kind,
         head: 0,
@@ -62,7 +76,9 @@ fn word_step(kind: StepKind, len: usize, next: Expected) -> Step {
 }
 
 // What a word of that role is to a step.
-fn word_kind(role: Role) -> StepKind {
+fn word_kind(role: Role) -> StepKind
+    ensures { result ≡ word_kind role }
+{
     match role {
         Role::AlternativeEnd => StepKind::End,
         _ => StepKind::Word,
@@ -70,7 +86,9 @@ fn word_kind(role: Role) -> StepKind {
 }
 
 // The step over a part.
-fn part_step(expected: Expected, part: Part) -> Step {
+fn part_step(expected: Expected, part: Part) -> Step
+    ensures { result ≡ part_step expected part }
+{
     Step {
         kind: StepKind::Part(part.kind),
         head: part.head,
@@ -80,7 +98,9 @@ fn part_step(expected: Expected, part: Part) -> Step {
 }
 
 // What is allowed after a part.
-fn after_part(expected: Expected) -> Expected {
+fn after_part(expected: Expected) -> Expected
+    ensures { result ≡ after_part expected }
+{
     match expected {
         Expected::MoreTokens => Expected::Declaration,
         _ => expected,

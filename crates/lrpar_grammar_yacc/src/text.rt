@@ -1,4 +1,7 @@
 //! The parts of a `.y` file, and its erasure.
+ghost use Rattle.std.specs.Prelude.{◌≡◌, ◌<◌, ◌≤◌, ◌+◌, ◌^◌, ◌++◌, IfOk, OnOk, string_bytes};
+ghost use Rattle.lrpar_grammar_yacc.specs.Erasure.{AreApart, blanks, erased_from};
+ghost use Rattle.lrpar_grammar_yacc.specs.Steps.{action_after, ends, mid_action, mid_before, part_of, parts_of};
 
 use crate::parts::{PartKind, YaccKind};
 use crate::steps::{Step, StepKind, step_at};
@@ -41,8 +44,12 @@ impl Drop for TextParts {
 }
 
 impl TextParts {
-    /// The parts of the text, as far as it can be read. Takes time linear in the text, and memory linear in the number of parts.
-    pub fn read(alloc: Global, kind: YaccKind, text: &str) -> Result<Self, AllocError> {
+    // The parts of the text, as far as it can be read. Takes time linear in the text, and memory linear in the number of parts.
+    pub(crate) fn read(alloc: Global, kind: YaccKind, text: &str) -> Result<Self, AllocError>
+        ensures parts { IfOk result (λ x. x.parts.items ≡ parts_of kind text.now) }
+        ensures mid { IfOk result (λ x. x.mid_action ≡ mid_action kind text.now) }
+        ensures apart { IfOk result (λ x. AreApart text.now 0 x.parts.items) }
+    {
         let bytes = text.as_bytes();
         let mut parts = Vec::new(alloc);
         let mut last = None;
@@ -61,9 +68,11 @@ impl TextParts {
         Ok(TextParts { parts, mid_action })
     }
 
-    /// The text, with blanks in place of its parts: each byte of a part but LF becomes a space, so that places and lines stay. The
-    /// parts must be those of the text.
-    pub fn erase(&self, alloc: Global, text: &str) -> Result<String, AllocError> {
+    // The text, with blanks in place of its parts: each byte of a part but LF becomes a space, so that places and lines stay.
+    pub(crate) fn erase(&self, alloc: Global, text: &str) -> Result<String, AllocError>
+        requires { AreApart text.now 0 self.now.parts.items }
+        ensures { IfOk result (λ s. string_bytes s ≡ erased_from text.now 0 self.now.parts.items) }
+    {
         let mut erased = String::with_capacity(alloc, text.len())?;
         let mut place = 0;
         for part in &self.parts {
@@ -82,7 +91,10 @@ fn push_part(
     place: usize,
     prod: usize,
     step: Step,
-) -> Result<(), AllocError> {
+) -> Result<(), AllocError>
+    requires { (place + step.head < 2 ^ 63) × (place + step.len < 2 ^ 63) }
+    ensures { OnOk result (parts.new.items ≡ parts.old.items ++ part_of place prod step step.kind) }
+{
     if let StepKind::Part(kind) = step.kind {
         parts.push(TextPart {
             kind,
@@ -96,7 +108,10 @@ fn push_part(
 }
 
 // How many alternatives a step ends.
-fn ends(kind: StepKind) -> usize {
+fn ends(kind: StepKind) -> usize
+    ensures ends { result ≡ ends kind }
+    ensures few { result ≤ 1 }
+{
     match kind {
         StepKind::End => 1,
         _ => 0,
@@ -104,7 +119,9 @@ fn ends(kind: StepKind) -> usize {
 }
 
 // Appends blanks for the text: an LF for each LF, and a space for each other byte.
-fn push_blanks(erased: &mut String, text: &str) -> Result<(), AllocError> {
+fn push_blanks(erased: &mut String, text: &str) -> Result<(), AllocError>
+    ensures { OnOk result (string_bytes erased.new ≡ string_bytes erased.old ++ blanks text.now) }
+{
     for byte in text.as_bytes() {
         erased.push(if *byte == b'\n' { '\n' } else { ' ' })?;
     }
@@ -112,7 +129,10 @@ fn push_blanks(erased: &mut String, text: &str) -> Result<(), AllocError> {
 }
 
 // The action right before what comes after a step at that place, with only blanks between. `last`: that before the step.
-fn action_after(place: usize, len: usize, kind: StepKind, last: &Option<Span>) -> Option<Span> {
+fn action_after(place: usize, len: usize, kind: StepKind, last: &Option<Span>) -> Option<Span>
+    requires { place + len < 2 ^ 63 }
+    ensures { result ≡ action_after place len kind last.now }
+{
     match kind {
         StepKind::Blank => *last,
         StepKind::Part(PartKind::Action) => Some(Span::new(place, place + len)),
@@ -121,7 +141,9 @@ fn action_after(place: usize, len: usize, kind: StepKind, last: &Option<Span>) -
 }
 
 // The action before a step of that kind, if the step shows that it isn't the last of its alternative.
-fn mid_before(kind: StepKind, last: &Option<Span>) -> Option<Span> {
+fn mid_before(kind: StepKind, last: &Option<Span>) -> Option<Span>
+    ensures { result ≡ mid_before kind last.now }
+{
     match kind {
         StepKind::Blank | StepKind::End => None,
         _ => *last,
