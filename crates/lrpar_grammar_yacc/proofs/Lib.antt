@@ -1,1 +1,4 @@
 pub mod CodeLemmas
+pub mod EndLemmas
+pub mod PartLemmas
+pub mod StepLemmas
