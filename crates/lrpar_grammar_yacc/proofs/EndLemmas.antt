@@ -4,7 +4,7 @@ use Rattle.std.specs.List.{All, starts_with}
 use Rattle.std.specs.Str.{IsCharBoundary, IsUtf8}
 use Rattle.std.proofs.lemmas.Bool.{cases_lt}
 use Rattle.std.proofs.lemmas.Bool.Decides.{nat_tests}
-use Rattle.std.proofs.lemmas.List.{get_or-append_right, get_or-drop, get_or-take, get_or_default, take_more}
+use Rattle.std.proofs.lemmas.List.{get_or-append_right, get_or-drop, get_or-take, get_or_past, take_more}
 use Rattle.std.proofs.lemmas.List.Elements.{All-push}
 use Rattle.std.proofs.lemmas.Slice.Eq.{bytes_eq-Decides}
 use Rattle.std.proofs.lemmas.Str.{IsCharBoundary-after_ascii, IsCharBoundary-before_ascii, IsCharBoundary-end}
@@ -80,7 +80,7 @@ line_ends s n within line longest =
   where
     longer : 128 ≤ get_or s n 0 → ⊥
     longer high =
-        let inside : n < length s = elim (cases_lt n (length s)) [ inl lt ↦ lt | inr past ↦ absurd (omega (arith, get_or_default s n 0 past)) ] in
+        let inside : n < length s = elim (cases_lt n (length s)) [ inl lt ↦ lt | inr past ↦ absurd (omega (arith, get_or_past s n 0 past)) ] in
         let other : get_or s n 0 ≢ 10 = λ is. omega arith in
         let more : IsLineComment (take (n + 1) s) =
         record {

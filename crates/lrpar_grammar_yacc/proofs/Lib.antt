@@ -2,3 +2,6 @@ pub mod CodeLemmas
 pub mod EndLemmas
 pub mod PartLemmas
 pub mod StepLemmas
+pub mod DeclareLemmas
+pub mod OwnLemmas
+pub mod FaultLemmas

@@ -1,10 +1,11 @@
 -- Runs of blanks and of names, piece by piece.
-use Rattle.std.proofs.Common.{inl, inr, ◌≡◌, ◌<◌, ◌≤◌, ◌+◌, ◌-◌, ℕ, true, false, cond, zero, suc, List, [], ◌∷◌, length, length-drop, drop, Option, Some, None, refl, ap, sym, ◌∙◌, arith}
-use Rattle.std.specs.Option.{is_none, option_map_or}
+use Rattle.std.proofs.Common.{inl, inr, ◌≡◌, ◌<◌, ◌≤◌, ◌+◌, ◌-◌, ℕ, true, false, cond, zero, suc, List, [], ◌∷◌, length, length-drop, drop, get_or, Option, Some, None, refl, ap, sym, ◌∙◌, arith}
+use Rattle.std.specs.Option.{IfSome, is_none, is_some, option_map_or}
 use Rattle.std.proofs.lemmas.List.{at_drop_more, drop-drop, drop_more}
 use Rattle.std.proofs.lemmas.Bool.{cases_lt}
 use Rattle.lrpar_grammar_words.specs.declared.words.Piece.{Piece}
-use Rattle.lrpar_grammar_words.specs.Words.{piece_at}
+use Rattle.lrpar_grammar_words.specs.declared.words.WordKind.{WordKind}
+use Rattle.lrpar_grammar_words.specs.Words.{IsWordPiece, piece_at}
 use Rattle.lrpar_grammar_yacc.specs.Parts.{blanks_from, is_name, names_from}
 
 -- no piece begins at the end
@@ -127,3 +128,13 @@ names_none s last place is =
     at_end : (t : List ℕ) → length t ≡ 0 → names_from last place 0 t ≡ last
     at_end [] none = refl
     at_end (c ∷ t) none = absurd (omega arith)
+
+-- the last byte of a name
+pub name_last : (word : Option WordKind) (s : List ℕ) (len : ℕ) → is_name word ≡ true → IfSome word (IsWordPiece s len) → get_or s (len - 1) 0 < 128
+name_last None s len name ascii = absurd (cc)
+name_last (Some kind) s len name ascii = ascii.last
+
+-- no word
+pub no_word : (word : Option WordKind) → is_some word ≡ false → ◌≡◌ {A = Option WordKind} word None
+no_word None none = refl
+no_word (Some kind) none = absurd (cc)

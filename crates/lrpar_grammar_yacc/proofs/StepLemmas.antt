@@ -1,16 +1,18 @@
 -- The steps of a text, one after another.
-use Rattle.std.proofs.Common.{inl, inr, ◌≡◌, ◌<◌, ◌≤◌, ◌+◌, ◌-◌, ◌++◌, ℕ, zero, suc, List, [], ◌∷◌, length, length-drop, drop, Option, Some, None, refl, ap, sym, ◌∙◌, arith}
+use Rattle.std.proofs.Common.{inl, inr, ◌≡◌, ◌<◌, ◌≤◌, ◌+◌, ◌-◌, ◌++◌, ℕ, zero, suc, List, [], ◌∷◌, length, length-drop, drop, Option, Some, None, refl, ap, sym, subst, ◌∙◌, arith}
 use Rattle.std.specs.Option.{option_map_or, option_or}
 use Rattle.std.specs.Str.{IsCharBoundary}
 use Rattle.std.proofs.lemmas.Bool.{cases_lt}
-use Rattle.std.proofs.lemmas.List.{append-assoc, at_drop_more, drop-drop, drop_more}
+use Rattle.std.proofs.lemmas.List.{append-nil, at_drop_more, drop-drop, drop_more}
 use Rattle.lrpar_grammar_places.specs.Span.{Extent}
 use Rattle.lrpar_grammar_words.specs.declared.word_order.Expected.{Expected}
 use Rattle.lrpar_grammar_yacc.specs.declared.parts.YaccKind.{YaccKind}
 use Rattle.lrpar_grammar_yacc.specs.declared.steps.Step.{Step}
+use Rattle.lrpar_grammar_yacc.specs.declared.steps.StepKind.{StepKind}
+use Rattle.lrpar_grammar_yacc.specs.declared.steps.StepKind.TheVariants.{Blank, Word, End, Part}
 use Rattle.lrpar_grammar_yacc.specs.declared.text.TextPart.{TextPart}
 use Rattle.lrpar_grammar_yacc.specs.Erasure.{AreApart, IsPartOfText}
-use Rattle.lrpar_grammar_yacc.specs.Steps.{step_at, steps_from}
+use Rattle.lrpar_grammar_yacc.specs.Steps.{part_of, step_at, steps_from}
 
 -- the bytes of a step that begins earlier
 steps_skip : (s : List ℕ) (kind : YaccKind) (e : Expected) (k : ℕ) → k ≤ length s → steps_from kind e k s ≡ steps_from kind e 0 (drop k s)
@@ -69,3 +71,22 @@ apart_push text (y ∷ xs) place x apart after is = (apart.0, apart.1, apart.2, 
 pub end_push : (xs : List TextPart) (place : ℕ) (x : TextPart) → end_after place (xs ++ x ∷ []) ≡ x.end
 end_push [] place x = refl
 end_push (y ∷ xs) place x = end_push xs y.end x
+
+-- no more part
+same_parts : (text : List ℕ) (xs : List TextPart) (place len : ℕ) → AreApart text 0 xs → end_after 0 xs ≤ place
+    → AreApart text 0 (xs ++ []) × (end_after 0 (xs ++ []) ≤ place + len)
+same_parts text xs place len apart after =
+    let same : xs ++ [] ≡ xs = append-nil xs in
+    (subst (AreApart text 0) (sym same) apart, omega (arith, after, ap (end_after 0) same))
+
+-- the parts, with that of one more step, if it is over a part
+pub apart_step : (text : List ℕ) (xs : List TextPart) (place prod : ℕ) (x : Step) (kind : StepKind) → AreApart text 0 xs → end_after 0 xs ≤ place
+    → IsCharBoundary text place → IsCharBoundary text (place + x.len) → x.head ≤ x.len
+    → AreApart text 0 (xs ++ part_of place prod x kind) × (end_after 0 (xs ++ part_of place prod x kind) ≤ place + x.len)
+apart_step text xs place prod x (Part kind) apart after start end head =
+    let part : TextPart = record { kind = kind; start = place; body = place + x.head; end = place + x.len; prod = prod } in
+    let is : IsPartOfText text part = record { body = omega arith; end = omega arith; starts = start; ends = end } in
+    (apart_push text xs 0 part apart after is, omega (arith, end_push xs 0 part))
+apart_step text xs place prod x Blank apart after start end head = same_parts text xs place x.len apart after
+apart_step text xs place prod x Word apart after start end head = same_parts text xs place x.len apart after
+apart_step text xs place prod x End apart after start end head = same_parts text xs place x.len apart after

@@ -5,9 +5,13 @@ use Rattle.lrpar_grammar_yacc.specs.declared.parts.YaccKind.{YaccKind}
 use Rattle.lrpar_grammar_yacc.specs.declared.text.TextPart.{TextPart}
 use Rattle.lrpar_grammar_yacc.specs.Steps.{parts_of}
 
--- a space for each byte but LF
+-- LF for LF, and a space for any other byte
+abbrev pub blank_for : ℕ → ℕ
+blank_for c = if c == 10 then 10 else 32
+
+-- blanks in place of each byte
 abbrev pub blanks : List ℕ → List ℕ
-blanks s = map (λ c. if c == 10 then 10 else 32) s
+blanks s = map blank_for s
 
 -- the text from that place on: what comes before the first of these parts, blanks for it, and so on after it
 abbrev pub erased_from : List ℕ → ℕ → List TextPart → List ℕ

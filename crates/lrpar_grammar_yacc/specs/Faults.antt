@@ -19,10 +19,13 @@ has_number Expect = true
 has_number ExpectRr = true
 has_number _ = false
 
+-- a part with a number that isn't one
+abbrev pub has_bad_number : List ℕ → TextPart → Bool
+has_bad_number text x = has_number x.kind && is_none (number_of (digits_of text x))
+
 -- the digits of the first part whose number isn't one
 abbrev pub bad_number : List ℕ → List TextPart → Option Extent
-bad_number text parts =
-    option_map (λ x. record { start = x.body; end = x.end }) (find (λ x. has_number x.kind && is_none (number_of (digits_of text x))) parts)
+bad_number text parts = option_map (λ (x : TextPart). record { start = x.body; end = x.end }) (find (has_bad_number text) parts)
 
 -- the first name that is among the earlier ones, or in the list before
 abbrev pub repeated_after : List (List ℕ) → List PlacedWord → Option Extent
@@ -33,11 +36,15 @@ repeated_after before (w ∷ ws) = if list_any (bytes_eq w.name) before then Som
 abbrev pub repeated_name : List TextLevel → Option Extent
 repeated_name levels = repeated_after [] (flat_map (λ x. x.names) levels)
 
--- The first `%prec` right after another one of the same production. `prod`: the production of the one before.
+-- the production before is this one
+abbrev pub is_same : Option ℕ → ℕ → Bool
+is_same None prod = false
+is_same (Some before) prod = before == prod
+
+-- The first `%prec` right after another one of the same production. `before`: the production of the one before.
 abbrev pub repeated_prec : Option ℕ → List TextPrec → Option Extent
-repeated_prec prod [] = None
-repeated_prec None (x ∷ xs) = repeated_prec (Some x.prod) xs
-repeated_prec (Some prod) (x ∷ xs) = if prod == x.prod then Some x.name.span else repeated_prec (Some x.prod) xs
+repeated_prec before [] = None
+repeated_prec before (x ∷ xs) = if is_same before x.prod then Some x.name.span else repeated_prec (Some x.prod) xs
 
 -- the place of a fault
 abbrev pub place_of : YaccFault → ℕ

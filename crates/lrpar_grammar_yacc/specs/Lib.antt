@@ -4,3 +4,4 @@ pub mod Steps
 pub mod Erasure
 pub mod Declares
 pub mod Faults
+pub mod Laws

@@ -1,11 +1,11 @@
 //! The faults that a `.y` file shows before its grammar is read.
-ghost use Rattle.std.specs.Prelude.{[], ◌≡◌, All, IfErr, IfOk, OnOk, None, map, string_bytes};
+ghost use Rattle.std.specs.Prelude.{[], ◌≡◌, ◌++◌, All, IfErr, IfOk, OnOk, None, map, string_bytes};
 ghost use Rattle.std.specs.List.{flat_map};
 ghost use Rattle.lrpar_grammar_words.specs.Words.{placed};
 ghost use Rattle.lrpar_grammar_yacc.specs.declared.faults.YaccFault.TheVariants.{Memory};
 ghost use Rattle.lrpar_grammar_yacc.specs.Declares.{declarations, declarations_of, declared_by, level_of, prec_of};
 ghost use Rattle.lrpar_grammar_yacc.specs.Erasure.{IsPartOfText, erasure};
-ghost use Rattle.lrpar_grammar_yacc.specs.Faults.{IsFaultOf, bad_number, earlier, fault_by, first_fault, place_of, repeated_after, repeated_name, repeated_prec};
+ghost use Rattle.lrpar_grammar_yacc.specs.Faults.{IsFaultOf, bad_number, earlier, fault_by, first_fault, has_bad_number, has_number, is_same, place_of, repeated_after, repeated_name, repeated_prec};
 
 use crate::declarations::{Declarations, Level, Prec, number_of};
 use crate::parts::{PartKind, YaccKind};
@@ -117,15 +117,28 @@ fn bad_number(text: &str, parts: &[TextPart]) -> Option<Span>
     requires { All (IsPartOfText text.now) parts.now }
     ensures { result ≡ bad_number text.now parts.now }
 {
-    let bytes = text.as_bytes();
     for part in parts {
-        if matches!(part.kind, PartKind::Expect | PartKind::ExpectRr)
-            && number_of(&bytes[part.body..part.end]).is_none()
-        {
+        if has_bad_number(text, *part) {
             return Some(Span::new(part.body, part.end));
         }
     }
     None
+}
+
+// Whether the part has a number that isn't one.
+fn has_bad_number(text: &str, part: TextPart) -> bool
+    requires { IsPartOfText text.now part }
+    ensures { result ≡ has_bad_number text.now part }
+{
+    let digits = &text.as_bytes()[part.body..part.end];
+    has_number(part.kind) && number_of(digits).is_none()
+}
+
+// The parts with a number.
+fn has_number(kind: PartKind) -> bool
+    ensures { result ≡ has_number kind }
+{
+    matches!(kind, PartKind::Expect | PartKind::ExpectRr)
 }
 
 // The first name that an earlier one equals.
@@ -142,9 +155,19 @@ fn level_names<'a>(alloc: Global, levels: &[Level<'a>]) -> Result<Vec<Word<'a>>,
 {
     let mut names = Vec::new(alloc);
     for level in levels {
-        names.extend_from_slice(&level.names)?;
+        push_all(&mut names, &level.names)?;
     }
     Ok(names)
+}
+
+// Appends words to a list.
+fn push_all<'a>(words: &mut Vec<Word<'a>>, others: &[Word<'a>]) -> Result<(), AllocError>
+    ensures { OnOk result (map placed words.new.items ≡ map placed words.old.items ++ map placed others.now) }
+{
+    for word in others {
+        words.push(*word)?;
+    }
+    Ok(())
 }
 
 // The first word whose name an earlier one has.
@@ -153,25 +176,36 @@ fn repeated(alloc: Global, words: &[Word]) -> Result<Option<Span>, AllocError>
 {
     let mut seen = BTreeMap::new(alloc);
     for word in words {
-        if seen.insert(word.name, ())?.is_some() {
+        if seen.contains_key(word.name) {
             return Ok(Some(word.span()));
         }
+        seen.insert(word.name, ())?;
     }
     Ok(None)
 }
 
-// The first `%prec` after another one of the same production.
+// The first `%prec` right after another one of the same production.
 fn repeated_prec(precs: &[Prec]) -> Option<Span>
     ensures { result ≡ repeated_prec None (map prec_of precs.now) }
 {
-    for pair in precs.windows(2) {
-        if let [before, prec] = pair {
-            if before.prod == prec.prod {
-                return Some(prec.name.span());
-            }
+    let mut before = None;
+    for prec in precs {
+        if is_same(before, prec.prod) {
+            return Some(prec.name.span());
         }
+        before = Some(prec.prod);
     }
     None
+}
+
+// Whether the production before is this one.
+fn is_same(before: Option<usize>, prod: usize) -> bool
+    ensures { result ≡ is_same before prod }
+{
+    match before {
+        Some(before) => before == prod,
+        None => false,
+    }
 }
 
 // The one with the smaller place.

@@ -4,6 +4,7 @@
 mod code;
 pub mod declarations;
 pub mod faults;
+pub mod laws;
 pub mod parts;
 pub mod steps;
 pub mod text;

@@ -336,9 +336,16 @@ fn digits_len(text: &[u8]) -> usize
     ensures ascii { 0 < result → slice_index text.now (result - 1) < 128 }
 {
     for (i, byte) in text.iter().enumerate() {
-        if !byte.is_ascii_digit() {
+        if !is_digit(*byte) {
             return i;
         }
     }
     text.len()
+}
+
+// A digit.
+fn is_digit(byte: u8) -> bool
+    ensures { result ≡ is_digit byte }
+{
+    matches!(byte, b'0'..=b'9')
 }

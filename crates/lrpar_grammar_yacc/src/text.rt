@@ -1,6 +1,6 @@
 //! The parts of a `.y` file, and its erasure.
-ghost use Rattle.std.specs.Prelude.{◌≡◌, ◌<◌, ◌≤◌, ◌+◌, ◌^◌, ◌++◌, IfOk, OnOk, string_bytes};
-ghost use Rattle.lrpar_grammar_yacc.specs.Erasure.{AreApart, blanks, erased_from};
+ghost use Rattle.std.specs.Prelude.{[], ◌∷◌, ◌≡◌, ◌<◌, ◌≤◌, ◌+◌, ◌^◌, ◌++◌, IfOk, OnOk, string_bytes};
+ghost use Rattle.lrpar_grammar_yacc.specs.Erasure.{AreApart, blank_for, blanks, erased_from};
 ghost use Rattle.lrpar_grammar_yacc.specs.Steps.{action_after, ends, mid_action, mid_before, part_of, parts_of};
 
 use crate::parts::{PartKind, YaccKind};
@@ -123,9 +123,19 @@ fn push_blanks(erased: &mut String, text: &str) -> Result<(), AllocError>
     ensures { OnOk result (string_bytes erased.new ≡ string_bytes erased.old ++ blanks text.now) }
 {
     for byte in text.as_bytes() {
-        erased.push(if *byte == b'\n' { '\n' } else { ' ' })?;
+        erased.push_str(blank_for(*byte))?;
     }
     Ok(())
+}
+
+// An LF for an LF, and a space for any other byte.
+fn blank_for(byte: u8) -> &'static str
+    ensures { result.now ≡ blank_for byte ∷ [] }
+{
+    match byte {
+        b'\n' => "\n",
+        _ => " ",
+    }
 }
 
 // The action right before what comes after a step at that place, with only blanks between. `last`: that before the step.
