@@ -1,11 +1,11 @@
-use Rattle.std.proofs.Common.{◌≡◌, ◌≤◌, ◌+◌, ◌-◌, ◌++◌, ◌∷◌, Some, None, drop, length, length-drop, take, ap, sym, subst, ◌∙◌, arith}
+use Rattle.std.proofs.Common.{◌≡◌, ◌≤◌, ◌+◌, ◌-◌, ◌++◌, ◌∷◌, Some, None, drop, length, length-drop, take, refl, ap, sym, subst, ◌∙◌, arith}
 use Rattle.std.specs.Option.{option_or}
 use Rattle.std.specs.Str.{IsCharBoundary}
 use Rattle.std.proofs.lemmas.List.{append_assoc, append-nil, take_all}
 use Rattle.std.proofs.lemmas.Str.{IsCharBoundary-start}
 use Rattle.lrpar_grammar_yacc.specs.Erasure.{AreApart}
 use Rattle.lrpar_grammar_yacc.specs.Parts.{EndsAtAscii}
-use Rattle.lrpar_grammar_yacc.specs.Steps.{action_after, ends, mid_before, mid_from, part_of, parts_from, step_at, steps_from}
+use Rattle.lrpar_grammar_yacc.specs.Steps.{action_after, ends, mid_before, mid_from, part_of, parts_from, parts_of, step_at, steps_from}
 use Rattle.lrpar_grammar_yacc.proofs.EndLemmas.{ends_boundary}
 use Rattle.lrpar_grammar_yacc.proofs.StepLemmas.{apart_step, end_after, or_or, steps_more, steps_none}
 use Rattle.lrpar_grammar_yacc.proofs.text.TextParts.read.Goals as goal
@@ -15,10 +15,10 @@ loop-step-init c = record {
   within = omega arith;
   boundary = IsCharBoundary-start c.args.text.now c.utf8.text;
   few = omega arith;
-  parts = ?;
-  mid = ?;
-  apart = ?;
-  before = ?;
+  parts = ap (λ ps. ps ++ parts_of c.args.kind c.args.text.now) c.new-parts.ensures.items;
+  mid = refl;
+  apart = subst (AreApart c.args.text.now 0) (sym c.new-parts.ensures.items) (IsCharBoundary-start c.args.text.now c.utf8.text);
+  before = omega (arith, ap (end_after 0) c.new-parts.ensures.items);
 }
 
 pub loop-step-preserved : goal.loop-step-preserved
@@ -48,9 +48,9 @@ loop-step-preserved c =
     record {
       within = most;
       boundary = boundary;
-      few = omega (arith, c.loop-step.invariant.few, c.ends.ensures.few, fits.some);
-      parts = ap (λ ps. ps ++ parts_from next (prod + c.ends.result) later) pushed
-          ∙ ap (λ n. (old ++ part_of place prod x x.kind) ++ parts_from next (prod + n) later) c.ends.ensures.ends
+      few = omega (arith, c.loop-step.invariant.few, c.ends-prod.ensures.few, fits.some);
+      parts = ap (λ ps. ps ++ parts_from next (prod + c.ends-prod.result) later) pushed
+          ∙ ap (λ n. (old ++ part_of place prod x x.kind) ++ parts_from next (prod + n) later) c.ends-prod.ensures.ends
           ∙ append_assoc old (part_of place prod x x.kind) (parts_from next (prod + ends x.kind) later)
           ∙ sym (ap (λ xs. old ++ parts_from place prod xs) steps) ∙ c.loop-step.invariant.parts;
       mid = ap (λ m. option_or m (mid_from next c.action_after-last.result later)) c.or-mid_action.ensures
