@@ -87,39 +87,40 @@ after_word : (found : Option (Role × Expected)) (o : TextOutline) (w : PlacedWo
 after_word None o w ws last leads = absurd (cc)
 after_word (Some step) o w ws last leads = (step, refl, leads)
 
+-- the pieces xs have no parts, wherever they are
+abbrev HaveNoParts : YaccKind → List Piece → Type 0
+HaveNoParts kind xs = (e : Expected) (o : TextOutline) (at place prod : ℕ) (s : List ℕ) → AreAllowed e o at s xs → parts_from place prod (steps_from kind e 0 s) ≡ []
+
+-- a piece, if those after it have no parts
+one_more : (word : Option WordKind) (x : Piece) (xs : List Piece) (kind : YaccKind) (e : Expected) (o : TextOutline) (at place prod : ℕ) (s : List ℕ) → x.word ≡ word
+    → AreAllowed e o at s (x ∷ xs) → HaveNoParts kind xs → parts_from place prod (steps_from kind e 0 s) ≡ []
+one_more None x xs kind e o at place prod s none allowed next =
+    let is : piece_at s ≡ Some x = allowed.cut.0 in
+    let ws = words_of (at + x.len) (drop x.len s) xs in
+    let begins = text_begins s x is in
+    let y : Step = word_step Blank x.len e in
+    let step : step_at kind e s ≡ Some y = step_over kind e s x y is (ap (piece_step e x.len) none) in
+    let leads : after_words e o ws ≡ Some allowed.last =
+    ap (λ word. after_words e o (option_to_list (option_map (λ (kind : WordKind). word_at at s kind x.len) word) ++ ws)) (sym none) ∙ allowed.leads in
+    after_step kind e s place prod y step (piece_some s x begins.is) begins.within refl
+    (next e o (at + x.len) (place + x.len) (prod + 0) (drop x.len s) (record { cut = allowed.cut.1; last = allowed.last; leads = leads }))
+one_more (Some k) x xs kind e o at place prod s word allowed next =
+    let is : piece_at s ≡ Some x = allowed.cut.0 in
+    let ws = words_of (at + x.len) (drop x.len s) xs in
+    let begins = text_begins s x is in
+    let w = word_at at s k x.len in
+    let leads = ap (λ word. after_words e o (option_to_list (option_map (λ (kind : WordKind). word_at at s kind x.len) word) ++ ws)) (sym word) ∙ allowed.leads in
+    let r = after_word (after e k) o w ws allowed.last leads in
+    let y : Step = word_step (word_kind r.0.0) x.len r.0.1 in
+    let by_kind : piece_step e x.len (Some k) ≡ Some y = ap (option_map (λ (r : Role × Expected). word_step (word_kind r.0) x.len r.1)) r.1 in
+    let step : step_at kind e s ≡ Some y = step_over kind e s x y is (ap (piece_step e x.len) word ∙ by_kind) in
+    after_step kind e s place prod y step (piece_some s x begins.is) begins.within (no_part_of r.0.0 place prod y)
+    (next r.0.1 (with_word o r.0.0 w) (at + x.len) (place + x.len) (prod + ends y.kind) (drop x.len s) (record { cut = allowed.cut.1; last = allowed.last; leads = r.2 }))
+
 -- if the words of the pieces are allowed, there are no parts
-no_parts : (xs : List Piece) (kind : YaccKind) (e : Expected) (o : TextOutline) (at place prod : ℕ) (s : List ℕ) → AreAllowed e o at s xs
-    → parts_from place prod (steps_from kind e 0 s) ≡ []
-no_parts [] kind e o at place prod s allowed = ap (λ s. parts_from place prod (steps_from kind e 0 s)) allowed.cut
-no_parts (x ∷ xs) kind e o at place prod s allowed = by_word x.word refl
-  where
-    is : piece_at s ≡ Some x
-    is = allowed.cut.0
-
-    ws : List PlacedWord
-    ws = words_of (at + x.len) (drop x.len s) xs
-
-    begins : Begins s x
-    begins = text_begins s x is
-
-    by_word : (word : Option WordKind) → x.word ≡ word → parts_from place prod (steps_from kind e 0 s) ≡ []
-    unfolding is, ws, begins
-    by_word None none =
-        let y : Step = word_step Blank x.len e in
-        let step : step_at kind e s ≡ Some y = step_over kind e s x y is (ap (piece_step e x.len) none) in
-        let leads = ap (λ word. after_words e o (option_to_list (option_map (λ kind. word_at at s kind x.len) word) ++ ws)) (sym none) ∙ allowed.leads in
-        after_step kind e s place prod y step (piece_some s x begins.is) begins.within refl
-        (no_parts xs kind e o (at + x.len) (place + x.len) (prod + 0) (drop x.len s) (record { cut = allowed.cut.1; last = allowed.last; leads = leads }))
-    by_word (Some k) word =
-        let w = word_at at s k x.len in
-        let leads = ap (λ word. after_words e o (option_to_list (option_map (λ kind. word_at at s kind x.len) word) ++ ws)) (sym word) ∙ allowed.leads in
-        let r = after_word (after e k) o w ws allowed.last leads in
-        let y : Step = word_step (word_kind r.0.0) x.len r.0.1 in
-        let by_kind : piece_step e x.len (Some k) ≡ Some y = ap (option_map (λ (r : Role × Expected). word_step (word_kind r.0) x.len r.1)) r.1 in
-        let step : step_at kind e s ≡ Some y = step_over kind e s x y is (ap (piece_step e x.len) word ∙ by_kind) in
-        after_step kind e s place prod y step (piece_some s x begins.is) begins.within (no_part_of r.0.0 place prod y)
-        (no_parts xs kind r.0.1 (with_word o r.0.0 w) (at + x.len) (place + x.len) (prod + ends y.kind) (drop x.len s)
-        (record { cut = allowed.cut.1; last = allowed.last; leads = r.2 }))
+no_parts : (xs : List Piece) (kind : YaccKind) → HaveNoParts kind xs
+no_parts [] kind = λ e o at place prod s allowed. ap (λ s. parts_from place prod (steps_from kind e 0 s)) allowed.cut
+no_parts (x ∷ xs) kind = λ e o at place prod s allowed. one_more x.word x xs kind e o at place prod s refl allowed (no_parts xs kind)
 
 -- a grammar text is its own erasure
 pub are_own_erasures : AreOwnErasures

@@ -1,9 +1,11 @@
 -- The steps of a text, one after another.
 use Rattle.std.proofs.Common.{inl, inr, ◌≡◌, ◌<◌, ◌≤◌, ◌+◌, ◌-◌, ◌++◌, ℕ, zero, suc, List, [], ◌∷◌, length, length-drop, drop, Option, Some, None, refl, ap, sym, subst, ◌∙◌, arith}
+use Rattle.std.specs.List.{All}
 use Rattle.std.specs.Option.{option_map_or, option_or}
 use Rattle.std.specs.Str.{IsCharBoundary}
 use Rattle.std.proofs.lemmas.Bool.{cases_lt}
 use Rattle.std.proofs.lemmas.List.{append-nil, at_drop_more, drop-drop, drop_more}
+use Rattle.std.proofs.lemmas.List.Elements.{All-cons, All-nil}
 use Rattle.lrpar_grammar_places.specs.Span.{Extent}
 use Rattle.lrpar_grammar_words.specs.declared.word_order.Expected.{Expected}
 use Rattle.lrpar_grammar_yacc.specs.declared.parts.YaccKind.{YaccKind}
@@ -90,3 +92,8 @@ apart_step text xs place prod x (Part kind) apart after start end head =
 apart_step text xs place prod x Blank apart after start end head = same_parts text xs place x.len apart after
 apart_step text xs place prod x Word apart after start end head = same_parts text xs place x.len apart after
 apart_step text xs place prod x End apart after start end head = same_parts text xs place x.len apart after
+
+-- each part lies in the text
+pub parts_within : (text : List ℕ) (xs : List TextPart) (place : ℕ) → AreApart text place xs → All (IsPartOfText text) xs
+parts_within text [] place apart = All-nil (IsPartOfText text)
+parts_within text (x ∷ xs) place apart = All-cons (IsPartOfText text) x xs apart.2 (parts_within text xs x.end apart.3)

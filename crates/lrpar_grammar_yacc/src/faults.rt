@@ -1,8 +1,8 @@
 //! The faults that a `.y` file shows before its grammar is read.
-ghost use Rattle.std.specs.Prelude.{[], ◌≡◌, ◌++◌, All, IfErr, IfOk, OnOk, None, map, string_bytes};
+ghost use Rattle.std.specs.Prelude.{[], ◌≡◌, ◌++◌, All, IfErr, IfOk, OnOk, None, map, option_map, string_bytes};
 ghost use Rattle.std.specs.List.{flat_map};
 ghost use Rattle.lrpar_grammar_words.specs.Words.{placed};
-ghost use Rattle.lrpar_grammar_yacc.specs.declared.faults.YaccFault.TheVariants.{Memory};
+ghost use Rattle.lrpar_grammar_yacc.specs.declared.faults.YaccFault.TheVariants.{BadNumber, Memory, MidRuleAction, RepeatedPrec, RepeatedPrecedence};
 ghost use Rattle.lrpar_grammar_yacc.specs.Declares.{declarations, declarations_of, declared_by, level_of, prec_of};
 ghost use Rattle.lrpar_grammar_yacc.specs.Erasure.{IsPartOfText, erasure};
 ghost use Rattle.lrpar_grammar_yacc.specs.Faults.{IsFaultOf, bad_number, earlier, fault_by, first_fault, has_bad_number, has_number, is_same, place_of, repeated_after, repeated_name, repeated_prec};
@@ -105,11 +105,51 @@ fn first_fault(
     requires { All (IsPartOfText text.now) parts.now.parts.items }
     ensures { IfOk result (λ fault. fault ≡ fault_by text.now parts.now.parts.items (declarations_of declarations.now) parts.now.mid_action) }
 {
-    let number = bad_number(text, &parts.parts).map(YaccFault::BadNumber);
-    let name = repeated_name(alloc, &declarations.levels)?.map(YaccFault::RepeatedPrecedence);
-    let prec = repeated_prec(&declarations.precs).map(YaccFault::RepeatedPrec);
-    let action = parts.mid_action.map(YaccFault::MidRuleAction);
+    let number = number_fault(bad_number(text, &parts.parts));
+    let name = name_fault(repeated_name(alloc, &declarations.levels)?);
+    let prec = prec_fault(repeated_prec(&declarations.precs));
+    let action = action_fault(&parts.mid_action);
     Ok(earlier(earlier(number, name), earlier(prec, action)))
+}
+
+// The fault of a number.
+fn number_fault(found: Option<Span>) -> Option<YaccFault>
+    ensures { result ≡ option_map BadNumber found }
+{
+    match found {
+        Some(span) => Some(YaccFault::BadNumber(span)),
+        None => None,
+    }
+}
+
+// The fault of a name with a precedence.
+fn name_fault(found: Option<Span>) -> Option<YaccFault>
+    ensures { result ≡ option_map RepeatedPrecedence found }
+{
+    match found {
+        Some(span) => Some(YaccFault::RepeatedPrecedence(span)),
+        None => None,
+    }
+}
+
+// The fault of a `%prec`.
+fn prec_fault(found: Option<Span>) -> Option<YaccFault>
+    ensures { result ≡ option_map RepeatedPrec found }
+{
+    match found {
+        Some(span) => Some(YaccFault::RepeatedPrec(span)),
+        None => None,
+    }
+}
+
+// The fault of an action.
+fn action_fault(found: &Option<Span>) -> Option<YaccFault>
+    ensures { result ≡ option_map MidRuleAction found.now }
+{
+    match found {
+        Some(span) => Some(YaccFault::MidRuleAction(*span)),
+        None => None,
+    }
 }
 
 // The first number that isn't one.
