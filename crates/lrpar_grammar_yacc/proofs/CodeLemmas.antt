@@ -1,5 +1,5 @@
 -- Rust code byte by byte, and piece by piece.
-use Rattle.std.proofs.Common.{◌≡◌, ◌<◌, ◌≤◌, ◌+◌, ◌-◌, ◌==◌, ◌&&◌, not, ℕ, Bool, true, false, cond, zero, suc, List, [], ◌∷◌, length, length-drop, drop, get_or, nat_eq, codes, Option, Some, None, option_and_then, refl, ap, sym, ◌∙◌, arith}
+use Rattle.std.proofs.Common.{◌≡◌, ◌<◌, ◌≤◌, ◌+◌, ◌-◌, ◌==◌, ℕ, Bool, true, false, cond, zero, suc, List, [], ◌∷◌, length, length-drop, drop, get_or, nat_eq, codes, Option, Some, None, option_and_then, refl, ap, sym, ◌∙◌, arith}
 use Rattle.std.specs.List.{starts_with}
 use Rattle.std.proofs.lemmas.List.{at_drop_more, drop-drop, drop_more}
 use Rattle.lrpar_grammar_yacc.specs.declared.code.Run.{Run}
@@ -37,15 +37,15 @@ raw_more hashes text i within unmet =
 nested_step : (depth : ℕ) (paired : Bool) (text : List ℕ) (i : ℕ) → i < length text
     → nested_len depth paired (drop i text)
     ≡ cond paired (more 1 (nested_len depth false (drop (i + 1) text)))
-        (cond (starts_with nat_eq (drop i text) (codes "*/")) (cond (depth == 0) (Some 2) (more 1 (nested_len (depth - 1) true (drop (i + 1) text))))
-        (cond (starts_with nat_eq (drop i text) (codes "/*")) (more 1 (nested_len (depth + 1) true (drop (i + 1) text))) (more 1 (nested_len depth false (drop (i + 1) text)))))
+    (cond (starts_with nat_eq (drop i text) (codes "*/")) (cond (depth == 0) (Some 2) (more 1 (nested_len (depth - 1) true (drop (i + 1) text))))
+    (cond (starts_with nat_eq (drop i text) (codes "/*")) (more 1 (nested_len (depth + 1) true (drop (i + 1) text))) (more 1 (nested_len depth false (drop (i + 1) text)))))
 nested_step depth paired text i within =
     let rest = drop (i + 1) text in
     let here : drop i text ≡ get_or text i 0 ∷ rest = drop_more text i 0 within in
     ap (nested_len depth paired) here
     ∙ ap (λ s. cond paired (more 1 (nested_len depth false rest))
-        (cond (starts_with nat_eq s (codes "*/")) (cond (depth == 0) (Some 2) (more 1 (nested_len (depth - 1) true rest)))
-        (cond (starts_with nat_eq s (codes "/*")) (more 1 (nested_len (depth + 1) true rest)) (more 1 (nested_len depth false rest))))) (sym here)
+    (cond (starts_with nat_eq s (codes "*/")) (cond (depth == 0) (Some 2) (more 1 (nested_len (depth - 1) true rest)))
+    (cond (starts_with nat_eq s (codes "/*")) (more 1 (nested_len (depth + 1) true rest)) (more 1 (nested_len depth false rest))))) (sym here)
 
 -- the second byte of a pair
 pub nested_paired : (depth : ℕ) (paired : Bool) (text : List ℕ) (i : ℕ) → i < length text → paired ≡ true

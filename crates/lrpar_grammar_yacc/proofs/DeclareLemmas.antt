@@ -1,15 +1,15 @@
 -- What parts declare, part by part and word by word.
-use Rattle.std.proofs.Common.{inl, inr, ◌≡◌, ◌<◌, ◌≤◌, ◌+◌, ◌-◌, ◌++◌, ℕ, zero, suc, List, [], ◌∷◌, length, length-drop, drop, get_or, map, take, Option, Some, None, refl, ap, sym, subst, ◌∙◌, arith}
+use Rattle.std.proofs.Common.{inl, inr, ◌≡◌, ◌<◌, ◌≤◌, ◌+◌, ◌-◌, ◌++◌, ℕ, zero, suc, List, [], ◌∷◌, length, length-drop, drop, get_or, take, Option, Some, None, refl, ap, sym, ◌∙◌, arith}
 use Rattle.std.specs.List.{flat_map}
 use Rattle.std.specs.Option.{option_map, option_map_or, option_to_list}
 use Rattle.std.proofs.lemmas.Bool.{cases_lt}
 use Rattle.std.proofs.lemmas.Grind.{flat_map-append}
-use Rattle.std.proofs.lemmas.List.{append-nil, at_drop_more, drop-drop, drop_more, take_more}
+use Rattle.std.proofs.lemmas.List.{append-nil, drop-drop, drop_more, take_more}
 use Rattle.lrpar_grammar_words.specs.declared.words.Piece.{Piece}
 use Rattle.lrpar_grammar_words.specs.declared.words.WordKind.{WordKind}
 use Rattle.lrpar_grammar_words.specs.Words.{PlacedWord, piece_at, word_at}
 use Rattle.lrpar_grammar_yacc.specs.declared.text.TextPart.{TextPart}
-use Rattle.lrpar_grammar_yacc.specs.Declares.{TextDeclarations, avoided_in, declared_by, expected_in, expected_rr_in, levels_in, precs_in, unused_in, with_part, words_from}
+use Rattle.lrpar_grammar_yacc.specs.Declares.{avoided_in, declared_by, expected_in, expected_rr_in, levels_in, precs_in, unused_in, with_part, words_from}
 
 -- no words among no bytes
 pub no_words : (s : List ℕ) (place skip : ℕ) → words_from place 0 skip s ≡ []
@@ -93,6 +93,11 @@ pub declared_more : (text : List ℕ) (parts : List TextPart) (i : ℕ) (d : Tex
     → with_part text (declared_by text (take i parts)) (get_or parts i d) ≡ declared_by text (take (i + 1) parts)
 unfolding with_part
 declared_more text parts i d within =
-    rw (flat_more (λ x. levels_in text x x.kind) parts i d within, flat_more (λ x. precs_in text x x.kind) parts i d within,
-    flat_more (λ x. avoided_in text x x.kind) parts i d within, flat_more (λ x. unused_in text x x.kind) parts i d within,
-    flat_more (λ x. expected_in text x x.kind) parts i d within, flat_more (λ x. expected_rr_in text x x.kind) parts i d within) refl
+    rw (
+      flat_more (λ x. levels_in text x x.kind) parts i d within,
+      flat_more (λ x. precs_in text x x.kind) parts i d within,
+      flat_more (λ x. avoided_in text x x.kind) parts i d within,
+      flat_more (λ x. unused_in text x x.kind) parts i d within,
+      flat_more (λ x. expected_in text x x.kind) parts i d within,
+      flat_more (λ x. expected_rr_in text x x.kind) parts i d within,
+    ) refl

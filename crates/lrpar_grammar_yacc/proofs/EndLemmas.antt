@@ -1,13 +1,13 @@
 -- Where pieces and parts end: between two characters.
-use Rattle.std.proofs.Common.{◌≡◌, ◌≢◌, ◌<◌, ◌≤◌, ◌+◌, ◌-◌, ◌⊎◌, inl, inr, ℕ, List, [], ◌∷◌, ◌++◌, length, length-append, length-drop, length-take, drop, take, get_or, nat_eq, codes, true, Option, Some, None, refl, ap, sym, subst, ◌∙◌, arith}
-use Rattle.std.specs.List.{All, starts_with}
+use Rattle.std.proofs.Common.{◌≡◌, ◌≢◌, ◌<◌, ◌≤◌, ◌+◌, ◌-◌, inl, inr, ℕ, List, [], ◌∷◌, ◌++◌, length, length-append, length-take, drop, take, get_or, nat_eq, codes, true, Some, None, refl, ap, sym, subst, ◌∙◌, arith}
+use Rattle.std.specs.List.{starts_with}
 use Rattle.std.specs.Str.{IsCharBoundary, IsUtf8}
 use Rattle.std.proofs.lemmas.Bool.{cases_lt}
 use Rattle.std.proofs.lemmas.Bool.Decides.{nat_tests}
 use Rattle.std.proofs.lemmas.List.{get_or-append_right, get_or-drop, get_or-take, get_or_past, take_more}
 use Rattle.std.proofs.lemmas.List.Elements.{All-push}
 use Rattle.std.proofs.lemmas.Slice.Eq.{bytes_eq-Decides}
-use Rattle.std.proofs.lemmas.Str.{IsCharBoundary-after_ascii, IsCharBoundary-before_ascii, IsCharBoundary-end}
+use Rattle.std.proofs.lemmas.Str.{IsCharBoundary-after_ascii}
 use Rattle.lrpar_grammar_words.specs.declared.words.Piece.{Piece}
 use Rattle.lrpar_grammar_words.specs.Forms.{IsBlank, IsClosedComment, IsLineComment, IsPieceText, IsWhite}
 use Rattle.lrpar_grammar_words.specs.Words.{is_white, piece_at}
@@ -99,7 +99,7 @@ blank_ends s x is none =
     elim blank [
       | inl white ↦ white_ends s n longest.within white
       | inr comment ↦ elim comment [
-          | inl line ↦ line_ends s n longest.within line (λ m few is. longest.longest m None few (inr (inl is)))
-          | inr closed ↦ closed_ends s n longest.within closed
-        ]
+        | inl line ↦ line_ends s n longest.within line (λ m few is. longest.longest m None few (inr (inl is)))
+        | inr closed ↦ closed_ends s n longest.within closed
+      ]
     ]

@@ -1,5 +1,5 @@
 -- Names that are repeated, one name after another.
-use Rattle.std.proofs.Common.{◌≡◌, ◌<◌, ◌+◌, ◌++◌, ◌||◌, ℕ, Bool, true, false, cond, List, [], ◌∷◌, length, drop, get_or, map, take, bytes_eq, nat_cmp, Bor, Option, Some, None, refl, ap, sym, ◌∙◌, arith}
+use Rattle.std.proofs.Common.{◌≡◌, ◌<◌, ◌+◌, ◌++◌, ◌||◌, ℕ, Bool, true, false, cond, List, [], ◌∷◌, length, drop, get_or, map, take, bytes_eq, nat_cmp, Bor, Option, Some, refl, ap, sym, ◌∙◌}
 use Rattle.std.specs.BTreeMap.{BTreeMap, get_by}
 use Rattle.std.specs.Cmp.Lexicographic.{slice_cmp}
 use Rattle.std.specs.List.{list_any}
@@ -9,6 +9,7 @@ use Rattle.std.proofs.lemmas.List.{drop_more, map-append, take_more}
 use Rattle.std.proofs.lemmas.List.Folds.{list_any-append}
 use Rattle.std.proofs.lemmas.Slice.Eq.{bytes_eq-Decides}
 use Rattle.std.proofs.lemmas.Bool.{false_from_ne_true, false≢true}
+use Rattle.lrpar_grammar_places.specs.Span.{Extent}
 use Rattle.lrpar_grammar_words.specs.declared.words.Word.{Word}
 use Rattle.lrpar_grammar_words.specs.Words.{PlacedWord, placed}
 use Rattle.lrpar_grammar_yacc.specs.Faults.{repeated_after}
@@ -28,8 +29,28 @@ names_more words i d within =
 pub repeated_by : (words : List Word) (i : ℕ) (d : Word) (before : List (List ℕ)) → i < length words
     → repeated_after before (map placed (drop i words))
     ≡ cond (list_any (bytes_eq (placed (get_or words i d)).name) before) (Some (placed (get_or words i d)).span)
-        (repeated_after (before ++ (placed (get_or words i d)).name ∷ []) (map placed (drop (i + 1) words)))
+    (repeated_after (before ++ (placed (get_or words i d)).name ∷ []) (map placed (drop (i + 1) words)))
 repeated_by words i d before within = ap (λ s. repeated_after before (map placed s)) (drop_more words i d within)
+
+-- a name that is among the names before
+pub repeated_here : (words : List Word) (i : ℕ) (d : Word) (before : List (List ℕ)) (span : Extent) → i < length words
+    → span ≡ (placed (get_or words i d)).span → list_any (bytes_eq (placed (get_or words i d)).name) before ≡ true
+    → ◌≡◌ {A = Option Extent} (Some span) (repeated_after before (map placed (drop i words)))
+repeated_here words i d before span within is among =
+    let w = placed (get_or words i d) in
+    ap (λ (s : Extent). Some s) is
+    ∙ sym (repeated_by words i d before within
+    ∙ ap (λ b. cond b (Some w.span) (repeated_after (before ++ w.name ∷ []) (map placed (drop (i + 1) words)))) among)
+
+-- a name that isn't
+pub repeated_later : (words : List Word) (i : ℕ) (d : Word) → i < length words → list_any (bytes_eq (placed (get_or words i d)).name) (names_before (take i words)) ≡ false
+    → repeated_after (names_before (take i words)) (map placed (drop i words)) ≡ repeated_after (names_before (take (i + 1) words)) (map placed (drop (i + 1) words))
+repeated_later words i d within other =
+    let w = placed (get_or words i d) in
+    let before = names_before (take i words) in
+    repeated_by words i d before within
+    ∙ ap (λ b. cond b (Some w.span) (repeated_after (before ++ w.name ∷ []) (map placed (drop (i + 1) words)))) other
+    ∙ ap (λ b. repeated_after b (map placed (drop (i + 1) words))) (sym (names_more words i d within))
 
 -- no truth is false
 no_both : (t : Bool) → t ≡ false → t ≡ true → ⊥

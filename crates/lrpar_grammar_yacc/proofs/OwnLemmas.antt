@@ -1,5 +1,5 @@
 -- Grammar texts have no parts that are erased.
-use Rattle.std.proofs.Common.{inl, inr, ◌≡◌, ◌<◌, ◌≤◌, ◌+◌, ◌-◌, ◌++◌, ℕ, zero, suc, List, [], ◌∷◌, length, length-append, drop, take, codes, Option, Some, None, option_and_then, refl, ap, sym, subst, ◌∙◌, arith}
+use Rattle.std.proofs.Common.{inl, inr, ◌≡◌, ◌<◌, ◌≤◌, ◌+◌, ◌++◌, ℕ, List, [], ◌∷◌, length, length-append, drop, take, codes, Option, Some, None, option_and_then, refl, ap, sym, subst, ◌∙◌, arith}
 use Rattle.std.specs.Option.{option_map, option_or, option_to_list}
 use Rattle.std.proofs.lemmas.Bool.{cases_lt}
 use Rattle.lrpar_grammar_words.specs.declared.words.Piece.{Piece}
@@ -13,11 +13,10 @@ use Rattle.lrpar_grammar_words.specs.Outline.{TextOutline, after_words, no_words
 use Rattle.lrpar_grammar_words.specs.WordOrder.{after}
 use Rattle.lrpar_grammar_words.specs.Words.{IsCutInto, PlacedWord, piece_at, word_at, words_of}
 use Rattle.lrpar_grammar_words.specs.Forms.{IsPieceText}
-use Rattle.lrpar_grammar_words.proofs.FormLemmas.{Begins, text_begins}
+use Rattle.lrpar_grammar_words.proofs.FormLemmas.{text_begins}
 use Rattle.lrpar_grammar_yacc.specs.declared.parts.YaccKind.{YaccKind}
 use Rattle.lrpar_grammar_yacc.specs.declared.steps.Step.{Step}
 use Rattle.lrpar_grammar_yacc.specs.declared.steps.StepKind.TheVariants.{Blank}
-use Rattle.lrpar_grammar_yacc.specs.declared.text.TextPart.{TextPart}
 use Rattle.lrpar_grammar_yacc.specs.Erasure.{erased_from}
 use Rattle.lrpar_grammar_yacc.specs.Laws.{AreOwnErasures}
 use Rattle.lrpar_grammar_yacc.specs.Parts.{part_at}

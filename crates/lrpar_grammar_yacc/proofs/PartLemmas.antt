@@ -76,11 +76,11 @@ names_skip (c ∷ s) last place (suc k) few =
 names_by : (s : List ℕ) (last place : ℕ) (found : Option Piece) → place < length s → piece_at (drop place s) ≡ found
     → names_from last place 0 (drop place s)
     ≡ option_map_or (λ x. cond (is_name x.word) (names_from (place + x.len) (place + 1) (x.len - 1) (drop (place + 1) s))
-        (cond (is_none x.word) (names_from last (place + 1) (x.len - 1) (drop (place + 1) s)) last)) found last
+    (cond (is_none x.word) (names_from last (place + 1) (x.len - 1) (drop (place + 1) s)) last)) found last
 names_by s last place found inside is =
     at_drop_more (names_from last place 0) s place 0 inside
     ∙ ap (λ found. option_map_or (λ (x : Piece). cond (is_name x.word) (names_from (place + x.len) (place + 1) (x.len - 1) (drop (place + 1) s))
-        (cond (is_none x.word) (names_from last (place + 1) (x.len - 1) (drop (place + 1) s)) last)) found last)
+    (cond (is_none x.word) (names_from last (place + 1) (x.len - 1) (drop (place + 1) s)) last)) found last)
     (ap piece_at (sym (drop_more s place 0 inside)) ∙ is)
 
 -- the rest after a piece

@@ -1,6 +1,6 @@
 -- Rust code, by its bytes: its pieces, and where braces and types end. Bytes are numbers: 34 is `"`, 35 `#`, 39 `'`, 45 `-`,
 -- 47 `/`, 58 `:`, 92 a backslash.
-use Rattle.std.specs.Prelude.{◌≡◌, ◌<◌, ◌≤◌, ◌+◌, ◌-◌, ◌==◌, ◌&&◌, ◌||◌, not, ℕ, zero, suc, Bool, true, false, List, [], ◌∷◌, drop, take, nat_lt, nat_le, nat_eq, bytes_eq, codes, Option, Some, None, option_map, if◌then◌else◌}
+use Rattle.std.specs.Prelude.{◌+◌, ◌-◌, ◌==◌, ◌&&◌, ◌||◌, not, ℕ, zero, suc, Bool, true, false, List, [], ◌∷◌, drop, take, nat_lt, nat_le, nat_eq, bytes_eq, codes, Option, Some, None, option_map, if◌then◌else◌}
 use Rattle.std.specs.List.{prefix_len, position_or_len, starts_with}
 use Rattle.std.specs.Option.{option_and_then}
 use Rattle.lrpar_grammar_words.specs.Words.{is_byte_at}

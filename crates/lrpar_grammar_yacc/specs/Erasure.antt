@@ -1,5 +1,5 @@
 -- The erasure of a `.y` file: the same bytes, with blanks in place of the parts that a grammar text doesn't have.
-use Rattle.std.specs.Prelude.{◌≡◌, ◌≤◌, ◌-◌, ◌==◌, ℕ, List, [], ◌∷◌, ◌++◌, drop, map, take, slice_range, if◌then◌else◌}
+use Rattle.std.specs.Prelude.{◌≤◌, ◌==◌, ℕ, List, [], ◌∷◌, ◌++◌, drop, map, slice_range, if◌then◌else◌}
 use Rattle.std.specs.Str.{IsCharBoundary}
 use Rattle.lrpar_grammar_yacc.specs.declared.parts.YaccKind.{YaccKind}
 use Rattle.lrpar_grammar_yacc.specs.declared.text.TextPart.{TextPart}

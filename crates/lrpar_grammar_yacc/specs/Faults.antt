@@ -1,7 +1,7 @@
 -- The faults that a `.y` file shows before its grammar is read: of each kind the first, and of these the one with the smallest place.
-use Rattle.std.specs.Prelude.{◌≡◌, ◌==◌, ◌&&◌, ◌||◌, ℕ, Bool, true, false, List, [], ◌∷◌, ◌++◌, bytes_eq, nat_lt, Option, Some, None, option_map, if◌then◌else◌}
+use Rattle.std.specs.Prelude.{◌≡◌, ◌==◌, ◌&&◌, ℕ, Bool, true, false, List, [], ◌∷◌, ◌++◌, bytes_eq, nat_lt, Option, Some, None, option_map, if◌then◌else◌}
 use Rattle.std.specs.List.{find, flat_map, list_any}
-use Rattle.std.specs.Option.{is_none, option_or}
+use Rattle.std.specs.Option.{is_none}
 use Rattle.lrpar_grammar_places.specs.Span.{Extent}
 use Rattle.lrpar_grammar_words.specs.Words.{PlacedWord}
 use Rattle.lrpar_grammar_yacc.specs.declared.faults.YaccFault.{YaccFault}

@@ -1,13 +1,12 @@
 -- The parts of a `.y` file that a grammar text doesn't have, by their bytes. 37 is `%`, 123 `{`.
-use Rattle.std.specs.Prelude.{◌≡◌, ◌<◌, ◌≤◌, ◌+◌, ◌-◌, ◌==◌, ◌&&◌, not, ℕ, zero, suc, Bool, true, false, List, [], ◌∷◌, drop, length, nat_eq, nat_le, codes, Option, Some, None, option_map, ◌⊎◌, slice_index, if◌then◌else◌}
+use Rattle.std.specs.Prelude.{◌<◌, ◌≤◌, ◌+◌, ◌-◌, ◌==◌, ◌&&◌, not, ℕ, zero, suc, Bool, true, false, List, [], ◌∷◌, drop, length, nat_eq, codes, Option, Some, None, option_map, ◌⊎◌, slice_index, if◌then◌else◌}
 use Rattle.std.specs.List.{prefix_len, position_or_len, starts_with}
 use Rattle.std.specs.Option.{option_and_then, option_map_or, is_none}
 use Rattle.lrpar_grammar_words.specs.declared.words.WordKind.{WordKind}
 use Rattle.lrpar_grammar_words.specs.declared.words.WordKind.TheVariants.{Name, Quoted}
-use Rattle.lrpar_grammar_words.specs.declared.words.Piece.{Piece}
 use Rattle.lrpar_grammar_words.specs.declared.word_order.Expected.{Expected}
 use Rattle.lrpar_grammar_words.specs.declared.word_order.Expected.TheVariants.{Declaration, MoreTokens, RuleColon, NextSymbol, TextEnd}
-use Rattle.lrpar_grammar_words.specs.Words.{is_byte_at, is_digit, piece_at}
+use Rattle.lrpar_grammar_words.specs.Words.{is_digit, piece_at}
 use Rattle.lrpar_grammar_yacc.specs.declared.code.Run.TheVariants.{Braced, Typed}
 use Rattle.lrpar_grammar_yacc.specs.declared.parts.AssocKind.TheVariants.{Left, Right, Nonassoc}
 use Rattle.lrpar_grammar_yacc.specs.declared.parts.Part.{Part}

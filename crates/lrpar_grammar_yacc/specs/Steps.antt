@@ -1,9 +1,8 @@
 -- How a `.y` file is read: by steps over blanks, words and parts. Where a grammar text may go on with a word or blanks, there is no part.
-use Rattle.std.specs.Prelude.{◌≡◌, ◌<◌, ◌≤◌, length, ◌+◌, ◌-◌, ℕ, zero, suc, List, [], ◌∷◌, ◌++◌, Option, Some, None, option_map, option_and_then}
-use Rattle.std.specs.Option.{option_map_or, option_or, option_to_list}
+use Rattle.std.specs.Prelude.{◌<◌, ◌≤◌, length, ◌+◌, ◌-◌, ℕ, zero, suc, List, [], ◌∷◌, ◌++◌, Option, Some, None, option_map, option_and_then}
+use Rattle.std.specs.Option.{option_map_or, option_or}
 use Rattle.lrpar_grammar_places.specs.Span.{Extent}
 use Rattle.lrpar_grammar_words.specs.declared.words.WordKind.{WordKind}
-use Rattle.lrpar_grammar_words.specs.declared.words.Piece.{Piece}
 use Rattle.lrpar_grammar_words.specs.declared.word_order.Expected.{Expected}
 use Rattle.lrpar_grammar_words.specs.declared.word_order.Expected.TheVariants.{Declaration, MoreTokens}
 use Rattle.lrpar_grammar_words.specs.declared.word_order.Role.{Role}
@@ -11,7 +10,6 @@ use Rattle.lrpar_grammar_words.specs.declared.word_order.Role.TheVariants.{Alter
 use Rattle.lrpar_grammar_words.specs.Words.{piece_at}
 use Rattle.lrpar_grammar_words.specs.WordOrder.{after}
 use Rattle.lrpar_grammar_yacc.specs.declared.parts.Part.{Part}
-use Rattle.lrpar_grammar_yacc.specs.declared.parts.PartKind.{PartKind}
 use Rattle.lrpar_grammar_yacc.specs.declared.parts.PartKind.TheVariants.{Action}
 use Rattle.lrpar_grammar_yacc.specs.declared.parts.YaccKind.{YaccKind}
 use Rattle.lrpar_grammar_yacc.specs.declared.steps.Step.{Step}

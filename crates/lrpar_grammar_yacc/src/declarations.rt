@@ -84,7 +84,11 @@ impl<'a> Declarations<'a> {
     ghost use Rattle.lrpar_grammar_yacc.specs.Declares.{declarations_of, nothing_declared, with_part};
 
     // What the parts of a text declare. A number that isn't one, or that is too large, is 0.
-    pub(crate) fn of_parts(alloc: Global, text: &'a str, parts: &[TextPart]) -> Result<Self, AllocError>
+    pub(crate) fn of_parts(
+        alloc: Global,
+        text: &'a str,
+        parts: &[TextPart],
+    ) -> Result<Self, AllocError>
         requires { All (IsPartOfText text.now) parts.now }
         ensures { IfOk result (λ d. declarations_of d ≡ declared_by text.now parts.now) }
     {
@@ -133,12 +137,7 @@ impl<'a> Declarations<'a> {
 
     // Adds a `%prec`.
     #[tactic(auto, unfolding(crate::specs::Declares::with_part))]
-    fn take_prec(
-        &mut self,
-        alloc: Global,
-        text: &'a str,
-        part: TextPart,
-    ) -> Result<(), AllocError>
+    fn take_prec(&mut self, alloc: Global, text: &'a str, part: TextPart) -> Result<(), AllocError>
         requires part { IsPartOfText text.now part }
         requires kind { part.kind ≡ PartKind.Prec }
         ensures { OnOk result (declarations_of self.new ≡ with_part text.now (declarations_of self.old) part) }

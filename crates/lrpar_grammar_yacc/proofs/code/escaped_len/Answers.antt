@@ -1,5 +1,5 @@
-use Rattle.std.proofs.Common.{◌≡◌, ◌+◌, false, get_or, drop, sym, ap, ◌∙◌, arith}
-use Rattle.lrpar_grammar_yacc.specs.Code.{escaped_len, is_unescaped, more}
+use Rattle.std.proofs.Common.{◌+◌, drop, sym, ap, ◌∙◌}
+use Rattle.lrpar_grammar_yacc.specs.Code.{escaped_len, more}
 use Rattle.lrpar_grammar_yacc.proofs.CodeLemmas.{escaped_more}
 use Rattle.lrpar_grammar_yacc.proofs.code.escaped_len.Goals as goal
 

@@ -1,4 +1,4 @@
-use Rattle.std.proofs.Common.{◌==◌, not, nat_eq, sym, ◌∙◌, arith}
+use Rattle.std.proofs.Common.{◌==◌, sym, arith}
 use Rattle.std.proofs.lemmas.Bool.Decides.{nat_tests}
 use Rattle.std.proofs.lemmas.List.Sums.{prefix_len_is}
 use Rattle.lrpar_grammar_yacc.proofs.code.hashes_len.Goals as goal

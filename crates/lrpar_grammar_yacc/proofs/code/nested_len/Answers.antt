@@ -27,25 +27,25 @@ loop-i-preserved c =
     λ d p same_d same_p is. is ∙ ap (λ d. more (i + 1) (nested_len d p (drop (i + 1) text))) (sym same_d) ∙ ap (λ p. more (i + 1) (nested_len now.depth p (drop (i + 1) text))) (sym same_p) in
     elim now.branch [
       | then-paired w ↦ record {
-          few = omega (arith, w.depth-is, c.loop-i.invariant.few);
-          len = is_now d false w.depth-is w.paired-is (c.loop-i.invariant.len ∙ nested_paired d p text i within w.if-paired.true);
-        }
+        few = omega (arith, w.depth-is, c.loop-i.invariant.few);
+        len = is_now d false w.depth-is w.paired-is (c.loop-i.invariant.len ∙ nested_paired d p text i within w.if-paired.true);
+      }
       | else-paired+then-starts_with+else-depth-eq0 w ↦ record {
-          few = omega (arith, w.depth-is, c.loop-i.invariant.few);
-          len = is_now (d - 1) true w.depth-is w.paired-is (c.loop-i.invariant.len
-              ∙ nested_close d p text i within w.if-paired.false (shuts ∙ sym w.starts_with.ensures.value ∙ w.if-starts_with.true) (eqb_no d w.if-depth-eq0.false));
-        }
+        few = omega (arith, w.depth-is, c.loop-i.invariant.few);
+        len = is_now (d - 1) true w.depth-is w.paired-is (c.loop-i.invariant.len
+            ∙ nested_close d p text i within w.if-paired.false (shuts ∙ sym w.starts_with.ensures.value ∙ w.if-starts_with.true) (eqb_no d w.if-depth-eq0.false));
+      }
       | else-paired+else-starts_with+then-starts_with-2 w ↦ record {
-          few = omega (arith, w.depth-is, c.loop-i.invariant.few);
-          len = is_now (d + 1) true w.depth-is w.paired-is (c.loop-i.invariant.len
-              ∙ nested_start d p text i within w.if-paired.false (shuts ∙ sym w.starts_with.ensures.value ∙ w.if-starts_with.false)
-              (starts ∙ sym w.starts_with-else-starts_with.ensures.value ∙ w.if-starts_with-2.true));
-        }
+        few = omega (arith, w.depth-is, c.loop-i.invariant.few);
+        len = is_now (d + 1) true w.depth-is w.paired-is (c.loop-i.invariant.len
+            ∙ nested_start d p text i within w.if-paired.false (shuts ∙ sym w.starts_with.ensures.value ∙ w.if-starts_with.false)
+            (starts ∙ sym w.starts_with-else-starts_with.ensures.value ∙ w.if-starts_with-2.true));
+      }
       | else-paired+else-starts_with+else-starts_with-2 w ↦ record {
-          few = omega (arith, w.depth-is, c.loop-i.invariant.few);
-          len = is_now d p w.depth-is w.paired-is (c.loop-i.invariant.len
-              ∙ nested_plain d p text i within w.if-paired.false (shuts ∙ sym w.starts_with.ensures.value ∙ w.if-starts_with.false)
-              (starts ∙ sym w.starts_with-else-starts_with.ensures.value ∙ w.if-starts_with-2.false)
-              ∙ ap (λ p. more (i + 1) (nested_len d p (drop (i + 1) text))) (sym w.if-paired.false));
-        }
+        few = omega (arith, w.depth-is, c.loop-i.invariant.few);
+        len = is_now d p w.depth-is w.paired-is (c.loop-i.invariant.len
+            ∙ nested_plain d p text i within w.if-paired.false (shuts ∙ sym w.starts_with.ensures.value ∙ w.if-starts_with.false)
+            (starts ∙ sym w.starts_with-else-starts_with.ensures.value ∙ w.if-starts_with-2.false)
+            ∙ ap (λ p. more (i + 1) (nested_len d p (drop (i + 1) text))) (sym w.if-paired.false));
+      }
     ]

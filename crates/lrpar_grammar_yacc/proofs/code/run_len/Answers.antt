@@ -1,6 +1,6 @@
-use Rattle.std.proofs.Common.{◌≡◌, ◌<◌, ◌≤◌, ◌+◌, ◌-◌, length, length-drop, take, drop, Some, get_or, sym, ap, ◌∙◌, arith}
+use Rattle.std.proofs.Common.{◌≡◌, ◌≤◌, ◌+◌, ◌-◌, length, length-drop, take, drop, Some, get_or, sym, ap, ◌∙◌, arith}
 use Rattle.std.proofs.lemmas.List.{take_all}
-use Rattle.lrpar_grammar_yacc.specs.Code.{depth_after, more, piece_len, run_len}
+use Rattle.lrpar_grammar_yacc.specs.Code.{more, piece_len, run_len}
 use Rattle.lrpar_grammar_yacc.proofs.CodeLemmas.{run_more}
 use Rattle.lrpar_grammar_yacc.proofs.code.run_len.Goals as goal
 
@@ -17,5 +17,5 @@ loop-place-preserved c =
       within = few;
       few = omega (arith, fits.0, c.loop-place.invariant.few, c.depth_after-depth.ensures.few);
       len = c.loop-place.invariant.len ∙ run_more c.args.run c.loop-place.depth text place len c.loop-place-test.true fits.0 few piece (sym c.is_end.ensures ∙ c.if-is_end.false)
-      ∙ ap (λ d. more (place + len) (run_len c.args.run d 0 (drop (place + len) text))) (sym c.depth_after-depth.ensures.depth);
+          ∙ ap (λ d. more (place + len) (run_len c.args.run d 0 (drop (place + len) text))) (sym c.depth_after-depth.ensures.depth);
     }

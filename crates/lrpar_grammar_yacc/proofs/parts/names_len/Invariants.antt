@@ -1,4 +1,4 @@
-use Rattle.std.proofs.Common.{◌≡◌, ◌<◌, ◌≤◌, ◌+◌, ◌-◌, drop, get_or, length}
+use Rattle.std.proofs.Common.{◌≡◌, ◌<◌, ◌≤◌, ◌-◌, drop, get_or, length}
 use Rattle.lrpar_grammar_yacc.specs.Parts.{names_from}
 use Rattle.lrpar_grammar_yacc.proofs.parts.names_len.Given as goal
 

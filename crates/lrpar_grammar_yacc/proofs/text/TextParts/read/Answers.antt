@@ -1,13 +1,13 @@
-use Rattle.std.proofs.Common.{◌≡◌, ◌≤◌, ◌+◌, ◌-◌, ◌++◌, ◌∷◌, Some, None, drop, length, length-drop, take, refl, ap, sym, subst, ◌∙◌, arith}
+use Rattle.std.proofs.Common.{◌≡◌, ◌≤◌, ◌+◌, ◌-◌, ◌++◌, Some, drop, length, length-drop, take, refl, ap, sym, subst, ◌∙◌, arith}
 use Rattle.std.specs.Option.{option_or}
 use Rattle.std.specs.Str.{IsCharBoundary}
-use Rattle.std.proofs.lemmas.List.{append_assoc, append-nil, take_all}
+use Rattle.std.proofs.lemmas.List.{append_assoc, take_all}
 use Rattle.std.proofs.lemmas.Str.{IsCharBoundary-start}
 use Rattle.lrpar_grammar_yacc.specs.Erasure.{AreApart}
 use Rattle.lrpar_grammar_yacc.specs.Parts.{EndsAtAscii}
 use Rattle.lrpar_grammar_yacc.specs.Steps.{action_after, ends, mid_before, mid_from, part_of, parts_from, parts_of, step_at, steps_from}
 use Rattle.lrpar_grammar_yacc.proofs.EndLemmas.{ends_boundary}
-use Rattle.lrpar_grammar_yacc.proofs.StepLemmas.{apart_step, end_after, or_or, steps_more, steps_none}
+use Rattle.lrpar_grammar_yacc.proofs.StepLemmas.{apart_step, end_after, or_or, steps_more}
 use Rattle.lrpar_grammar_yacc.proofs.text.TextParts.read.Goals as goal
 
 pub loop-step-init : goal.loop-step-init
