@@ -5,3 +5,4 @@ pub mod StepLemmas
 pub mod DeclareLemmas
 pub mod OwnLemmas
 pub mod FaultLemmas
+pub mod BlankLemmas

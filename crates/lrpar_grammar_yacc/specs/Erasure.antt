@@ -1,5 +1,5 @@
 -- The erasure of a `.y` file: the same bytes, with blanks in place of the parts that a grammar text doesn't have.
-use Rattle.std.specs.Prelude.{◌≤◌, ◌==◌, ℕ, List, [], ◌∷◌, ◌++◌, drop, map, slice_range, if◌then◌else◌}
+use Rattle.std.specs.Prelude.{◌≡◌, ◌≤◌, ◌==◌, ℕ, List, [], ◌∷◌, ◌++◌, drop, map, slice_range, ◌⊎◌, if◌then◌else◌}
 use Rattle.std.specs.Str.{IsCharBoundary}
 use Rattle.lrpar_grammar_yacc.specs.declared.parts.YaccKind.{YaccKind}
 use Rattle.lrpar_grammar_yacc.specs.declared.text.TextPart.{TextPart}
@@ -33,3 +33,9 @@ pub record IsPartOfText (text : List ℕ) (x : TextPart) : Type 0 where
 abbrev pub AreApart : List ℕ → ℕ → List TextPart → Type 0
 AreApart text place [] = IsCharBoundary text place
 AreApart text place (x ∷ xs) = IsCharBoundary text place × (place ≤ x.start) × IsPartOfText text x × AreApart text x.end xs
+
+-- each byte is the same, or the blank for it
+abbrev pub AreBlanked : List ℕ → List ℕ → Type 0
+AreBlanked [] [] = Unit {0}
+AreBlanked (c ∷ s) (d ∷ t) = ((d ≡ c) ⊎ (d ≡ blank_for c)) × AreBlanked s t
+AreBlanked _ _ = ⊥

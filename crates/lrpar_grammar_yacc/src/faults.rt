@@ -4,7 +4,7 @@ ghost use Rattle.std.specs.List.{flat_map};
 ghost use Rattle.lrpar_grammar_words.specs.Words.{placed};
 ghost use Rattle.lrpar_grammar_yacc.specs.declared.faults.YaccFault.TheVariants.{BadNumber, Memory, MidRuleAction, RepeatedPrec, RepeatedPrecedence};
 ghost use Rattle.lrpar_grammar_yacc.specs.Declares.{declarations, declarations_of, declared_by, level_of, prec_of};
-ghost use Rattle.lrpar_grammar_yacc.specs.Erasure.{IsPartOfText, erasure};
+ghost use Rattle.lrpar_grammar_yacc.specs.Erasure.{AreBlanked, IsPartOfText, erasure};
 ghost use Rattle.lrpar_grammar_yacc.specs.Faults.{IsFaultOf, bad_number, earlier, fault_by, first_fault, has_bad_number, has_number, is_same, place_of, repeated_after, repeated_name, repeated_prec};
 
 use crate::declarations::{Declarations, Level, Prec, number_of};
@@ -79,6 +79,7 @@ impl<'a> YaccText<'a> {
     /// Takes memory linear in the text, and time linear in it but for names with precedences: each is looked up in logarithmic time.
     pub fn read(alloc: Global, kind: YaccKind, text: &'a str) -> Result<Self, YaccFault>
         ensures erased { IfOk result (λ y. string_bytes y.erased ≡ erasure kind text.now) }
+        ensures places { IfOk result (λ y. AreBlanked text.now (string_bytes y.erased)) }
         ensures declared { IfOk result (λ y. declarations_of y.declarations ≡ declarations kind text.now) }
         ensures sound { OnOk result (first_fault kind text.now ≡ None) }
         ensures faulty { IfErr result (IsFaultOf kind text.now) }
