@@ -4,7 +4,7 @@ use Rattle.std.specs.Option.{option_map_or, option_or}
 use Rattle.lrpar_grammar_places.specs.Span.{Extent}
 use Rattle.lrpar_grammar_words.specs.declared.words.WordKind.{WordKind}
 use Rattle.lrpar_grammar_words.specs.declared.word_order.Expected.{Expected}
-use Rattle.lrpar_grammar_words.specs.declared.word_order.Expected.TheVariants.{Declaration, MoreTokens}
+use Rattle.lrpar_grammar_words.specs.declared.word_order.Expected.TheVariants.{Declaration}
 use Rattle.lrpar_grammar_words.specs.declared.word_order.Role.{Role}
 use Rattle.lrpar_grammar_words.specs.declared.word_order.Role.TheVariants.{AlternativeEnd}
 use Rattle.lrpar_grammar_words.specs.Words.{piece_at}
@@ -32,14 +32,9 @@ abbrev pub piece_step : Expected → ℕ → Option WordKind → Option Step
 piece_step expected len None = Some (word_step Blank len expected)
 piece_step expected len (Some word) = option_map (λ (r : Role × Expected). word_step (word_kind r.0) len r.1) (after expected word)
 
--- what is allowed after a part
-abbrev pub after_part : Expected → Expected
-after_part MoreTokens = Declaration
-after_part expected = expected
-
--- the step over a part
+-- the step over a part, after which the same is allowed as before it
 abbrev pub part_step : Expected → Part → Step
-part_step expected x = record { kind = PartStep x.kind; head = x.head; len = x.len; next = after_part expected }
+part_step expected x = record { kind = PartStep x.kind; head = x.head; len = x.len; next = expected }
 
 -- the step at the start of s, where words as expected are allowed: over the blanks or the word there or, if there is none that is
 -- allowed, over the part

@@ -3,7 +3,7 @@ ghost use Rattle.std.specs.Prelude.{◌≡◌, IfSome};
 ghost use Rattle.std.specs.Option.{option_and_then};
 ghost use Rattle.lrpar_grammar_words.specs.Words.{piece_at};
 ghost use Rattle.lrpar_grammar_yacc.specs.Parts.{IsPartWithin};
-ghost use Rattle.lrpar_grammar_yacc.specs.Steps.{IsStepWithin, after_part, part_step, piece_step, step_at, word_kind, word_step};
+ghost use Rattle.lrpar_grammar_yacc.specs.Steps.{IsStepWithin, part_step, piece_step, step_at, word_kind, word_step};
 
 use crate::parts::{Part, PartKind, YaccKind, part_at};
 use lrpar_grammar_words::word_order::{Expected, Role};
@@ -85,7 +85,7 @@ fn word_kind(role: Role) -> StepKind
     }
 }
 
-// The step over a part.
+// The step over a part. What is allowed stays the same.
 fn part_step(expected: Expected, part: Part) -> Step
     ensures { result ≡ part_step expected part }
 {
@@ -93,16 +93,6 @@ fn part_step(expected: Expected, part: Part) -> Step
         kind: StepKind::Part(part.kind),
         head: part.head,
         len: part.len,
-        next: after_part(expected),
-    }
-}
-
-// What is allowed after a part.
-fn after_part(expected: Expected) -> Expected
-    ensures { result ≡ after_part expected }
-{
-    match expected {
-        Expected::MoreTokens => Expected::Declaration,
-        _ => expected,
+        next: expected,
     }
 }

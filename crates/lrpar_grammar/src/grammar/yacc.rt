@@ -127,10 +127,12 @@ fn unknown_token<StorageT: StorageIndex>(
     ensures { IfOk result (λ found. found ≡ unknown_token grm.now (declarations_of declarations.now)) }
 {
     let mut names = token_list(alloc, grm)?;
-    let avoided = unknown_word(&declarations.avoided, &known(alloc, &names)?);
+    let tokens = known(alloc, &names)?;
+    let avoided = unknown_word(&declarations.avoided, &tokens);
     push_levels(&mut names, &declarations.levels)?;
+    let all = known(alloc, &names)?;
     let words = prec_words(alloc, &declarations.precs)?;
-    let prec = unknown_word(&words, &known(alloc, &names)?);
+    let prec = unknown_word(&words, &all);
     Ok(first_of(&prec, &avoided))
 }
 
