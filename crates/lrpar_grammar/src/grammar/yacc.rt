@@ -1,5 +1,5 @@
 //! The grammar of a `.y` file, and what the file declares beside it.
-ghost use Rattle.std.specs.Prelude.{◌≡◌, ◌++◌, List, ℕ, IfErr, IfOk, OnOk, map};
+ghost use Rattle.std.specs.Prelude.{◌≡◌, ◌++◌, List, ℕ, IfErr, IfOk, OnOk, map, string_bytes};
 ghost use Rattle.lrpar_grammar_reader.specs.SpansFit.{SpansFit};
 ghost use Rattle.lrpar_grammar_words.specs.Words.{placed};
 ghost use Rattle.lrpar_grammar_yacc.specs.Declares.{declarations, declarations_of, level_of, prec_of};
@@ -22,19 +22,16 @@ use thiserror::Error;
 pub struct YaccFile<'a, StorageT: StorageIndex> {
     /// The grammar.
     pub grammar: YaccGrammar<StorageT>,
-    /// What else the file declares.
-    pub declarations: Declarations<'a>,
+    /// The erased file, and what it declares beside the grammar.
+    pub text: YaccText<'a>,
 }
 
 // Hand-written, so that code that drops a file needs the proof of one call only.
 impl<'a, StorageT: StorageIndex> Drop for YaccFile<'a, StorageT> {
     fn drop(self) {
-        let YaccFile {
-            grammar,
-            declarations,
-        } = self;
+        let YaccFile { grammar, text } = self;
         drop(grammar);
-        drop(declarations);
+        drop(text);
     }
 }
 
@@ -100,29 +97,24 @@ impl<StorageT: StorageIndex> YaccGrammar<StorageT> {
         ensures file { IfOk result (λ y. IsFileOf kind text.now y.grammar) }
         ensures well_formed { IfOk result (λ y. IsWellFormed y.grammar) }
         ensures fits { IfOk result (λ y. SpansFit y.grammar (erasure kind text.now)) }
-        ensures declared { IfOk result (λ y. declarations_of y.declarations ≡ declarations kind text.now) }
+        ensures erased { IfOk result (λ y. string_bytes y.text.erased ≡ erasure kind text.now) }
+        ensures declared { IfOk result (λ y. declarations_of y.text.declarations ≡ declarations kind text.now) }
         ensures faulty { IfErr result (IsFileFault StorageT.limit kind text.now) }
     {
-        let YaccText {
-            erased,
-            declarations,
-        } = YaccText::read(alloc, kind, text)?;
-        let grammar = YaccGrammar::new_with_storaget(alloc, erased.as_str())?;
-        match unknown_token(alloc, &grammar, &declarations)? {
+        let text = YaccText::read(alloc, kind, text)?;
+        let grammar = YaccGrammar::new_with_storaget(alloc, text.erased.as_str())?;
+        match unknown_token(alloc, &grammar, &text.declarations)? {
             Some(span) => Err(YaccFileFault::UnknownToken(span)),
-            None => Ok(YaccFile {
-                grammar,
-                declarations,
-            }),
+            None => Ok(YaccFile { grammar, text }),
         }
     }
 }
 
 // The first name that a file declares something of, and that the grammar doesn't know.
-fn unknown_token<StorageT: StorageIndex>(
+fn unknown_token<'a, StorageT: StorageIndex>(
     alloc: Global,
-    grm: &YaccGrammar<StorageT>,
-    declarations: &Declarations,
+    grm: &'a YaccGrammar<StorageT>,
+    declarations: &'a Declarations<'a>,
 ) -> Result<Option<Span>, AllocError>
     ensures { IfOk result (λ found. found ≡ unknown_token grm.now (declarations_of declarations.now)) }
 {
