@@ -1,7 +1,6 @@
 -- An erased text has the places of the text.
-use Rattle.std.proofs.Common.{inl, inr, ◌≡◌, ◌≤◌, ◌+◌, ◌-◌, ◌++◌, ℕ, List, [], ◌∷◌, drop, length, take, refl, ap, sym, subst, ◌∙◌, arith}
+use Rattle.std.proofs.Common.{inl, inr, ◌≡◌, ◌≤◌, ◌+◌, ◌-◌, ◌++◌, ℕ, List, [], ◌∷◌, drop, refl, ap, sym, subst, ◌∙◌, arith}
 use Rattle.std.specs.List.{slice_range}
-use Rattle.std.specs.Str.{IsCharBoundary}
 use Rattle.std.proofs.lemmas.List.{drop-drop, take-append-drop}
 use Rattle.lrpar_grammar_yacc.specs.declared.text.TextPart.{TextPart}
 use Rattle.lrpar_grammar_yacc.specs.Erasure.{AreApart, AreBlanked, blanks, erased_from}

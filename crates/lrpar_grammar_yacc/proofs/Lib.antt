@@ -6,3 +6,4 @@ pub mod DeclareLemmas
 pub mod OwnLemmas
 pub mod FaultLemmas
 pub mod BlankLemmas
+pub mod LiteralLemmas

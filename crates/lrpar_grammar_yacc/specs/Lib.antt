@@ -5,3 +5,4 @@ pub mod Erasure
 pub mod Declares
 pub mod Faults
 pub mod Laws
+pub mod Literals
