@@ -4,23 +4,26 @@ use Rattle.std.specs.List.{Contains}
 use Rattle.std.specs.Map.{lookup}
 use Rattle.std.proofs.lemmas.List.{length-map}
 use Rattle.lrpar_grammar.specs.Grammar.{Grammar, GrammarSymbol, IsWellFormed, Nonterminal, Terminal, end_token, prod_len, start_prod, tokens_len}
+use Rattle.lrpar_table_precedence.specs.Precedence.{PrecedenceLists, no_precedences}
+use Rattle.lrpar_table_rows.specs.ConflictsFit.{ReductionsFit, ShiftFits}
 use Rattle.lrpar_table_rows.specs.Graph.{Graph, HasItem, ItemOf, graph_len, item_at}
-use Rattle.lrpar_table_rows.specs.Table.{IsTable}
+use Rattle.lrpar_table_rows.specs.Table.{IsTable, ResolvedOf, Table}
 use Rattle.lrpar_table_rows.proofs.EntryLemmas.{no_action_after, no_action_past, no_goto_past}
-use Rattle.lrpar_table_build.specs.BuilderLaws.{AcceptAlone, IsCanonicalTable}
-use Rattle.lrpar_table_build.specs.Built.{IsBuildRefusal, IsBuilt}
+use Rattle.lrpar_table_build.specs.BuilderLaws.{AcceptAlone, AreConflictsOf, IsCanonicalTableBy, lists_in}
+use Rattle.lrpar_table_build.specs.Built.{IsBuildRefusal, IsBuilt, IsBuiltBy, ResolvedFits}
 use Rattle.lrpar_table_items.specs.Canonical.{AreCanonical, AreSame, IsAcceptConflict, IsCanonical, IsTransition, HasAccept, sets_of}
 use Rattle.lrpar_table_items.specs.StateRows.{IsRefusalOf, IsRefusedState, item_rows, table_of_states}
 use Rattle.lrpar_table_items.specs.States.{AreStates, StateOf, sets_at, state_at}
 use Rattle.lrpar_table_items.specs.Resolution.{IsAcceptReduce, is_complete_at, reductions}
 use Rattle.lrpar_table_items.specs.declared.fault.BuildFault.{BuildFault}
 use Rattle.lrpar_table_items.specs.declared.fault.BuildFault.TheVariants.{AcceptReduceConflict, Memory, StorageTooSmall, TooManyStates}
-use Rattle.lrpar_table_build.proofs.ConflictLemmas.{canonical_conflicts_fit, no_conflicts_are_one_action}
-use Rattle.lrpar_table_build.proofs.ListedLemmas.{conflicts_are, in_order}
+use Rattle.lrpar_table_build.proofs.ConflictLemmas.{all_contained, no_conflicts_are_one_action, reductions_fit, shift_fits}
+use Rattle.lrpar_table_build.proofs.DecidedLemmas.{acts_without}
+use Rattle.lrpar_table_build.proofs.ListedLemmas.{conflicts_are, in_order, resolved_are, resolved_in_order}
 use Rattle.lrpar_table_build.proofs.MemberLemmas.{member_first, member_none}
 use Rattle.lrpar_table_build.proofs.ReachedLemmas.{no_end_token, reached_at_end}
-use Rattle.lrpar_table_build.proofs.ReductionLemmas.{accept_is, acts_as_resolved, goes_as_items, candidate_is}
-use Rattle.lrpar_table_build.proofs.SafeLemmas.{canonical_tables_are_safe}
+use Rattle.lrpar_table_build.proofs.ReductionLemmas.{accept_is, acts_by_precedence, goes_as_items, candidate_is}
+use Rattle.lrpar_table_build.proofs.SafeLemmas.{tables_by_precedence_are_safe}
 use Rattle.lrpar_table_build.proofs.SetLemmas.{canonical_same, graph_same, rows_same, same_on, step_same}
 use Rattle.lrpar_table_build.proofs.TableRowLemmas.{action_is, goto_is}
 
@@ -98,8 +101,8 @@ build_refusal g well states are most limit Memory h = tt
 build_refusal g well states are most limit TooManyStates h = absurd h
 build_refusal g well states are most limit StorageTooSmall h = absurd h
 
-module _ (g : Grammar) (well : IsWellFormed g) (states : List StateOf) (are : AreStates g states) (graph : Graph) (len : graph_len graph ≡ length states)
-    (items : (s p k t : ℕ) → HasItem graph s p k t ↔ HasItem (item_rows g states) s p k t) where
+module _ (precedences : PrecedenceLists) (g : Grammar) (well : IsWellFormed g) (states : List StateOf) (are : AreStates g states) (graph : Graph)
+    (len : graph_len graph ≡ length states) (items : (s p k t : ℕ) → HasItem graph s p k t ↔ HasItem (item_rows g states) s p k t) where
   -- the graph has the sets of the states
   graph_sets : (s : ℕ) → AreSame (sets_of graph s) (sets_at states s)
   graph_sets s =
@@ -112,9 +115,9 @@ module _ (g : Grammar) (well : IsWellFormed g) (states : List StateOf) (are : Ar
       (canonical_same g (sets_of graph) (sets_at states) graph_sets (length states) are.canonical)
 
   -- each state of the table has the actions of its set after conflict resolution
-  graph_table : (limit : ℕ) → IsTable limit (table_of_states g states) → IsCanonicalTable g graph (table_of_states g states)
+  graph_table : (limit : ℕ) → IsTable limit (table_of_states precedences g states) → IsCanonicalTableBy g precedences graph (table_of_states precedences g states)
   graph_table limit is =
-      let table = table_of_states g states in
+      let table = table_of_states precedences g states in
       record {
         states = len;
         start = refl;
@@ -123,36 +126,93 @@ module _ (g : Grammar) (well : IsWellFormed g) (states : List StateOf) (are : Ar
         acts = λ s t below within.
             let cores = (state_at states s).cores in
             let shifts = (state_at states s).shifts in
-            acts_as_resolved g (sets_of graph) s cores (are.cores s below) (graph_sets s) (length states) t table (lookup (nat_eq t) shifts) (reductions g cores t)
-            (is_complete_at g cores t (start_prod g)) (start_len g well)
+            acts_by_precedence g (sets_of graph) s cores (are.cores s below) (graph_sets s) precedences (length states) t table (lookup (nat_eq t) shifts)
+            (reductions g cores t) (is_complete_at g cores t (start_prod g)) (start_len g well)
             (step_same g (sets_of graph) (sets_at states) graph_sets (length states) s (Terminal t) (lookup (nat_eq t) shifts) (are.shifts s t below)) refl refl
-            (action_is g states are well s t below within);
+            (action_is g states are well precedences s t below within);
         goes = λ s r below within.
             let gotos = (state_at states s).gotos in
             goes_as_items g (sets_of graph) (length states) s r table (lookup (nat_eq r) gotos)
             (step_same g (sets_of graph) (sets_at states) graph_sets (length states) s (Nonterminal r) (lookup (nat_eq r) gotos) (are.gotos s r below))
-            (goto_is g states are well s r below);
+            (goto_is g states are well table s r below refl);
         no_state = no_action_after limit table is;
         no_token = no_action_past limit table is;
         no_rule = no_goto_past limit table is;
       }
 
   -- so both are built
-  pub is_built : (limit : ℕ) → IsTable limit (table_of_states g states)
+  pub is_built : (limit : ℕ) → IsTable limit (table_of_states precedences g states)
       → ((s t : ℕ) → s < length states → t < tokens_len g → ¬ (IsAcceptReduce g (state_at states s).cores (state_at states s).shifts t))
-      → IsBuilt g graph (table_of_states g states)
+      → IsBuiltBy g precedences graph (table_of_states precedences g states)
   is_built limit is none =
-      let table = table_of_states g states in
-      let conflicts = conflicts_are g states are graph len graph_sets in
+      let table = table_of_states precedences g states in
+      let lists = lists_in table.conflicts in
+      let conflicts = conflicts_are precedences g states are graph len graph_sets in
+      let resolved = resolved_are precedences g states are graph len graph_sets in
       let alone : AcceptAlone g (graph_len graph) (sets_of graph) =
       subst (λ n. AcceptAlone g n (sets_of graph)) (sym len) (accept_alone g well states are (sets_of graph) graph_sets none) in
       record {
         canonical = graph_canonical;
-        resolved = graph_table limit is;
-        safe = canonical_tables_are_safe g graph table well graph_canonical (graph_table limit is);
+        resolution = graph_table limit is;
+        safe = tables_by_precedence_are_safe g precedences graph table well graph_canonical (graph_table limit is);
         conflicts = conflicts;
-        in_order = in_order g states (length states);
-        fit = canonical_conflicts_fit g graph table.conflicts well graph_canonical conflicts;
-        no_conflicts = no_conflicts_are_one_action g graph table.conflicts well graph_canonical conflicts alone;
+        in_order = in_order precedences g states (length states);
+        fit = record {
+          reduce_reduce = all_contained (ReductionsFit g) lists.reduce_reduce (λ x there.
+              let found = (conflicts.reduce_reduce x).0 there in reductions_fit g graph well graph_canonical x found.0 found.1 found.2);
+          shift_reduce = all_contained (ShiftFits g) lists.shift_reduce (λ x there.
+              let found = (conflicts.shift_reduce x).0 there in shift_fits g graph well graph_canonical x found.0 found.2.0);
+        };
+        resolved = resolved;
+        resolved_in_order = resolved_in_order precedences g states (length states);
+        resolved_fit = all_contained (ResolvedFits g) table.resolved (λ x there.
+            let found = (resolved x).0 there in shift_fits g graph well graph_canonical x.conflict found.0 found.2.0);
         accept_alone = alone;
+      }
+
+-- without precedences nothing is resolved
+none_resolved : (xs : List ResolvedOf) → ((x : ResolvedOf) → Contains xs x → ⊥) → xs ≡ []
+none_resolved [] none = refl
+none_resolved (x ∷ xs) none = absurd (none x (member_first x xs))
+
+module _ (g : Grammar) (graph : Graph) (table : Table) (well : IsWellFormed g) (built : IsBuiltBy g no_precedences graph table) where
+  pub nothing_resolved : table.resolved ≡ []
+  nothing_resolved = none_resolved table.resolved (λ x there. let decided = ((built.resolved x).0 there).2.1 in absurd (cc))
+
+  -- so the conflicts are all conflicts of the sets
+  all_conflicts : AreConflictsOf g graph table.conflicts
+  all_conflicts =
+      let conflicts = built.conflicts in
+      record {
+        reduce_reduce = conflicts.reduce_reduce;
+        shift_reduce = λ x. (
+          λ h. let found = (conflicts.shift_reduce x).0 h in (found.0, found.1, found.2.0),
+          λ h. (conflicts.shift_reduce x).1 (h.0, h.1, (h.2, refl)),
+        );
+        some = conflicts.some;
+      }
+
+  -- and what is built by no precedences is built without them
+  pub built_without : IsBuilt g graph table
+  built_without =
+      let by = built.resolution in
+      record {
+        canonical = built.canonical;
+        resolved = record {
+          states = by.states;
+          start = by.start;
+          tokens = by.tokens;
+          rules = by.rules;
+          acts = λ s t below within. acts_without g graph s table t (by.acts s t below within);
+          goes = by.goes;
+          no_state = by.no_state;
+          no_token = by.no_token;
+          no_rule = by.no_rule;
+        };
+        safe = built.safe;
+        conflicts = all_conflicts;
+        in_order = built.in_order;
+        fit = built.fit;
+        no_conflicts = no_conflicts_are_one_action g graph table.conflicts well built.canonical all_conflicts built.accept_alone;
+        accept_alone = built.accept_alone;
       }

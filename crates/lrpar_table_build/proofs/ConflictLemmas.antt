@@ -4,13 +4,13 @@ use Rattle.std.proofs.Common.{◌≡◌, ◌≢◌, ◌<◌, ◌+◌, refl, sym,
 use Rattle.std.specs.List.{Contains}
 use Rattle.std.proofs.lemmas.Bool.{cases_eq}
 use Rattle.std.proofs.lemmas.List.Elements.{All-contains_itself}
-use Rattle.lrpar_grammar.specs.Grammar.{Grammar, IsWellFormed, Terminal, end_token, prod_len, prods_len, start_prod}
+use Rattle.lrpar_grammar.specs.Grammar.{Grammar, IsWellFormed, Terminal, end_token, prod_len, start_prod, tokens_len}
 use Rattle.lrpar_table_rows.specs.ConflictsFit.{ReductionsFit, ShiftFits}
 use Rattle.lrpar_table_rows.specs.Graph.{Graph, ItemOf, graph_len, item_at}
 use Rattle.lrpar_table_rows.specs.Safe.{IsItem}
 use Rattle.lrpar_table_rows.specs.Table.{Accepts, ConflictLists, Fails, ReduceBy, ReduceReduce, ShiftReduce, ShiftTo}
 use Rattle.lrpar_table_build.specs.BuilderLaws.{AcceptAlone, AreConflictsOf, CanonicalConflictsFit, NoConflictsAreOneAction, HaveOneAction, lists_in}
-use Rattle.lrpar_table_items.specs.Canonical.{IsCanonical, IsTransition, HasAfterDot, HasAccept, HasFirstReduce, HasReduce, sets_of}
+use Rattle.lrpar_table_items.specs.Canonical.{IsCanonical, IsReduceConflict, IsShiftConflict, IsTransition, HasAfterDot, HasAccept, HasFirstReduce, HasReduce, sets_of}
 use Rattle.lrpar_table_items.specs.ItemSets.{IsReachedBy, Own}
 use Rattle.lrpar_table_build.proofs.DecidedLemmas.{first_reduction}
 use Rattle.lrpar_table_build.proofs.ReachedLemmas.{no_end_token, reached_at_end, reached_items, symbol_listed}
@@ -163,27 +163,32 @@ no_conflicts_are_one_action g graph conflicts well canonical are alone = (
 )
 
 -- what holds of all that a list contains holds of each element
-all_contained : {X : Type 0} (P : X → Type 0) (xs : List X) → ((x : X) → Contains xs x → P x) → All P xs
+pub all_contained : {X : Type 0} (P : X → Type 0) (xs : List X) → ((x : X) → Contains xs x → P x) → All P xs
 all_contained P xs each i d below = each (slice_index_or xs i d) (All-contains_itself xs i d below)
+
+module _ (g : Grammar) (graph : Graph) (well : IsWellFormed g) (canonical : IsCanonical g graph) where
+  -- a conflict of a state fits
+  pub reductions_fit : (x : ReduceReduce) → x.state < graph_len graph → x.token < tokens_len g → IsReduceConflict g (sets_of graph) x → ReductionsFit g x
+  reductions_fit x within token conflict = record {
+    token = token;
+    first = (item_known g graph well canonical x.state x.first (prod_len g x.first) x.token within conflict.0.0.1).prod;
+    second = (item_known g graph well canonical x.state x.second (prod_len g x.second) x.token within conflict.1.1).prod;
+  }
+
+  pub shift_fits : (x : ShiftReduce) → x.state < graph_len graph → IsShiftConflict g (sets_of graph) x → ShiftFits g x
+  shift_fits x within conflict =
+      let before = conflict.0 in
+      record {
+        token = symbol_listed g well before.0.prod before.0.dot (Terminal x.token) before.2;
+        prod = (item_known g graph well canonical x.state x.prod (prod_len g x.prod) x.token within conflict.1.0.1).prod;
+      }
 
 pub canonical_conflicts_fit : CanonicalConflictsFit
 canonical_conflicts_fit g graph conflicts well canonical are =
     let lists = lists_in conflicts in
-    let known : (s t p : ℕ) → s < graph_len graph → HasReduce g (sets_of graph) s t p → p < prods_len g = λ s t p within candidate.
-    (item_known g graph well canonical s p (prod_len g p) t within candidate.1).prod in
     record {
       reduce_reduce = all_contained (ReductionsFit g) lists.reduce_reduce (λ x there.
-          let found = (are.reduce_reduce x).0 there in
-          record {
-            token = found.1;
-            first = known x.state x.token x.first found.0 found.2.0.0;
-            second = known x.state x.token x.second found.0 found.2.1;
-          });
+          let found = (are.reduce_reduce x).0 there in reductions_fit g graph well canonical x found.0 found.1 found.2);
       shift_reduce = all_contained (ShiftFits g) lists.shift_reduce (λ x there.
-          let found = (are.shift_reduce x).0 there in
-          let before = found.2.0 in
-          record {
-            token = symbol_listed g well before.0.prod before.0.dot (Terminal x.token) before.2;
-            prod = known x.state x.token x.prod found.0 found.2.1.0;
-          });
+          let found = (are.shift_reduce x).0 there in shift_fits g graph well canonical x found.0 found.2);
     }

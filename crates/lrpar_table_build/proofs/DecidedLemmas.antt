@@ -3,10 +3,14 @@ use Rattle.std.proofs.Common.{◌≡◌, ◌≢◌, ◌<◌, ◌≤◌, ◌+◌,
 use Rattle.std.specs.List.{Contains, list_any}
 use Rattle.std.proofs.lemmas.Bool.{cases_Bool, cases_eq, cases_lt, false≢true}
 use Rattle.lrpar_grammar.specs.Grammar.{Grammar, GrammarSymbol, Nonterminal, Terminal, prod_len, start_prod, symbols_of}
+use Rattle.lrpar_table_precedence.specs.Precedence.{PrecedenceLists, no_precedences, resolution_of}
+use Rattle.lrpar_table_precedence.specs.declared.precedence.Resolution.{Resolution}
+use Rattle.lrpar_table_precedence.specs.declared.precedence.Resolution.TheVariants.{Shift, Reduce, Error}
+use Rattle.lrpar_table_items.specs.Resolution.{chosen}
 use Rattle.lrpar_table_rows.specs.Graph.{Graph, ItemOf, item_at, items_of}
 use Rattle.lrpar_table_rows.specs.Table.{Accepts, Fails, ReduceBy, ShiftTo, Table, action_of}
 use Rattle.lrpar_table_rows.proofs.GraphLemmas.{is_item, item_by_test}
-use Rattle.lrpar_table_items.specs.Canonical.{ActsAsResolved, LeadsTo, HasAfterDot, HasAccept, HasFirstReduce, HasReduce, sets_of}
+use Rattle.lrpar_table_items.specs.Canonical.{ActsAsResolved, ActsByPrecedence, LeadsTo, HasAfterDot, HasAccept, HasFirstReduce, HasReduce, sets_of}
 use Rattle.lrpar_table_build.proofs.MemberLemmas.{member_cases}
 
 -- if a fact is decidable of each element of a list, some element has it, or none has
@@ -166,3 +170,45 @@ module _ (g : Grammar) (graph : Graph) (s : ℕ) where
                     ]
               ]
         ]
+
+    -- the same by precedences
+    chosen_acting : (o : Option Resolution) (p next : ℕ) → HasAfterDot g (sets_of graph) s (Terminal t) → HasFirstReduce g (sets_of graph) s t p
+        → action_of table s t ≡ chosen o next p → LeadsTo g (sets_of graph) s (Terminal t) next → IsActing
+    chosen_acting None p next before first is leads = Shifting next is before leads
+    chosen_acting (Some Shift) p next before first is leads = Shifting next is before leads
+    chosen_acting (Some Reduce) p next before first is leads = Reducing p is first
+    chosen_acting (Some Error) p next before first is leads = Failing is
+
+    pub acting_by : (precedences : PrecedenceLists) → ActsByPrecedence g precedences (sets_of graph) table s t → IsActing
+    acting_by precedences acts =
+        elim (before_decided (Terminal t)) [
+          | inl before ↦
+              elim (first_decided t) [
+                | inl first ↦
+                    let met = acts.meets before first.0 first.1 in
+                    chosen_acting (resolution_of precedences first.0 t) first.0 met.0 before first.1 met.1 met.2
+                | inr no_reduction ↦ let shift = acts.shifts before no_reduction in Shifting shift.0 shift.1 before shift.2
+              ]
+          | inr no_shift ↦
+              elim (first_decided t) [
+                | inl first ↦ Reducing first.0 (acts.reduces no_shift first.0 first.1) first.1
+                | inr no_reduction ↦
+                    elim (item_decided (start_prod g) 1 t) [
+                      | inl accept ↦ Accepting (acts.accepts no_shift no_reduction accept) accept
+                      | inr no_accept ↦ Failing (acts.fails no_shift no_reduction no_accept)
+                    ]
+              ]
+        ]
+
+    -- without precedences, the actions are those after conflict resolution without them
+    pub acts_without : ActsByPrecedence g no_precedences (sets_of graph) table s t → ActsAsResolved g (sets_of graph) table s t
+    acts_without acts = record {
+      shifts = λ before.
+          elim (first_decided t) [
+            | inl first ↦ acts.meets before first.0 first.1
+            | inr no_reduction ↦ acts.shifts before no_reduction
+          ];
+      reduces = acts.reduces;
+      accepts = acts.accepts;
+      fails = acts.fails;
+    }

@@ -9,3 +9,4 @@ pub mod TableRowLemmas
 pub mod ListedLemmas
 pub mod BuiltLemmas
 pub mod TablesLemmas
+pub mod KeptApartLemmas

@@ -1,24 +1,27 @@
 -- The conflicts that are listed, state by state and token by token, are those of the sets; and they are in order.
-use Rattle.std.proofs.Common.{◌≡◌, ◌<◌, ◌+◌, ◌↔◌, ◌⊎◌, ◌∙◌, ◌∷◌, refl, sym, ap, subst, inl, inr, arith, ℕ, List, [], All, Option, Some, None, cond, drop, length, map, nat_eq}
+use Rattle.std.proofs.Common.{◌≡◌, ◌<◌, ◌+◌, ◌↔◌, ◌⊎◌, ◌∙◌, ◌∷◌, refl, sym, ap, subst, inl, inr, arith, ℕ, Bool, true, List, [], All, Option, Some, None, cond, drop, length, map, nat_eq}
 use Rattle.std.specs.List.{Contains, range_with_len}
 use Rattle.std.specs.List.Sorted.{IsStrictlySortedBy}
 use Rattle.std.specs.Map.{lookup}
+use Rattle.std.specs.Option.{is_none, option_map}
 use Rattle.std.specs.Ordering.{nat_cmp, ordering_then}
 use Rattle.std.specs.declared.cmp.Ordering.{Ordering}
 use Rattle.std.specs.declared.cmp.Ordering.TheVariants.{Less, Equal, Greater}
 use Rattle.std.proofs.lemmas.Bool.{cond-false, cond-true, eq-eqb, le-ltb, lt-ltb}
 use Rattle.lrpar_grammar.specs.Grammar.{Grammar, Terminal, tokens_len}
+use Rattle.lrpar_table_precedence.specs.Precedence.{PrecedenceLists, resolution_of}
+use Rattle.lrpar_table_precedence.specs.declared.precedence.Resolution.{Resolution}
 use Rattle.lrpar_table_rows.specs.Graph.{Graph, ItemOf, graph_len}
-use Rattle.lrpar_table_rows.specs.Table.{ConflictLists, ReduceReduce, ShiftReduce}
+use Rattle.lrpar_table_rows.specs.Table.{ConflictLists, ReduceReduce, ResolvedOf, ShiftReduce}
 use Rattle.lrpar_table_rows.proofs.ItemLemmas.{Contains-image, Contains-preimage}
-use Rattle.lrpar_table_build.specs.BuilderLaws.{AreConflictsOf, lists_in}
-use Rattle.lrpar_table_build.specs.Built.{AreInOrder, reduce_reduce_cmp, shift_reduce_cmp}
-use Rattle.lrpar_table_items.specs.Canonical.{AreSame, IsReduceConflict, IsShiftConflict, IsTransition, HasAfterDot, HasFirstReduce, sets_of}
+use Rattle.lrpar_table_build.specs.BuilderLaws.{AreConflictsBy, AreResolvedBy, lists_in}
+use Rattle.lrpar_table_build.specs.Built.{AreInOrder, AreResolvedInOrder, reduce_reduce_cmp, shift_reduce_cmp}
+use Rattle.lrpar_table_items.specs.Canonical.{AreSame, IsReduceConflict, IsShiftConflict, IsTransition, IsUnresolvedConflict, HasAfterDot, HasFirstReduce, sets_of}
 use Rattle.lrpar_table_items.specs.Cores.{CoreSet, IsAmong, IsCoreOf}
 use Rattle.lrpar_table_items.specs.StateRows.{reduce_conflicts_below, shift_conflicts_below, unless_empty}
 use Rattle.lrpar_table_items.specs.States.{AreStates, StateOf, sets_at, state_at}
-use Rattle.lrpar_table_items.specs.Resolution.{AscendFrom, reduce_conflicts, reduce_conflicts_at, reductions, shift_conflicts, shift_conflicts_at}
-use Rattle.lrpar_table_build.proofs.MemberLemmas.{joined_has, joined_member, member_cases, member_later, member_none, range_has, range_member, sorted_first, sorted_joined, sorted_none}
+use Rattle.lrpar_table_items.specs.Resolution.{AscendFrom, reduce_conflicts, reduce_conflicts_at, reductions, resolution_with, resolutions, shift_conflicts, shift_conflicts_at, unresolved}
+use Rattle.lrpar_table_build.proofs.MemberLemmas.{filter_has, filter_member, image_has, image_member, joined_has, joined_member, member_cases, member_later, member_none, range_has, range_member, sorted_filter, sorted_first, sorted_images, sorted_joined, sorted_none}
 use Rattle.lrpar_table_build.proofs.ReductionLemmas.{first_alone, first_is, first_least, none_is, reductions_ascend, candidate_is}
 use Rattle.lrpar_table_build.proofs.SetLemmas.{before_other, before_same}
 
@@ -283,12 +286,59 @@ unless_empty_some [] (y ∷ ys) lists is none nothing =
 unless_empty_some (x ∷ xs) ys lists is none nothing =
     let both : x ∷ xs ≡ [] = ap (λ (l : ConflictLists). l.reduce_reduce) (ap lists_in is) ∙ none in absurd (cc)
 
+-- the conflicts that precedences don't resolve
+none_from_test : (o : Option Resolution) → is_none o ≡ true → o ≡ None
+none_from_test None is = refl
+none_from_test (Some by) is = absurd (cc)
+
+unresolved_are : (precedences : PrecedenceLists) (xs : List ShiftReduce) (x : ShiftReduce)
+    → Contains (unresolved precedences xs) x ↔ (Contains xs x × (resolution_of precedences x.prod x.token ≡ None))
+unresolved_are precedences xs x =
+    let test : ShiftReduce → Bool = λ y. is_none (resolution_of precedences y.prod y.token) in (
+      λ h. let kept = filter_member test xs x h in (kept.0, none_from_test (resolution_of precedences x.prod x.token) kept.1),
+      λ h. filter_has test xs x h.0 (ap (λ (o : Option Resolution). is_none o) h.1),
+    )
+
+-- those that they resolve, and how
+with_parts : (y : ShiftReduce) (o : Option Resolution) (x : ResolvedOf) → option_map (λ by. record { conflict = y; by = by }) o ≡ Some x
+    → (y ≡ x.conflict) × (o ≡ Some x.by)
+with_parts y None x is = absurd (cc)
+with_parts y (Some by) x is =
+    let made : ResolvedOf = record { conflict = y; by = by } in
+    let same : made ≡ x = cc in (ap (λ (z : ResolvedOf). z.conflict) same, ap (λ (z : ResolvedOf). Some z.by) same)
+
+resolutions_are : (precedences : PrecedenceLists) (xs : List ShiftReduce) (x : ResolvedOf)
+    → Contains (resolutions precedences xs) x ↔ (Contains xs x.conflict × (resolution_of precedences x.conflict.prod x.conflict.token ≡ Some x.by))
+resolutions_are precedences xs x = (
+  λ h.
+      let from = image_member (resolution_with precedences) xs x h in
+      let y = from.0 in
+      let parts = with_parts y (resolution_of precedences y.prod y.token) x from.2 in (
+        subst (Contains xs) parts.0 from.1,
+        subst (λ (z : ShiftReduce). resolution_of precedences z.prod z.token ≡ Some x.by) parts.0 parts.1,
+      ),
+  λ h. image_has (resolution_with precedences) xs x.conflict x h.0 (ap (option_map (λ by. record { conflict = x.conflict; by = by })) h.1),
+)
+
 -- they are in order
-pub in_order : (g : Grammar) (states : List StateOf) (n : ℕ)
-    → AreInOrder (lists_in (unless_empty (reduce_conflicts_below g states n) (shift_conflicts_below g states n)))
-in_order g states n =
-    subst AreInOrder (sym (unless_empty_is (reduce_conflicts_below g states n) (shift_conflicts_below g states n)))
-    (record { reduce_reduce = states_sorted g states n; shift_reduce = shifts_states_sorted g states n })
+pub in_order : (precedences : PrecedenceLists) (g : Grammar) (states : List StateOf) (n : ℕ)
+    → AreInOrder (lists_in (unless_empty (reduce_conflicts_below g states n) (unresolved precedences (shift_conflicts_below g states n))))
+in_order precedences g states n =
+    subst AreInOrder (sym (unless_empty_is (reduce_conflicts_below g states n) (unresolved precedences (shift_conflicts_below g states n))))
+    (record {
+      reduce_reduce = states_sorted g states n;
+      shift_reduce = sorted_filter shift_reduce_cmp _ (shift_conflicts_below g states n) (shifts_states_sorted g states n);
+    })
+
+pub resolved_in_order : (precedences : PrecedenceLists) (g : Grammar) (states : List StateOf) (n : ℕ)
+    → AreResolvedInOrder (resolutions precedences (shift_conflicts_below g states n))
+resolved_in_order precedences g states n =
+    sorted_images shift_reduce_cmp (λ (x y : ResolvedOf). shift_reduce_cmp x.conflict y.conflict) (resolution_with precedences)
+    (λ x z y w is also less.
+    let left = (with_parts x (resolution_of precedences x.prod x.token) y is).0 in
+    let right = (with_parts z (resolution_of precedences z.prod z.token) w also).0 in
+    sym (ap (λ v. shift_reduce_cmp v w.conflict) left) ∙ sym (ap (shift_reduce_cmp x) right) ∙ less)
+    (shift_conflicts_below g states n) (shifts_states_sorted g states n)
 
 -- the reduction by the least production is the first of the list
 first_splits : (g : Grammar) (sets : ℕ → ItemOf → Type 0) (s : ℕ) (cores : List CoreSet) → All (IsCoreOf g) cores → AreSame (sets s) (IsAmong cores)
@@ -368,13 +418,15 @@ module _ (g : Grammar) (states : List StateOf) (are : AreStates g states) (sets 
       )
 
 -- so they are those of a graph that has the same items
-pub conflicts_are : (g : Grammar) (states : List StateOf) → AreStates g states → (graph : Graph) → graph_len graph ≡ length states
+pub conflicts_are : (precedences : PrecedenceLists) (g : Grammar) (states : List StateOf) → AreStates g states → (graph : Graph) → graph_len graph ≡ length states
     → ((s : ℕ) → AreSame (sets_of graph s) (sets_at states s))
-    → AreConflictsOf g graph (unless_empty (reduce_conflicts_below g states (length states)) (shift_conflicts_below g states (length states)))
-conflicts_are g states are graph len same =
+    → AreConflictsBy g precedences graph
+    (unless_empty (reduce_conflicts_below g states (length states)) (unresolved precedences (shift_conflicts_below g states (length states))))
+conflicts_are precedences g states are graph len same =
     let n = length states in
     let xs = reduce_conflicts_below g states n in
-    let ys = shift_conflicts_below g states n in
+    let met = shift_conflicts_below g states n in
+    let ys = unresolved precedences met in
     record {
       reduce_reduce = λ x.
           subst (λ (lists : ConflictLists). Contains lists.reduce_reduce x
@@ -386,11 +438,30 @@ conflicts_are g states are graph len same =
           );
       shift_reduce = λ x.
           subst (λ (lists : ConflictLists). Contains lists.shift_reduce x
-          ↔ ((x.state < graph_len graph) × (x.token < tokens_len g) × IsShiftConflict g (sets_of graph) x)) (sym (unless_empty_is xs ys)) (
-            λ h. let one = shifts_at_states g states n x h in
-                (subst (λ k. x.state < k) (sym len) one.0, one.1, (shift_is g states are (sets_of graph) same x one.0).0 one.2),
+          ↔ ((x.state < graph_len graph) × (x.token < tokens_len g) × IsUnresolvedConflict g precedences (sets_of graph) x)) (sym (unless_empty_is xs ys)) (
+            λ h. let kept = (unresolved_are precedences met x).0 h in
+                let one = shifts_at_states g states n x kept.0 in
+                (subst (λ k. x.state < k) (sym len) one.0, one.1, ((shift_is g states are (sets_of graph) same x one.0).0 one.2, kept.1)),
             λ h. let below = subst (λ k. x.state < k) len h.0 in
-                shifts_states_have g states n x below h.1 ((shift_is g states are (sets_of graph) same x below).1 h.2),
+                (unresolved_are precedences met x).1
+                (shifts_states_have g states n x below h.1 ((shift_is g states are (sets_of graph) same x below).1 h.2.0), h.2.1),
           );
       some = λ lists is none nothing. unless_empty_some xs ys lists is none nothing;
     }
+
+-- and so are the resolved ones
+pub resolved_are : (precedences : PrecedenceLists) (g : Grammar) (states : List StateOf) → AreStates g states → (graph : Graph) → graph_len graph ≡ length states
+    → ((s : ℕ) → AreSame (sets_of graph s) (sets_at states s))
+    → AreResolvedBy g precedences graph (resolutions precedences (shift_conflicts_below g states (length states)))
+resolved_are precedences g states are graph len same x =
+    let n = length states in
+    let met = shift_conflicts_below g states n in (
+      λ h.
+          let kept = (resolutions_are precedences met x).0 h in
+          let one = shifts_at_states g states n x.conflict kept.0 in
+          (subst (λ k. x.conflict.state < k) (sym len) one.0, one.1, ((shift_is g states are (sets_of graph) same x.conflict one.0).0 one.2, kept.1)),
+      λ h.
+          let below = subst (λ k. x.conflict.state < k) len h.0 in
+          (resolutions_are precedences met x).1
+          (shifts_states_have g states n x.conflict below h.1 ((shift_is g states are (sets_of graph) same x.conflict below).1 h.2.0), h.2.1),
+    )

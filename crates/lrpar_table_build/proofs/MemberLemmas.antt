@@ -1,6 +1,6 @@
 -- Members of lists that are filtered, counted and joined; and joined lists that are sorted.
-use Rattle.std.proofs.Common.{◌≡◌, ◌≢◌, ◌<◌, ◌≤◌, ◌+◌, ◌⊎◌, ◌∷◌, ◌++◌, ℕ, zero, suc, Bool, true, cond, List, [], refl, sym, subst, arith, inl, inr, filter}
-use Rattle.std.specs.List.{AllByRecursion, Contains, flat_map, range_with_len}
+use Rattle.std.proofs.Common.{◌≡◌, ◌≢◌, ◌<◌, ◌≤◌, ◌+◌, ◌⊎◌, ◌∷◌, ◌++◌, ℕ, zero, suc, Bool, true, false, cond, List, [], Option, Some, None, ◌∙◌, refl, sym, ap, subst, arith, inl, inr, filter}
+use Rattle.std.specs.List.{AllByRecursion, Contains, cons_option, filter_map, flat_map, range_with_len}
 use Rattle.std.specs.List.Sorted.{IsStrictlySortedBy}
 use Rattle.std.specs.declared.cmp.Ordering.{Ordering}
 use Rattle.std.specs.declared.cmp.Ordering.TheVariants.{Less}
@@ -134,3 +134,58 @@ module _ {Y : Type 0} (R : Y → Y → Ordering) where
       let one = joined_member f (range_with_len (a + 1) n) y there in
       let from = range_member (a + 1) n one.0 one.1 in
       less a one.0 x y (omega (arith, from.0)) h one.2)
+
+-- a member of the images that the elements of a list have is the image of one of them
+first_image : {X Y : Type 0} (f : X → Option Y) (x : X) (xs : List X) (y : Y) (o : Option Y) → f x ≡ o
+    → (Contains (filter_map f xs) y → (z : X) × Contains xs z × (f z ≡ Some y)) → Contains (cons_option o (filter_map f xs)) y
+    → (z : X) × Contains (x ∷ xs) z × (f z ≡ Some y)
+first_image f x xs y None is rest h = let one = rest h in (one.0, member_later x xs one.0 one.1, one.2)
+first_image f x xs y (Some w) is rest h =
+    elim (member_cases w (filter_map f xs) y h) [
+      | inl here ↦ (x, member_first x xs, is ∙ ap (λ v. Some v) here)
+      | inr later ↦ let one = rest later in (one.0, member_later x xs one.0 one.1, one.2)
+    ]
+
+pub image_member : {X Y : Type 0} (f : X → Option Y) (xs : List X) (y : Y) → Contains (filter_map f xs) y → (x : X) × Contains xs x × (f x ≡ Some y)
+image_member f [] y h = absurd (member_none y h)
+image_member f (x ∷ xs) y h = first_image f x xs y (f x) refl (image_member f xs y) h
+
+-- a member of the other images
+later_image : {Y : Type 0} (o : Option Y) (ys : List Y) (y : Y) → Contains ys y → Contains (cons_option o ys) y
+later_image None ys y h = h
+later_image (Some w) ys y h = member_later w ys y h
+
+pub image_has : {X Y : Type 0} (f : X → Option Y) (xs : List X) (x : X) (y : Y) → Contains xs x → f x ≡ Some y → Contains (filter_map f xs) y
+image_has f [] x y h is = absurd (member_none x h)
+image_has f (z ∷ zs) x y h is =
+    elim (member_cases z zs x h) [
+      | inl here ↦ subst (λ o. Contains (cons_option o (filter_map f zs)) y) (sym (ap f here ∙ is)) (member_first y (filter_map f zs))
+      | inr later ↦ later_image (f z) (filter_map f zs) y (image_has f zs x y later is)
+    ]
+
+-- the elements of a sorted list that pass a test are sorted
+pub sorted_filter : {Y : Type 0} (R : Y → Y → Ordering) (p : Y → Bool) (xs : List Y) → IsStrictlySortedBy R xs → IsStrictlySortedBy R (filter p xs)
+unfolding IsStrictlySortedBy
+sorted_filter R p [] sorted = tt
+sorted_filter R p (x ∷ xs) sorted =
+    let rest = sorted_filter R p xs sorted.1 in
+    elim (p x) as (λ b. IsStrictlySortedBy R (cond b (x ∷ filter p xs) (filter p xs))) [
+      | true ↦ sorted_first R x (filter p xs) (λ y h. all_before R x xs y sorted.0 (filter_member p xs y h).0) rest
+      | false ↦ rest
+    ]
+
+-- and so are their images, if these keep the order
+sorted_image_first : {Y : Type 0} (S : Y → Y → Ordering) (o : Option Y) (ys : List Y) → ((w y : Y) → o ≡ Some w → Contains ys y → S w y ≡ Less)
+    → IsStrictlySortedBy S ys → IsStrictlySortedBy S (cons_option o ys)
+sorted_image_first S None ys less sorted = sorted
+sorted_image_first S (Some w) ys less sorted = sorted_first S w ys (λ y h. less w y refl h) sorted
+
+pub sorted_images : {X Y : Type 0} (R : X → X → Ordering) (S : Y → Y → Ordering) (f : X → Option Y)
+    → ((x z : X) (y w : Y) → f x ≡ Some y → f z ≡ Some w → R x z ≡ Less → S y w ≡ Less)
+    → (xs : List X) → IsStrictlySortedBy R xs → IsStrictlySortedBy S (filter_map f xs)
+unfolding IsStrictlySortedBy
+sorted_images R S f keeps [] sorted = tt
+sorted_images R S f keeps (x ∷ xs) sorted =
+    sorted_image_first S (f x) (filter_map f xs)
+    (λ y w is h. let one = image_member f xs w h in keeps x one.0 y w is one.2 (all_before R x xs one.0 sorted.0 one.1))
+    (sorted_images R S f keeps xs sorted.1)

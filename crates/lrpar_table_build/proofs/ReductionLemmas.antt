@@ -6,12 +6,13 @@ use Rattle.std.proofs.lemmas.Bool.{and_from, and_parts, cases_Bool, eq-eqb, eqb-
 use Rattle.std.proofs.lemmas.List.Elements.{All-contains}
 use Rattle.std.proofs.lemmas.List.Folds.{Any-from_list_any, list_any-from_Any}
 use Rattle.lrpar_grammar.specs.Grammar.{Grammar, Nonterminal, Terminal, prod_len, start_prod}
+use Rattle.lrpar_table_precedence.specs.Precedence.{PrecedenceLists, resolution_of}
 use Rattle.lrpar_table_rows.specs.Graph.{ItemOf, item_at}
 use Rattle.lrpar_table_rows.specs.Table.{ReduceBy, Table, action_of, goto_of}
-use Rattle.lrpar_table_items.specs.Canonical.{ActsAsResolved, AreSame, GoesAsItems, IsTransition, HasAccept, HasFirstReduce, HasReduce}
+use Rattle.lrpar_table_items.specs.Canonical.{ActsByPrecedence, AreSame, GoesAsItems, IsTransition, HasAccept, HasFirstReduce, HasReduce}
 use Rattle.lrpar_table_items.specs.Cores.{CoreSet, IsAmong, IsCoreOf}
 use Rattle.lrpar_grammar.specs.Tokens.{has}
-use Rattle.lrpar_table_items.specs.Resolution.{AscendFrom, is_complete, is_complete_at, reductions, resolved}
+use Rattle.lrpar_table_items.specs.Resolution.{AscendFrom, chosen, decides_at, is_complete, is_complete_at, reductions, resolved}
 use Rattle.lrpar_table_build.proofs.MemberLemmas.{filter_has, filter_member, member_cases, member_first, member_none, range_has, range_member}
 use Rattle.lrpar_table_items.proofs.ResolutionLemmas.{ascend_lower}
 
@@ -111,30 +112,43 @@ module _ (g : Grammar) (sets : ℕ → ItemOf → Type 0) (s : ℕ) (cores : Lis
   )
 
   -- so a table with the actions that are computed from cores and shifts has those after conflict resolution
-  pub acts_as_resolved : (len t : ℕ) (table : Table) (shift : Option ℕ) (prods : List ℕ) (accepts : Bool) → prod_len g (start_prod g) ≡ 1
+  pub acts_by_precedence : (lists : PrecedenceLists) (len t : ℕ) (table : Table) (shift : Option ℕ) (prods : List ℕ) (accepts : Bool) → prod_len g (start_prod g) ≡ 1
       → IsTransition g len sets s (Terminal t) shift → reductions g cores t ≡ prods → is_complete_at g cores t (start_prod g) ≡ accepts
-      → action_of table s t ≡ resolved shift prods accepts → ActsAsResolved g sets table s t
-  acts_as_resolved len t table (Some next) prods accepts one step reduces ends does = record {
-    shifts = λ _. (next, does, step.2);
+      → action_of table s t ≡ resolved (decides_at lists t) shift prods accepts → ActsByPrecedence g lists sets table s t
+  acts_by_precedence lists len t table (Some next) [] accepts one step reduces ends does = record {
+    meets = λ _ p first. absurd (none_is t p reduces first.0);
+    shifts = λ _ _. (next, does, step.2);
     reduces = λ none. absurd (none step.0);
     accepts = λ none. absurd (none step.0);
     fails = λ none. absurd (none step.0);
   }
-  acts_as_resolved len t table None (p ∷ later) accepts one step reduces ends does =
+  acts_by_precedence lists len t table (Some next) (p ∷ later) accepts one step reduces ends does =
       let first = first_is t p later reduces in
       record {
+        meets = λ _ q other. (next, does ∙ ap (λ n. chosen (resolution_of lists n t) next n) (first_alone t p q first other), step.2);
+        shifts = λ _ no_reduction. absurd (no_reduction p first.0);
+        reduces = λ none. absurd (none step.0);
+        accepts = λ none. absurd (none step.0);
+        fails = λ none. absurd (none step.0);
+      }
+  acts_by_precedence lists len t table None (p ∷ later) accepts one step reduces ends does =
+      let first = first_is t p later reduces in
+      record {
+        meets = λ before. absurd (step before);
         shifts = λ before. absurd (step before);
         reduces = λ none q other. does ∙ ap ReduceBy (first_alone t p q first other);
         accepts = λ none no_reduction. absurd (no_reduction p first.0);
         fails = λ none no_reduction. absurd (no_reduction p first.0);
       }
-  acts_as_resolved len t table None [] true one step reduces ends does = record {
+  acts_by_precedence lists len t table None [] true one step reduces ends does = record {
+    meets = λ before. absurd (step before);
     shifts = λ before. absurd (step before);
     reduces = λ none q first. absurd (none_is t q reduces first.0);
     accepts = λ none no_reduction accept. does;
     fails = λ none no_reduction no_accept. absurd (no_accept ((accept_is t one).1 ends));
   }
-  acts_as_resolved len t table None [] false one step reduces ends does = record {
+  acts_by_precedence lists len t table None [] false one step reduces ends does = record {
+    meets = λ before. absurd (step before);
     shifts = λ before. absurd (step before);
     reduces = λ none q first. absurd (none_is t q reduces first.0);
     accepts = λ none no_reduction accept. let yes = (accept_is t one).0 accept in let both : false ≡ true = sym ends ∙ yes in absurd (cc);

@@ -1,23 +1,24 @@
 -- A table of the canonical collection is safe. Each action of the table is one that its set calls for; and the items of a set follow
 -- from how gotos reach it.
-use Rattle.std.proofs.Common.{◌≡◌, ◌<◌, ◌+◌, ◌∙◌, refl, sym, ap, subst, inl, inr, arith, ℕ, List, [], None, Some, slice_get}
+use Rattle.std.proofs.Common.{◌≡◌, ◌<◌, ◌≤◌, ◌+◌, ◌∙◌, refl, sym, ap, subst, inl, inr, arith, ℕ, List, [], None, Some, slice_get}
 use Rattle.std.proofs.lemmas.Bool.{cases_lt}
 use Rattle.lrpar_grammar.proofs.PartsLemmas.{rule_of_within}
 use Rattle.lrpar_grammar.specs.Grammar.{Grammar, GrammarSymbol, IsWellFormed, Nonterminal, Terminal, end_token, prod_len, rule_of, rules_len, start_prod, symbols_of, tokens_len}
-use Rattle.lrpar_table_rows.specs.Graph.{Graph, HasCore, HasItem, ItemOf, item_at}
+use Rattle.lrpar_table_precedence.specs.Precedence.{PrecedenceLists}
+use Rattle.lrpar_table_rows.specs.Graph.{Graph, HasCore, HasItem, ItemOf, graph_len, item_at}
 use Rattle.lrpar_table_rows.specs.Safe.{GoesBy, IsSafe, IsSafeAt}
-use Rattle.lrpar_table_rows.specs.Table.{Accepts, ReduceBy, ShiftTo, Table, action_of, goto_of, states_len}
+use Rattle.lrpar_table_rows.specs.Table.{Accepts, Fails, ReduceBy, ShiftTo, Table, action_of, goto_of, states_len}
 use Rattle.lrpar_table_rows.specs.declared.condition.SafetyCondition.{SafetyCondition}
 use Rattle.lrpar_table_rows.specs.declared.condition.SafetyCondition.TheVariants.{S2, S3, S4, S5, S6, S7, S8}
 use Rattle.lrpar_table_rows.proofs.GraphLemmas.{state_in_range}
-use Rattle.lrpar_table_build.specs.BuilderLaws.{CanonicalTablesAreSafe, IsCanonicalTable}
-use Rattle.lrpar_table_items.specs.Canonical.{AreSame, IsCanonical, LeadsTo, HasAfterDot, HasAccept, HasReduce, sets_of}
+use Rattle.lrpar_table_build.specs.BuilderLaws.{CanonicalTablesAreSafe, IsCanonicalTable, IsCanonicalTableBy, TablesByPrecedenceAreSafe}
+use Rattle.lrpar_table_items.specs.Canonical.{AreSame, GoesAsItems, IsCanonical, LeadsTo, HasAfterDot, HasAccept, HasReduce, sets_of}
 use Rattle.lrpar_table_items.specs.ItemSets.{IsAdvanced, IsInNext, IsReachedBy, Own}
-use Rattle.lrpar_table_build.proofs.DecidedLemmas.{Accepting, Failing, IsActing, Reducing, Shifting, acting, before_decided}
+use Rattle.lrpar_table_build.proofs.DecidedLemmas.{Accepting, Failing, IsActing, Reducing, Shifting, acting, acting_by, before_decided}
 use Rattle.lrpar_table_build.proofs.ReachedLemmas.{added_is_listed, closure_cases, comes_with_rule, no_end_token, reached_at_end, reached_items, start_is_fresh, start_item_at_start}
 
 -- a kernel item of a goto of a set, whose dot isn't at the start, is an item of the set, advanced by one
-advanced_from : (g : Grammar) (items : ItemOf → Type 0) (x : GrammarSymbol) (p k t : ℕ) → IsInNext g items x (item_at p (k + 1) t)
+pub advanced_from : (g : Grammar) (items : ItemOf → Type 0) (x : GrammarSymbol) (p k t : ℕ) → IsInNext g items x (item_at p (k + 1) t)
     → (slice_get (symbols_of g p) k ≡ Some x) × items (item_at p k t)
 advanced_from g items x p k t h =
     elim (closure_cases g (IsAdvanced g items x) (item_at p (k + 1) t) h) [
@@ -33,8 +34,57 @@ advanced_from g items x p k t h =
       | inr more ↦ let front : k + 1 ≡ 0 = more.2.fresh in absurd (omega (arith, front))
     ]
 
+-- the table has a state for each set of the graph, and starts in number 0; each of its actions is one that its set calls for, or an error;
+-- and it has the gotos of its sets
+record IsJustified (g : Grammar) (graph : Graph) (table : Table) : Type 0 where
+  pub states : graph_len graph ≡ states_len table
+  pub start : table.start ≡ 0
+  pub tokens : table.tokens ≡ tokens_len g
+  pub rules : table.rules ≡ rules_len g
+  pub acts : (s t : ℕ) → IsActing g graph s table t
+  pub goes : (s r : ℕ) → s < states_len table → r < rules_len g → GoesAsItems g (sets_of graph) table s r
+  pub no_rule : (s r : ℕ) → table.rules ≤ r → goto_of table s r ≡ None
+
+-- in range, the table's action is one of the set's; out of range, it is an error
+in_range : (g : Grammar) (graph : Graph) (table : Table) → table.tokens ≡ tokens_len g
+    → ((s t : ℕ) → states_len table ≤ s → action_of table s t ≡ Fails) → ((s t : ℕ) → table.tokens ≤ t → action_of table s t ≡ Fails)
+    → ((s t : ℕ) → s < states_len table → t < tokens_len g → IsActing g graph s table t) → (s t : ℕ) → IsActing g graph s table t
+in_range g graph table tokens no_state no_token acts s t =
+    elim (cases_lt s (states_len table)) [
+      | inr past ↦ Failing (no_state s t past)
+      | inl within ↦
+          elim (cases_lt t (tokens_len g)) [
+            | inr past ↦ Failing (no_token s t (omega (arith, past, tokens)))
+            | inl below ↦ acts s t within below
+          ]
+    ]
+
+justified : (g : Grammar) (graph : Graph) (table : Table) → IsCanonicalTable g graph table → IsJustified g graph table
+justified g graph table is = record {
+  states = is.states;
+  start = is.start;
+  tokens = is.tokens;
+  rules = is.rules;
+  acts = in_range g graph table is.tokens is.no_state is.no_token (λ s t within below. acting g graph s table t (is.acts s t within below));
+  goes = is.goes;
+  no_rule = is.no_rule;
+}
+
+justified_by : (g : Grammar) (precedences : PrecedenceLists) (graph : Graph) (table : Table) → IsCanonicalTableBy g precedences graph table
+    → IsJustified g graph table
+justified_by g precedences graph table is = record {
+  states = is.states;
+  start = is.start;
+  tokens = is.tokens;
+  rules = is.rules;
+  acts = in_range g graph table is.tokens is.no_state is.no_token
+      (λ s t within below. acting_by g graph s table t precedences (is.acts s t within below));
+  goes = is.goes;
+  no_rule = is.no_rule;
+}
+
 module _ (g : Grammar) (graph : Graph) (table : Table) (well : IsWellFormed g) (canonical : IsCanonical g graph)
-    (resolved : IsCanonicalTable g graph table) where
+    (resolved : IsJustified g graph table) where
   -- a path reaches each state
   reached_by : (s p k t : ℕ) → HasItem graph s p k t → (path : List GrammarSymbol) × IsReachedBy g path (item_at p k t)
   reached_by s p k t has =
@@ -45,22 +95,10 @@ module _ (g : Grammar) (graph : Graph) (table : Table) (well : IsWellFormed g) (
   start_there : HasItem graph 0 (start_prod g) 0 (end_token g)
   start_there = (canonical.start (item_at (start_prod g) 0 (end_token g))).1 (Own (item_at (start_prod g) 0 (end_token g)) refl)
 
-  -- in range, the table's action is the set's after conflict resolution; out of range, it is an error
-  acts_in : (s t : ℕ) → IsActing g graph s table t
-  acts_in s t =
-      elim (cases_lt s (states_len table)) [
-        | inr past ↦ Failing (resolved.no_state s t past)
-        | inl within ↦
-            elim (cases_lt t (tokens_len g)) [
-              | inr past ↦ let is = resolved.tokens in Failing (resolved.no_token s t (omega (arith, past, is)))
-              | inl below ↦ acting g graph s table t (resolved.acts s t within below)
-            ]
-      ]
-
   shift_of_item : (s t next : ℕ) → action_of table s t ≡ ShiftTo next
       → HasAfterDot g (sets_of graph) s (Terminal t) × LeadsTo g (sets_of graph) s (Terminal t) next
   shift_of_item s t next at =
-      elim (acts_in s t) [
+      elim (resolved.acts s t) [
         | Shifting to is before leads ↦
             let same : to ≡ next = cc in (before, subst (λ (n : ℕ). LeadsTo g (sets_of graph) s (Terminal t) n) same leads)
         | Reducing p is candidate ↦ absurd (cc)
@@ -70,7 +108,7 @@ module _ (g : Grammar) (graph : Graph) (table : Table) (well : IsWellFormed g) (
 
   reduction_of_item : (s t p : ℕ) → action_of table s t ≡ ReduceBy p → HasReduce g (sets_of graph) s t p
   reduction_of_item s t p at =
-      elim (acts_in s t) [
+      elim (resolved.acts s t) [
         | Shifting to is before leads ↦ absurd (cc)
         | Reducing by is candidate ↦ let same : by ≡ p = cc in subst (λ (n : ℕ). HasReduce g (sets_of graph) s t n) same candidate.0
         | Accepting is candidate ↦ absurd (cc)
@@ -79,7 +117,7 @@ module _ (g : Grammar) (graph : Graph) (table : Table) (well : IsWellFormed g) (
 
   accept_of_item : (s t : ℕ) → action_of table s t ≡ Accepts → HasAccept g (sets_of graph) s t
   accept_of_item s t at =
-      elim (acts_in s t) [
+      elim (resolved.acts s t) [
         | Shifting to is before leads ↦ absurd (cc)
         | Reducing by is candidate ↦ absurd (cc)
         | Accepting is candidate ↦ candidate
@@ -179,4 +217,9 @@ module _ (g : Grammar) (graph : Graph) (table : Table) (well : IsWellFormed g) (
   }
 
 pub canonical_tables_are_safe : CanonicalTablesAreSafe
-canonical_tables_are_safe g graph table well canonical resolved = safe g graph table well canonical resolved
+canonical_tables_are_safe g graph table well canonical resolved = safe g graph table well canonical (justified g graph table resolved)
+
+-- and so is one by precedences
+pub tables_by_precedence_are_safe : TablesByPrecedenceAreSafe
+tables_by_precedence_are_safe g precedences graph table well canonical resolved =
+    safe g graph table well canonical (justified_by g precedences graph table resolved)

@@ -8,15 +8,18 @@ use Rattle.std.proofs.lemmas.List.{get_or-map, get_or_past, length-map}
 use Rattle.std.proofs.lemmas.List.Elements.{All-append, All-cons, All-nil, Contains-get_or}
 use Rattle.std.proofs.lemmas.Map.Entries.{lookup_head, lookup_tail}
 use Rattle.lrpar_grammar.specs.Grammar.{Grammar, GrammarSymbol, IsWellFormed, Nonterminal, Terminal, end_token, rules_len, start_prod, tokens_len}
+use Rattle.lrpar_table_precedence.specs.Precedence.{PrecedenceLists}
+use Rattle.lrpar_table_precedence.specs.declared.precedence.Resolution.{Resolution}
+use Rattle.lrpar_table_precedence.specs.declared.precedence.Resolution.TheVariants.{Shift, Reduce, Error}
 use Rattle.lrpar_table_rows.specs.Graph.{item_at}
-use Rattle.lrpar_table_rows.specs.Table.{AreEntries, IsActionEntry, IsActionWithin, IsGotoEntry, IsTable, TableAction, ShiftTo, ReduceBy, Accepts, Fails, action_of, actions_at, goto_of}
+use Rattle.lrpar_table_rows.specs.Table.{AreEntries, ConflictLists, IsActionEntry, IsActionWithin, IsGotoEntry, IsTable, ResolvedOf, Table, TableAction, ShiftTo, ReduceBy, Accepts, Fails, action_of, actions_at, goto_of, with_resolved}
 use Rattle.lrpar_table_rows.proofs.EntryLemmas.{entry_found}
 use Rattle.lrpar_table_items.specs.Canonical.{IsTransition, HasAfterDot}
 use Rattle.lrpar_table_items.specs.Cores.{IsAmong}
 use Rattle.lrpar_table_items.specs.ItemSets.{Own}
-use Rattle.lrpar_table_items.specs.StateRows.{table_of_states}
+use Rattle.lrpar_table_items.specs.StateRows.{action_rows, goto_rows, table_of_states, table_with}
 use Rattle.lrpar_table_items.specs.States.{AreStates, StateOf, sets_at, state_at}
-use Rattle.lrpar_table_items.specs.Resolution.{AscendFrom, entry_at, is_complete_at, reductions, resolved, resolved_at, resolved_row}
+use Rattle.lrpar_table_items.specs.Resolution.{AscendFrom, chosen, decides_at, entry_at, is_complete_at, reductions, resolved, resolved_at, resolved_row}
 use Rattle.lrpar_table_items.proofs.EntryLemmas.{lookup_past}
 use Rattle.lrpar_table_build.proofs.MemberLemmas.{member_none}
 use Rattle.lrpar_table_build.proofs.ReachedLemmas.{symbol_listed}
@@ -97,12 +100,19 @@ module _ (f : ℕ → TableAction) where
       (row_each tokens states (a + 1) n (omega (arith, low)) within)
 
 -- the action after conflict resolution has its state in range, if the shift has
-resolved_within : (states : ℕ) (shift : Option ℕ) (prods : List ℕ) (accepts : Bool) → ((next : ℕ) → shift ≡ Some next → next < states)
-    → IsActionWithin states (resolved shift prods accepts)
-resolved_within states (Some next) prods accepts within = within next refl
-resolved_within states None (p ∷ later) accepts within = tt
-resolved_within states None [] true within = tt
-resolved_within states None [] false within = tt
+chosen_within : (states : ℕ) (by : Option Resolution) (next p : ℕ) → next < states → IsActionWithin states (chosen by next p)
+chosen_within states None next p within = within
+chosen_within states (Some Shift) next p within = within
+chosen_within states (Some Reduce) next p within = tt
+chosen_within states (Some Error) next p within = tt
+
+resolved_within : (by : ℕ → Option Resolution) (states : ℕ) (shift : Option ℕ) (prods : List ℕ) (accepts : Bool) → ((next : ℕ) → shift ≡ Some next → next < states)
+    → IsActionWithin states (resolved by shift prods accepts)
+resolved_within by states (Some next) [] accepts within = within next refl
+resolved_within by states (Some next) (p ∷ later) accepts within = chosen_within states (by p) next p (within next refl)
+resolved_within by states None (p ∷ later) accepts within = tt
+resolved_within by states None [] true within = tt
+resolved_within by states None [] false within = tt
 
 -- what holds of each member holds of all
 All-from_member : {X : Type 0} (P : X → Type 0) (xs : List X) → ((x : X) → Contains xs x → P x) → All P xs
@@ -134,33 +144,12 @@ module _ (g : Grammar) (states : List StateOf) (are : AreStates g states) (well 
   step_some s symbol None next h is = absurd (cc)
   step_some s symbol (Some other) next h is = let same : other ≡ next = cc in (h.0, subst (λ n. n < length states) same h.1)
 
-  action_row : (s : ℕ) → s < length states → actions_at (table_of_states g states) s ≡ resolved_row g (state_at states s).cores (state_at states s).shifts
-  action_row s below = get_or-map (λ (state : StateOf). resolved_row g state.cores state.shifts) states s _ [] below
-
-  -- the action at a token is the one after conflict resolution
-  pub action_is : (s t : ℕ) → s < length states → t < tokens_len g
-      → action_of (table_of_states g states) s t ≡ resolved_at g (state_at states s).cores (state_at states s).shifts t
-  unfolding action_of
-  action_is s t below within =
-      ap (λ (row : List (ℕ × TableAction)). unwrap_or (lookup (nat_eq t) row) Fails) (action_row s below)
-      ∙ row_lookup (resolved_at g (state_at states s).cores (state_at states s).shifts) 0 (tokens_len g) t (omega arith) (omega (arith, within))
-
   -- the goto by a rule is that of the state
-  pub goto_is : (s r : ℕ) → s < length states → goto_of (table_of_states g states) s r ≡ lookup (nat_eq r) (state_at states s).gotos
+  pub goto_is : (table : Table) (s r : ℕ) → s < length states → table.gotos ≡ goto_rows states → goto_of table s r ≡ lookup (nat_eq r) (state_at states s).gotos
   unfolding goto_of
-  goto_is s r below =
-      ap (λ (row : List (ℕ × ℕ)). lookup (nat_eq r) row) (get_or-map (λ (state : StateOf). state.gotos) states s _ [] below)
-
-  action_entries : (s : ℕ) → s < length states
-      → AreEntries (IsActionEntry (tokens_len g) (length states)) (resolved_row g (state_at states s).cores (state_at states s).shifts)
-  action_entries s below =
-      let f = resolved_at g (state_at states s).cores (state_at states s).shifts in
-      record {
-        ascending = increasing_from 0 _ (row_ascends f 0 (tokens_len g));
-        each = row_each f (tokens_len g) (length states) 0 (tokens_len g) (omega arith) (λ t within.
-            resolved_within (length states) (lookup (nat_eq t) (state_at states s).shifts) (reductions g (state_at states s).cores t)
-            (is_complete_at g (state_at states s).cores t (start_prod g)) (λ next is. (step_some s (Terminal t) _ next (are.shifts s t below) is).1));
-      }
+  goto_is table s r below is =
+      ap (λ (rows : List (List (ℕ × ℕ))). lookup (nat_eq r) (slice_index_or rows s [])) is
+      ∙ ap (λ (row : List (ℕ × ℕ)). lookup (nat_eq r) row) (get_or-map (λ (state : StateOf). state.gotos) states s _ [] below)
 
   goto_entries : (s : ℕ) → s < length states → AreEntries (IsGotoEntry (rules_len g) (length states)) (state_at states s).gotos
   goto_entries s below =
@@ -177,16 +166,54 @@ module _ (g : Grammar) (states : List StateOf) (are : AreStates g states) (well 
             });
       }
 
-  -- so the rows are those of a table
-  pub is_table : (limit : ℕ) → length states ≤ limit → tokens_len g ≤ limit → rules_len g ≤ limit → IsTable limit (table_of_states g states)
-  is_table limit states_fit tokens_fit rules_fit = record {
-    actions_len = length-map states (λ (state : StateOf). resolved_row g state.cores state.shifts);
-    gotos_len = length-map states (λ (state : StateOf). state.gotos);
-    states_fit = states_fit;
-    tokens_fit = tokens_fit;
-    rules_fit = rules_fit;
-    start_within = some_state;
-    actions = All-map_at (AreEntries (IsActionEntry (tokens_len g) (length states))) (λ (state : StateOf). resolved_row g state.cores state.shifts) states _
-        action_entries;
-    gotos = All-map_at (AreEntries (IsGotoEntry (rules_len g) (length states))) (λ (state : StateOf). state.gotos) states _ goto_entries;
-  }
+  module _ (lists : PrecedenceLists) where
+    action_row : (s : ℕ) → s < length states
+        → actions_at (table_of_states lists g states) s ≡ resolved_row lists g (state_at states s).cores (state_at states s).shifts
+    action_row s below = get_or-map (λ (state : StateOf). resolved_row lists g state.cores state.shifts) states s _ [] below
+
+    -- the action at a token is the one after conflict resolution
+    pub action_is : (s t : ℕ) → s < length states → t < tokens_len g
+        → action_of (table_of_states lists g states) s t ≡ resolved_at lists g (state_at states s).cores (state_at states s).shifts t
+    unfolding action_of
+    action_is s t below within =
+        ap (λ (row : List (ℕ × TableAction)). unwrap_or (lookup (nat_eq t) row) Fails) (action_row s below)
+        ∙ row_lookup (resolved_at lists g (state_at states s).cores (state_at states s).shifts) 0 (tokens_len g) t (omega arith) (omega (arith, within))
+
+    action_entries : (s : ℕ) → s < length states
+        → AreEntries (IsActionEntry (tokens_len g) (length states)) (resolved_row lists g (state_at states s).cores (state_at states s).shifts)
+    action_entries s below =
+        let f = resolved_at lists g (state_at states s).cores (state_at states s).shifts in
+        record {
+          ascending = increasing_from 0 _ (row_ascends f 0 (tokens_len g));
+          each = row_each f (tokens_len g) (length states) 0 (tokens_len g) (omega arith) (λ t within.
+              resolved_within (decides_at lists t) (length states) (lookup (nat_eq t) (state_at states s).shifts) (reductions g (state_at states s).cores t)
+              (is_complete_at g (state_at states s).cores t (start_prod g)) (λ next is. (step_some s (Terminal t) _ next (are.shifts s t below) is).1));
+        }
+
+    -- so the rows are those of a table
+    pub is_table : (limit : ℕ) (conflicts : Option ConflictLists) (others : List ResolvedOf) → length states ≤ limit → tokens_len g ≤ limit → rules_len g ≤ limit
+        → IsTable limit (table_with g states (action_rows lists g states) conflicts others)
+    is_table limit conflicts others states_fit tokens_fit rules_fit = record {
+      actions_len = length-map states (λ (state : StateOf). resolved_row lists g state.cores state.shifts);
+      gotos_len = length-map states (λ (state : StateOf). state.gotos);
+      states_fit = states_fit;
+      tokens_fit = tokens_fit;
+      rules_fit = rules_fit;
+      start_within = some_state;
+      actions = All-map_at (AreEntries (IsActionEntry (tokens_len g) (length states))) (λ (state : StateOf). resolved_row lists g state.cores state.shifts) states _
+          action_entries;
+      gotos = All-map_at (AreEntries (IsGotoEntry (rules_len g) (length states))) (λ (state : StateOf). state.gotos) states _ goto_entries;
+    }
+
+-- other resolved conflicts don't change what a table is
+pub with_resolved_is : (limit : ℕ) (table : Table) (others : List ResolvedOf) → IsTable limit table → IsTable limit (with_resolved table others)
+with_resolved_is limit table others is = record {
+  actions_len = is.actions_len;
+  gotos_len = is.gotos_len;
+  states_fit = is.states_fit;
+  tokens_fit = is.tokens_fit;
+  rules_fit = is.rules_fit;
+  start_within = is.start_within;
+  actions = is.actions;
+  gotos = is.gotos;
+}

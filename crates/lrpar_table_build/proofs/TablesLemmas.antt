@@ -4,11 +4,12 @@ use Rattle.std.specs.Map.{keys_of}
 use Rattle.std.proofs.lemmas.List.{get_or-map, map-append}
 use Rattle.lrpar_grammar.specs.Grammar.{Grammar, prods_len, rules_len, tokens_len}
 use Rattle.lrpar_grammar_places.proofs.ListLemmas.{map-take_more}
-use Rattle.lrpar_table_rows.specs.Table.{ConflictLists, ReduceReduce, ShiftReduce, Table, TableAction}
+use Rattle.lrpar_table_precedence.specs.Precedence.{PrecedenceLists}
+use Rattle.lrpar_table_rows.specs.Table.{ConflictLists, ReduceReduce, ResolvedOf, ShiftReduce, Table, TableAction}
 use Rattle.lrpar_table_items.specs.Cores.{CoreSet}
-use Rattle.lrpar_table_items.specs.StateRows.{IsRefusalOf, action_rows, conflicts_of_states, goto_rows, reduce_conflicts_below, shift_conflicts_below, table_of_states, unless_empty}
+use Rattle.lrpar_table_items.specs.StateRows.{IsRefusalOf, action_rows, conflicts_of_states, goto_rows, reduce_conflicts_below, resolved_of_states, shift_conflicts_below, table_of_states, table_with, unless_empty}
 use Rattle.lrpar_table_items.specs.States.{AreStates, StateOf, state_at}
-use Rattle.lrpar_table_items.specs.Resolution.{AreOnce, AscendFrom, IsRefusal}
+use Rattle.lrpar_table_items.specs.Resolution.{AreOnce, AscendFrom, IsRefusal, unresolved}
 use Rattle.lrpar_table_items.specs.declared.fault.BuildFault.{BuildFault}
 use Rattle.lrpar_table_items.specs.declared.fault.BuildFault.TheVariants.{AcceptReduceConflict, Memory, StorageTooSmall, TooManyStates}
 
@@ -47,27 +48,38 @@ refusal_of len s n reason reasons TooManyStates below same is h = absurd h
 refusal_of len s n reason reasons StorageTooSmall below same is h = absurd h
 
 -- the conflicts of the states, by their lists
-pub conflicts_are_kept : (g : Grammar) (states : List StateOf) (n : ℕ) (conflicts : Option ConflictLists) (rr : List ReduceReduce) (sr : List ShiftReduce)
-    → n ≡ length states → conflicts ≡ unless_empty rr sr → rr ≡ reduce_conflicts_below g states n → sr ≡ shift_conflicts_below g states n
-    → conflicts ≡ conflicts_of_states g states
-conflicts_are_kept g states n conflicts rr sr all kept rr_is sr_is =
+pub conflicts_are_kept : (lists : PrecedenceLists) (g : Grammar) (states : List StateOf) (n : ℕ) (conflicts : Option ConflictLists) (rr : List ReduceReduce) (sr : List ShiftReduce)
+    → n ≡ length states → conflicts ≡ unless_empty rr sr → rr ≡ reduce_conflicts_below g states n → sr ≡ unresolved lists (shift_conflicts_below g states n)
+    → conflicts ≡ conflicts_of_states lists g states
+conflicts_are_kept lists g states n conflicts rr sr all kept rr_is sr_is =
     let reduces = rr_is ∙ ap (reduce_conflicts_below g states) all in
-    let shifts = sr_is ∙ ap (shift_conflicts_below g states) all in
+    let shifts = sr_is ∙ ap (λ m. unresolved lists (shift_conflicts_below g states m)) all in
     kept ∙ ap (λ xs. unless_empty xs sr) reduces ∙ ap (unless_empty (reduce_conflicts_below g states (length states))) shifts
 
--- the table of the states, by its parts
+-- a table of the states, by its parts
 pub table_is : (g : Grammar) (states : List StateOf) (start len tokens rules : ℕ) (actions : List (List (ℕ × TableAction))) (gotos : List (List (ℕ × ℕ)))
-    (conflicts : Option ConflictLists)
-    → start ≡ 0 → len ≡ length states → tokens ≡ tokens_len g → rules ≡ rules_len g → actions ≡ action_rows g states → gotos ≡ goto_rows states
-    → conflicts ≡ conflicts_of_states g states
-    → ◌≡◌ {A = Table} (record { start = start; states = len; tokens = tokens; rules = rules; actions = actions; gotos = gotos; conflicts = conflicts })
-    (table_of_states g states)
-table_is g states start len tokens rules actions gotos conflicts start_is len_is tokens_is rules_is actions_are gotos_are kept =
-    let made : ℕ → ℕ → ℕ → ℕ → List (List (ℕ × TableAction)) → List (List (ℕ × ℕ)) → Option ConflictLists → Table = λ a b c d e f h.
-    record { start = a; states = b; tokens = c; rules = d; actions = e; gotos = f; conflicts = h } in
-    ap (λ a. made a len tokens rules actions gotos conflicts) start_is ∙ ap (λ b. made 0 b tokens rules actions gotos conflicts) len_is
-    ∙ ap (λ c. made 0 (length states) c rules actions gotos conflicts) tokens_is
-    ∙ ap (λ d. made 0 (length states) (tokens_len g) d actions gotos conflicts) rules_is
-    ∙ ap (λ e. made 0 (length states) (tokens_len g) (rules_len g) e gotos conflicts) actions_are
-    ∙ ap (λ f. made 0 (length states) (tokens_len g) (rules_len g) (action_rows g states) f conflicts) gotos_are
-    ∙ ap (made 0 (length states) (tokens_len g) (rules_len g) (action_rows g states) (goto_rows states)) kept
+    (conflicts : Option ConflictLists) → start ≡ 0 → len ≡ length states → tokens ≡ tokens_len g → rules ≡ rules_len g → gotos ≡ goto_rows states
+    → ◌≡◌ {A = Table} (record {
+      start = start;
+      states = len;
+      tokens = tokens;
+      rules = rules;
+      actions = actions;
+      gotos = gotos;
+      conflicts = conflicts;
+      resolved = [];
+    }) (table_with g states actions conflicts [])
+table_is g states start len tokens rules actions gotos conflicts start_is len_is tokens_is rules_is gotos_are =
+    let made : ℕ → ℕ → ℕ → ℕ → List (List (ℕ × ℕ)) → Table = λ a b c d f.
+    record { start = a; states = b; tokens = c; rules = d; actions = actions; gotos = f; conflicts = conflicts; resolved = [] } in
+    ap (λ a. made a len tokens rules gotos) start_is ∙ ap (λ b. made 0 b tokens rules gotos) len_is
+    ∙ ap (λ c. made 0 (length states) c rules gotos) tokens_is ∙ ap (λ d. made 0 (length states) (tokens_len g) d gotos) rules_is
+    ∙ ap (made 0 (length states) (tokens_len g) (rules_len g)) gotos_are
+
+-- the table of the states by precedences, by what it has of them
+pub table_by : (lists : PrecedenceLists) (g : Grammar) (states : List StateOf) (actions : List (List (ℕ × TableAction))) (conflicts : Option ConflictLists)
+    (others : List ResolvedOf) → actions ≡ action_rows lists g states → conflicts ≡ conflicts_of_states lists g states → others ≡ resolved_of_states lists g states
+    → table_with g states actions conflicts others ≡ table_of_states lists g states
+table_by lists g states actions conflicts others actions_are kept resolved =
+    ap (λ a. table_with g states a conflicts others) actions_are ∙ ap (λ c. table_with g states (action_rows lists g states) c others) kept
+    ∙ ap (table_with g states (action_rows lists g states) (conflicts_of_states lists g states)) resolved

@@ -1,15 +1,16 @@
 -- The result of the table builder: the canonical collection of a grammar as the item sets of states, the canonical LR(1) table, and its
 -- conflicts.
-use Rattle.std.specs.Prelude.{◌≡◌, ◌<◌, ◌↔◌, ℕ, None}
+use Rattle.std.specs.Prelude.{◌≡◌, ◌<◌, ◌↔◌, ℕ, List, All, None}
 use Rattle.std.specs.List.Sorted.{IsStrictlySortedBy}
 use Rattle.std.specs.Ordering.{nat_cmp, ordering_then}
 use Rattle.std.specs.declared.cmp.Ordering.{Ordering}
 use Rattle.lrpar_grammar.specs.Grammar.{Grammar}
-use Rattle.lrpar_table_rows.specs.ConflictsFit.{ConflictsFit}
+use Rattle.lrpar_table_precedence.specs.Precedence.{PrecedenceLists}
+use Rattle.lrpar_table_rows.specs.ConflictsFit.{ConflictsFit, ShiftFits}
 use Rattle.lrpar_table_rows.specs.Graph.{Graph, graph_len}
 use Rattle.lrpar_table_rows.specs.Safe.{IsSafe}
-use Rattle.lrpar_table_rows.specs.Table.{ConflictLists, ReduceReduce, ShiftReduce, Table}
-use Rattle.lrpar_table_build.specs.BuilderLaws.{AcceptAlone, AreConflictsOf, IsCanonicalTable, HaveOneAction, lists_in}
+use Rattle.lrpar_table_rows.specs.Table.{ConflictLists, ReduceReduce, ResolvedOf, ShiftReduce, Table}
+use Rattle.lrpar_table_build.specs.BuilderLaws.{AcceptAlone, AreConflictsBy, AreConflictsOf, AreResolvedBy, IsCanonicalTable, IsCanonicalTableBy, HaveOneAction, lists_in}
 use Rattle.lrpar_table_items.specs.Canonical.{IsAcceptConflict, IsCanonical, ReachesMore, sets_of}
 use Rattle.lrpar_table_items.specs.declared.fault.BuildFault.{BuildFault}
 use Rattle.lrpar_table_items.specs.declared.fault.BuildFault.TheVariants.{AcceptReduceConflict, Memory, StorageTooSmall, TooManyStates}
@@ -38,6 +39,29 @@ pub record IsBuilt (g : Grammar) (graph : Graph) (table : Table) : Type 0 where
   pub in_order : AreInOrder (lists_in table.conflicts)
   pub fit : ConflictsFit g (lists_in table.conflicts)
   pub no_conflicts : (table.conflicts ≡ None) ↔ HaveOneAction g (graph_len graph) (sets_of graph)
+  pub accept_alone : AcceptAlone g (graph_len graph) (sets_of graph)
+
+-- the resolved conflicts are in order, each once
+abbrev pub AreResolvedInOrder : List ResolvedOf → Type 0
+AreResolvedInOrder resolved = IsStrictlySortedBy (λ x y. shift_reduce_cmp x.conflict y.conflict) resolved
+
+-- a resolved conflict fits: its token, other than the end token, and its production are of the grammar
+abbrev pub ResolvedFits : Grammar → ResolvedOf → Type 0
+ResolvedFits g x = ShiftFits g x.conflict
+
+-- the graph has the canonical collection, and the table its actions after conflict resolution by the precedences, so it is safe; the
+-- table has the conflicts that the precedences don't resolve, and those that they do, in order; they fit the grammar; and no set has
+-- an accept/reduce conflict
+pub record IsBuiltBy (g : Grammar) (precedences : PrecedenceLists) (graph : Graph) (table : Table) : Type 0 where
+  pub canonical : IsCanonical g graph
+  pub resolution : IsCanonicalTableBy g precedences graph table
+  pub safe : IsSafe g graph table
+  pub conflicts : AreConflictsBy g precedences graph table.conflicts
+  pub in_order : AreInOrder (lists_in table.conflicts)
+  pub fit : ConflictsFit g (lists_in table.conflicts)
+  pub resolved : AreResolvedBy g precedences graph table.resolved
+  pub resolved_in_order : AreResolvedInOrder table.resolved
+  pub resolved_fit : All (ResolvedFits g) table.resolved
   pub accept_alone : AcceptAlone g (graph_len graph) (sets_of graph)
 
 -- number n of the canonical collection has an accept/reduce conflict

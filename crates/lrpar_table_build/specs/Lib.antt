@@ -1,2 +1,3 @@
 pub mod BuilderLaws
 pub mod Built
+pub mod KeptApart

@@ -1,13 +1,14 @@
 //! The table builder: the canonical collection of LR(1) item sets of a grammar, and its canonical LR(1) table.
-ghost use Rattle.std.specs.Prelude.{◌≤◌, IfErr, IfOk};
+ghost use Rattle.std.specs.Prelude.{◌≡◌, ◌≤◌, [], IfErr, IfOk};
 ghost use Rattle.lrpar_table_rows.specs.Graph.{graph_len};
-ghost use Rattle.lrpar_table_build.specs.Built.{IsBuildRefusal, IsBuilt};
+ghost use Rattle.lrpar_table_build.specs.Built.{IsBuildRefusal, IsBuilt, IsBuiltBy};
 
 use crate::tables::tables;
 use lrpar_grammar::grammar::YaccGrammar;
 use lrpar_grammar::span::StorageIndex;
 pub use lrpar_table_items::fault::BuildFault;
 use lrpar_table_items::states::states;
+pub use lrpar_table_precedence::precedences::Precedences;
 use lrpar_table_rows::table::{StateGraph, StateTable};
 use std::alloc::Global;
 
@@ -30,10 +31,40 @@ pub fn from_yacc<StorageT: StorageIndex>(
     // conflicts are theirs and fit.
     ensures built { IfOk result (λ built. IsBuilt grm.now built.0 built.1) }
     ensures room { IfOk result (λ built. graph_len built.0 ≤ max_states) }
+    ensures nothing_resolved { IfOk result (λ built. built.1.resolved ≡ []) }
     // `TooManyStates` and `StorageTooSmall`: there are too many item sets; `AcceptReduceConflict`: one calls for accept and a reduction.
     ensures refused { IfErr result (IsBuildRefusal grm.now max_states StorageT.limit) }
 {
     let _start = grm.start_prod();
+    from_yacc_with(alloc, grm, &Precedences::none(alloc), max_states)
+}
+
+/// The canonical collection of LR(1) item sets of the grammar, at most `max_states`, and the LR(1) table that resolves conflicts by the
+/// precedences. State 0 is the start state.
+///
+/// If an item set calls for a shift and for reductions at one token, the precedences of the token and of the first of the productions
+/// decide, if both have one, by yacc's rule: the higher level wins, and at one level the table reduces if it associates to the left,
+/// shifts if it associates to the right, and has an error if it doesn't associate. These conflicts are the table's `resolved()`, each
+/// with how it was resolved, by state and token. Where the token or the production has no precedence, the table shifts, and the
+/// conflict is listed by `conflicts()`. Precedences never decide between reductions: the first production is the one that
+/// meets the shift, and each other one makes a reduce/reduce conflict.
+///
+/// The table is safe, but where a conflict was resolved it isn't complete. With `Precedences::none` it is the table of `from_yacc`. The
+/// faults are those of `from_yacc`.
+pub fn from_yacc_with<StorageT: StorageIndex>(
+    alloc: Global,
+    grm: &YaccGrammar<StorageT>,
+    precedences: &Precedences,
+    max_states: usize,
+) -> Result<(StateGraph<StorageT>, StateTable<StorageT>), BuildFault>
+    // The item sets are the canonical collection, and the table has their actions after conflict resolution by the precedences. It is
+    // safe. Its conflicts are those that the precedences don't resolve, its resolved conflicts are the others, and both fit.
+    ensures built { IfOk result (λ built. IsBuiltBy grm.now precedences.now built.0 built.1) }
+    ensures room { IfOk result (λ built. graph_len built.0 ≤ max_states) }
+    // As for `from_yacc`.
+    ensures refused { IfErr result (IsBuildRefusal grm.now max_states StorageT.limit) }
+{
+    let _start = grm.start_prod();
     let states = states(alloc, grm, max_states)?;
-    tables(alloc, grm, states)
+    tables(alloc, grm, precedences, states)
 }

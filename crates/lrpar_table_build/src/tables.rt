@@ -1,14 +1,15 @@
 //! The state graph and the table of the canonical collection.
-ghost use Rattle.std.specs.Prelude.{◌≡◌, ◌≢◌, ◌<◌, ◌≤◌, ◌↔◌, ◌++◌, ℕ, IfErr, IfOk, OnOk, length, map};
+ghost use Rattle.std.specs.Prelude.{◌≡◌, ◌≢◌, ◌<◌, ◌≤◌, ◌↔◌, ◌++◌, ℕ, [], IfErr, IfOk, OnOk, length, map};
 ghost use Rattle.lrpar_grammar.specs.Grammar.{IsWellFormed, tokens_len};
 ghost use Rattle.lrpar_table_rows.specs.Graph.{HasItem, graph_len};
-ghost use Rattle.lrpar_table_rows.specs.PlainConflicts.{reduce_reduce_of, shift_reduce_of};
+ghost use Rattle.lrpar_table_rows.specs.PlainConflicts.{reduce_reduce_of, resolved_conflict_of, shift_reduce_of};
 ghost use Rattle.lrpar_table_rows.specs.PlainRows.{action_entry, goto_entry, sparse_table_of};
 ghost use Rattle.lrpar_table_rows.specs.Table.{IsTable};
-ghost use Rattle.lrpar_table_build.specs.Built.{IsBuilt};
-ghost use Rattle.lrpar_table_items.specs.StateRows.{IsRefusalOf, IsRefusedState, action_rows, conflicts_of_states, goto_rows, item_rows, reduce_conflicts_below, shift_conflicts_below, table_of_states, unless_empty};
+ghost use Rattle.lrpar_table_build.specs.Built.{IsBuiltBy};
+ghost use Rattle.lrpar_table_items.specs.StateRows.{IsRefusalOf, IsRefusedState, action_rows, conflicts_of_states, goto_rows, item_rows, reduce_conflicts_below, resolved_of_states, shift_conflicts_below, table_with, unless_empty};
+ghost use Rattle.lrpar_table_precedence.specs.Precedence.{PrecedenceLists};
 ghost use Rattle.lrpar_table_items.specs.States.{AreStates, state_at, state_of};
-ghost use Rattle.lrpar_table_items.specs.Resolution.{IsAcceptReduce};
+ghost use Rattle.lrpar_table_items.specs.Resolution.{IsAcceptReduce, resolutions, unresolved};
 ghost use Rattle.lrpar_table_items.specs.declared.fault.BuildFault.TheVariants.{Memory};
 ghost use Rattle.lrpar_table_rows.specs.declared.fault.TableFault.{TableFault};
 
@@ -19,7 +20,10 @@ use lrpar_table_items::item_rows::rows_of_items;
 use lrpar_table_items::item_set::State;
 use lrpar_table_items::resolution::{ReduceReduce, ShiftReduce};
 use lrpar_table_items::state_row::state_row;
-use lrpar_table_rows::table::{Action, Conflicts, SparseRows, StateGraph, StateTable, TableFault};
+use lrpar_table_precedence::precedences::Precedences;
+use lrpar_table_rows::table::{
+    Action, Conflicts, Resolved, ResolvedConflict, SparseRows, StateGraph, StateTable, TableFault,
+};
 use std::alloc::{AllocError, Global};
 
 /// The entries that a state stores: tokens with actions, ascending.
@@ -28,65 +32,90 @@ type ActionRow<StorageT> = Vec<(TIdx<StorageT>, Action<StorageT>)>;
 /// The gotos that a state stores: rules with states, ascending.
 type GotoRow<StorageT> = Vec<(RIdx<StorageT>, StIdx<StorageT>)>;
 
-/// The item sets of the states, and the table with their actions after conflict resolution, and with their conflicts.
+/// The item sets of the states, and the table with their actions after conflict resolution by the precedences, with their conflicts, and
+/// with those that the precedences resolve.
 ///
 /// It returns `AcceptReduceConflict` with a state that calls for accept and for a reduction, and `Memory` if an allocation fails. It
 /// takes time proportional to the number of states times tokens times complete cores.
 pub(crate) fn tables<StorageT: StorageIndex>(
     alloc: Global,
     grm: &YaccGrammar<StorageT>,
+    precedences: &Precedences,
     states: Vec<State<StorageT>>,
 ) -> Result<(StateGraph<StorageT>, StateTable<StorageT>), BuildFault>
     requires states { AreStates grm.now (map (state_of StorageT.index) states.items) }
     requires fit { length states.items ≤ StorageT.limit }
-    ensures built { IfOk result (λ built. IsBuilt grm.now built.0 built.1) }
+    ensures built { IfOk result (λ built. IsBuiltBy grm.now precedences.now built.0 built.1) }
     ensures len { IfOk result (λ built. graph_len built.0 ≡ length states.items) }
     ensures refused { IfErr result (IsRefusalOf (length states.items) (IsRefusedState grm.now (map (state_of StorageT.index) states.items))) }
 {
     let _start = grm.start_prod();
-    let (actions, conflicts) = all_actions(alloc, grm, &states)?;
+    let (actions, conflicts, resolved) = all_actions(alloc, grm, precedences, &states)?;
     let graph = graph_of(alloc, grm, &states)?;
     let table = table_of_states(alloc, grm, states, actions, conflicts)?;
-    Ok((graph, table))
+    Ok((graph, table.with_resolved(resolved)))
 }
 
-// The actions of each state but errors, and the conflicts of the states, if there are any.
+// The actions of each state but errors, the conflicts of the states, if any are left, and those that are resolved.
 fn all_actions<StorageT: StorageIndex>(
     alloc: Global,
     grm: &YaccGrammar<StorageT>,
+    precedences: &Precedences,
     states: &[State<StorageT>],
-) -> Result<(Vec<ActionRow<StorageT>>, Option<Conflicts<StorageT>>), BuildFault>
+) -> Result<
+    (
+        Vec<ActionRow<StorageT>>,
+        Option<Conflicts<StorageT>>,
+        Resolved<StorageT>,
+    ),
+    BuildFault,
+>
     requires states { AreStates grm.now (map (state_of StorageT.index) states.now) }
     requires fit { length states.now ≤ StorageT.limit }
     ensures rows { IfOk result (λ made. map (λ row. map (action_entry StorageT.index) row.items) made.0.items
-        ≡ action_rows grm.now (map (state_of StorageT.index) states.now)) }
-    ensures conflicts { IfOk result (λ made. made.1 ≡ conflicts_of_states grm.now (map (state_of StorageT.index) states.now)) }
+        ≡ action_rows precedences.now grm.now (map (state_of StorageT.index) states.now)) }
+    ensures conflicts { IfOk result (λ made. made.1 ≡ conflicts_of_states precedences.now grm.now (map (state_of StorageT.index) states.now)) }
+    ensures resolved { IfOk result (λ made. made.2 ≡ resolved_of_states precedences.now grm.now (map (state_of StorageT.index) states.now)) }
     ensures none { IfOk result (λ _. (s t : ℕ) → s < length states.now → t < tokens_len grm.now
         → ¬ (let state = state_at (map (state_of StorageT.index) states.now) s in IsAcceptReduce grm.now state.cores state.shifts t)) }
     ensures refused { IfErr result (IsRefusalOf (length states.now) (IsRefusedState grm.now (map (state_of StorageT.index) states.now))) }
 {
     let mut rr = Vec::new(alloc);
     let mut sr = Vec::new(alloc);
-    let rows = rows_of_actions(alloc, grm, states, &mut rr, &mut sr)?;
-    Ok((rows, conflicts_of(rr, sr)))
+    let mut resolved = Vec::new(alloc);
+    let rows = rows_of_actions(
+        alloc,
+        grm,
+        precedences,
+        states,
+        &mut rr,
+        &mut sr,
+        &mut resolved,
+    )?;
+    Ok((rows, conflicts_of(rr, sr), Resolved::new(resolved)))
 }
 
-// The actions of each state but errors. The reduce/reduce conflicts are appended to `rr`, the shift/reduce conflicts to `sr`.
+// The actions of each state but errors. The reduce/reduce conflicts are appended to `rr`, the shift/reduce conflicts that the
+// precedences don't resolve to `sr`, and those that they resolve to `resolved`.
 fn rows_of_actions<StorageT: StorageIndex>(
     alloc: Global,
     grm: &YaccGrammar<StorageT>,
+    precedences: &Precedences,
     states: &[State<StorageT>],
     rr: &mut Vec<ReduceReduce<StorageT>>,
     sr: &mut Vec<ShiftReduce<StorageT>>,
+    resolved: &mut Vec<ResolvedConflict<StorageT>>,
 ) -> Result<Vec<ActionRow<StorageT>>, BuildFault>
     requires states { AreStates grm.now (map (state_of StorageT.index) states.now) }
     requires fit { length states.now ≤ StorageT.limit }
     ensures rows { IfOk result (λ rows. map (λ row. map (action_entry StorageT.index) row.items) rows.items
-        ≡ action_rows grm.now (map (state_of StorageT.index) states.now)) }
+        ≡ action_rows precedences.now grm.now (map (state_of StorageT.index) states.now)) }
     ensures rr { OnOk result (map (reduce_reduce_of StorageT.index) rr.new.items ≡ map (reduce_reduce_of StorageT.index) rr.old.items
         ++ reduce_conflicts_below grm.now (map (state_of StorageT.index) states.now) (length states.now)) }
     ensures sr { OnOk result (map (shift_reduce_of StorageT.index) sr.new.items ≡ map (shift_reduce_of StorageT.index) sr.old.items
-        ++ shift_conflicts_below grm.now (map (state_of StorageT.index) states.now) (length states.now)) }
+        ++ unresolved precedences.now (shift_conflicts_below grm.now (map (state_of StorageT.index) states.now) (length states.now))) }
+    ensures resolved { OnOk result (map (resolved_conflict_of StorageT.index) resolved.new.items ≡ map (resolved_conflict_of StorageT.index) resolved.old.items
+        ++ resolutions precedences.now (shift_conflicts_below grm.now (map (state_of StorageT.index) states.now) (length states.now))) }
     ensures none { IfOk result (λ _. (s t : ℕ) → s < length states.now → t < tokens_len grm.now
         → ¬ (let state = state_at (map (state_of StorageT.index) states.now) s in IsAcceptReduce grm.now state.cores state.shifts t)) }
     ensures refused { IfErr result (IsRefusalOf (length states.now) (IsRefusedState grm.now (map (state_of StorageT.index) states.now))) }
@@ -95,7 +124,17 @@ fn rows_of_actions<StorageT: StorageIndex>(
     for number in 0..states.len() {
         let state = &states[number];
         let sidx = StIdx(StorageT::from_index(number).unwrap());
-        let row = state_row(alloc, grm, &sidx, &state.items, &state.shifts, rr, sr)?;
+        let row = state_row(
+            alloc,
+            grm,
+            precedences,
+            &sidx,
+            &state.items,
+            &state.shifts,
+            rr,
+            sr,
+            resolved,
+        )?;
         rows.push(row)?;
     }
     Ok(rows)
@@ -160,10 +199,10 @@ fn table_of_states<StorageT: StorageIndex>(
     requires well_formed { IsWellFormed grm.now }
     requires states { AreStates grm.now (map (state_of StorageT.index) states.items) }
     requires fit { length states.items ≤ StorageT.limit }
-    requires actions { map (λ row. map (action_entry StorageT.index) row.items) actions.items
-        ≡ action_rows grm.now (map (state_of StorageT.index) states.items) }
-    requires conflicts { conflicts ≡ conflicts_of_states grm.now (map (state_of StorageT.index) states.items) }
-    ensures table { IfOk result (λ table. table ≡ table_of_states grm.now (map (state_of StorageT.index) states.items)) }
+    requires actions { (lists : PrecedenceLists) × (map (λ row. map (action_entry StorageT.index) row.items) actions.items
+        ≡ action_rows lists grm.now (map (state_of StorageT.index) states.items)) }
+    ensures table { IfOk result (λ table. table ≡ table_with grm.now (map (state_of StorageT.index) states.items)
+        (map (λ row. map (action_entry StorageT.index) row.items) actions.items) conflicts []) }
     ensures valid { IfOk result (IsTable StorageT.limit) }
     ensures refused { IfErr result (λ fault. fault ≡ Memory) }
 {

@@ -1,13 +1,16 @@
 -- The lists that the loops over productions and tokens build, by what one more production or token adds; and shifts that ascend.
-use Rattle.std.proofs.Common.{◌≡◌, ◌≢◌, ◌<◌, ◌+◌, ◌++◌, ◌∷◌, ◌∙◌, ℕ, cond, nat_eq, List, [], Some, None, refl, sym, ap, arith, length, map, take, get_or, zero-add}
+use Rattle.std.proofs.Common.{◌≡◌, ◌≢◌, ◌<◌, ◌+◌, ◌++◌, ◌∷◌, ◌∙◌, ℕ, Bool, true, false, cond, nat_eq, List, [], Some, None, refl, sym, ap, arith, length, map, take, get_or, zero-add}
 use Rattle.std.specs.List.{range_with_len, flat_map}
 use Rattle.std.specs.Map.{keys_of, lookup}
 use Rattle.std.proofs.lemmas.Bool.{ne_eqb}
 use Rattle.std.proofs.lemmas.List.{append-nil, append_assoc, map-append}
+use Rattle.std.specs.Option.{is_none}
 use Rattle.std.proofs.lemmas.List.Concat.{flat_map-append}
+use Rattle.std.proofs.lemmas.List.Elements.{filter_map-append}
 use Rattle.lrpar_grammar_places.proofs.ListLemmas.{map-take_more, range_more}
-use Rattle.lrpar_table_rows.specs.Table.{ReduceReduce}
-use Rattle.lrpar_table_items.specs.Resolution.{AscendFrom, reduce_conflicts_at}
+use Rattle.lrpar_table_precedence.specs.Precedence.{PrecedenceLists, resolution_of}
+use Rattle.lrpar_table_rows.specs.Table.{ReduceReduce, ShiftReduce}
+use Rattle.lrpar_table_items.specs.Resolution.{AscendFrom, reduce_conflicts_at, resolution_with, resolutions, unresolved}
 
 -- the conflicts with the first production, with one more production
 pub conflicts_more : {X Y : Type 0} (view : Y → ReduceReduce) (f : X → ℕ) (s t p : ℕ) (later : List X) (i : ℕ) (x : X) (made pushed : List Y) (y : Y)
@@ -48,3 +51,25 @@ pub joined_more : {X Y : Type 0} (view : X → Y) (f : ℕ → List Y) (n : ℕ)
     → map view pushed ≡ base ++ flat_map f (range_with_len 0 (n + 1))
 joined_more view f n made pushed base so_far more =
     more ∙ ap (λ s. s ++ f n) so_far ∙ append_assoc base (flat_map f (range_with_len 0 n)) (f n) ∙ ap (λ s. base ++ s) (sym (flat_more f n))
+
+-- the same for lists of which only some elements are kept, or an image of them
+pub joined_kept : {X Y Z : Type 0} (view : X → Z) (keep : List Y → List Z) → ((xs ys : List Y) → keep (xs ++ ys) ≡ keep xs ++ keep ys) → (f : ℕ → List Y) (n : ℕ)
+    (made pushed : List X) (base : List Z) → map view made ≡ base ++ keep (flat_map f (range_with_len 0 n)) → map view pushed ≡ map view made ++ keep (f n)
+    → map view pushed ≡ base ++ keep (flat_map f (range_with_len 0 (n + 1)))
+joined_kept view keep joins f n made pushed base so_far more =
+    more ∙ ap (λ s. s ++ keep (f n)) so_far ∙ append_assoc base (keep (flat_map f (range_with_len 0 n))) (keep (f n))
+    ∙ ap (λ s. base ++ s) (sym (ap keep (flat_more f n) ∙ joins (flat_map f (range_with_len 0 n)) (f n)))
+
+-- what is kept of two lists of conflicts
+pub unresolved-append : (lists : PrecedenceLists) (xs ys : List ShiftReduce) → unresolved lists (xs ++ ys) ≡ unresolved lists xs ++ unresolved lists ys
+unresolved-append lists [] ys = refl
+unresolved-append lists (x ∷ xs) ys =
+    let keep : ShiftReduce → Bool = λ x. is_none (resolution_of lists x.prod x.token) in
+    elim (keep x) as (λ b. cond b (x ∷ unresolved lists (xs ++ ys)) (unresolved lists (xs ++ ys))
+    ≡ cond b (x ∷ unresolved lists xs) (unresolved lists xs) ++ unresolved lists ys) [
+      | true ↦ ap (λ s. x ∷ s) (unresolved-append lists xs ys)
+      | false ↦ unresolved-append lists xs ys
+    ]
+
+pub resolutions-append : (lists : PrecedenceLists) (xs ys : List ShiftReduce) → resolutions lists (xs ++ ys) ≡ resolutions lists xs ++ resolutions lists ys
+resolutions-append lists xs ys = filter_map-append (resolution_with lists) xs ys

@@ -1,5 +1,5 @@
 -- What one token adds to a state's row and to its conflicts, computed from the complete cores of the state.
-use Rattle.std.proofs.Common.{◌≡◌, ◌<◌, ◌+◌, ◌==◌, ◌∙◌, ℕ, Bool, List, All, Option, Result, Ok, Err, IfErr, sym, ap, subst, arith, inl, inr, filter, nat_eq}
+use Rattle.std.proofs.Common.{◌≡◌, ◌<◌, ◌+◌, ◌==◌, ◌∙◌, ℕ, Bool, List, All, Option, Result, Ok, Err, IfErr, OnOk, sym, ap, subst, arith, inl, inr, filter, nat_eq}
 use Rattle.std.specs.List.Sorted.{IsNonDecreasingBy, IsPermutation}
 use Rattle.std.specs.Map.{lookup}
 use Rattle.std.specs.Result.{IsErrAnd}
@@ -7,8 +7,9 @@ use Rattle.std.proofs.lemmas.Bool.{cases_lt}
 use Rattle.std.proofs.lemmas.List.Elements.{All-filter}
 use Rattle.std.proofs.lemmas.List.Sorted.{All-permutation}
 use Rattle.lrpar_grammar.specs.Grammar.{Grammar, prod_len, prods_len, start_prod, tokens_len}
+use Rattle.lrpar_table_precedence.specs.Precedence.{PrecedenceLists}
 use Rattle.lrpar_table_items.specs.Cores.{CoreSet}
-use Rattle.lrpar_table_items.specs.Resolution.{AcceptsBeside, AreOnce, HasAcceptReduce, IsAcceptReduce, IsRefusal, entry_at, is_complete_at, reductions, shift_conflicts_at, resolved, resolved_at}
+use Rattle.lrpar_table_items.specs.Resolution.{AcceptsBeside, AreOnce, HasAcceptReduce, IsAcceptReduce, IsRefusal, decides_at, entry_at, is_complete_at, reductions, shift_conflicts_at, resolved, resolved_at}
 use Rattle.lrpar_table_items.specs.CompleteItems.{accepts_at, prods_at}
 use Rattle.lrpar_table_items.specs.declared.fault.BuildFault.{BuildFault}
 use Rattle.lrpar_table_items.specs.declared.fault.BuildFault.TheVariants.{AcceptReduceConflict, Memory, StorageTooSmall, TooManyStates}
@@ -33,13 +34,14 @@ accepts_are g cores complete start t accepts moved is reported =
     reported ∙ ap (λ n. accepts_at n complete t) is ∙ complete_is g cores complete moved t (start_prod g)
 
 -- so the action that is pushed is the one after conflict resolution
-pub entry_is : (g : Grammar) (cores : List CoreSet) (shifts : List (ℕ × ℕ)) (n t : ℕ) (goto : Option ℕ) (prods : List ℕ) (accepts : Bool)
+pub entry_is : (lists : PrecedenceLists) (g : Grammar) (cores : List CoreSet) (shifts : List (ℕ × ℕ)) (n t : ℕ) (goto : Option ℕ) (prods : List ℕ) (accepts : Bool)
     → n ≡ t → goto ≡ lookup (nat_eq t) shifts → prods ≡ reductions g cores t → accepts ≡ is_complete_at g cores t (start_prod g)
-    → entry_at n (resolved goto prods accepts) ≡ entry_at t (resolved_at g cores shifts t)
-entry_is g cores shifts n t goto prods accepts number shift reduces accept =
-    ap (λ m. entry_at m (resolved goto prods accepts)) number ∙ ap (λ x. entry_at t (resolved x prods accepts)) shift
-    ∙ ap (λ x. entry_at t (resolved (lookup (nat_eq t) shifts) x accepts)) reduces
-    ∙ ap (λ x. entry_at t (resolved (lookup (nat_eq t) shifts) (reductions g cores t) x)) accept
+    → entry_at n (resolved (decides_at lists n) goto prods accepts) ≡ entry_at t (resolved_at lists g cores shifts t)
+entry_is lists g cores shifts n t goto prods accepts number shift reduces accept =
+    let by = decides_at lists t in
+    ap (λ m. entry_at m (resolved (decides_at lists m) goto prods accepts)) number ∙ ap (λ x. entry_at t (resolved by x prods accepts)) shift
+    ∙ ap (λ x. entry_at t (resolved by (lookup (nat_eq t) shifts) x accepts)) reduces
+    ∙ ap (λ x. entry_at t (resolved by (lookup (nat_eq t) shifts) (reductions g cores t) x)) accept
 
 -- and the shift/reduce conflict
 pub shift_conflict_is : (g : Grammar) (cores : List CoreSet) (shifts : List (ℕ × ℕ)) (s n t : ℕ) (goto : Option ℕ) (prods : List ℕ)
@@ -77,3 +79,8 @@ refused_at g cores shifts s t reason StorageTooSmall within is refused = refused
 pub error_same : {T E : Type 0} (result : Result T E) (P : E → Type 0) (e : E) → IsErrAnd result (λ f. f ≡ e) → P e → IfErr result P
 error_same (Ok x) P e is holds = tt
 error_same (Err f) P e is holds = subst P (sym is) holds
+
+-- what is done for all is done for each
+pub done_by : {X T E : Type 0} (result : Result T E) (P : X → Type 0) (x : X) → OnOk result ((y : X) → P y) → OnOk result (P x)
+done_by (Ok v) P x done = done x
+done_by (Err e) P x done = tt

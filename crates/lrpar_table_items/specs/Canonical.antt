@@ -3,8 +3,10 @@
 use Rattle.std.specs.Prelude.{◌≡◌, ◌≢◌, ◌<◌, ◌≤◌, ◌↔◌, ℕ, List, [], All, Contains, Option, Some, None, length, slice_get, slice_index_or}
 use Rattle.lrpar_grammar.specs.Grammar.{Grammar, GrammarSymbol, Nonterminal, Terminal, end_token, prod_len, start_prod, symbols_of}
 use Rattle.lrpar_table_rows.specs.Graph.{Graph, ItemOf, graph_len, item_at, items_of}
-use Rattle.lrpar_table_rows.specs.Table.{ReduceReduce, ShiftReduce, Table, ShiftTo, ReduceBy, Accepts, Fails, action_of, goto_of}
+use Rattle.lrpar_table_precedence.specs.Precedence.{PrecedenceLists, resolution_of}
+use Rattle.lrpar_table_rows.specs.Table.{ReduceReduce, ResolvedOf, ShiftReduce, Table, ShiftTo, ReduceBy, Accepts, Fails, action_of, goto_of}
 use Rattle.lrpar_table_items.specs.ItemSets.{IsInNext, IsReachedBy}
+use Rattle.lrpar_table_items.specs.Resolution.{chosen}
 
 -- two sets have the same items
 abbrev pub AreSame : (ItemOf → Type 0) → (ItemOf → Type 0) → Type 0
@@ -63,6 +65,20 @@ pub record ActsAsResolved (g : Grammar) (sets : ℕ → ItemOf → Type 0) (tabl
   pub fails : ¬ (HasAfterDot g sets s (Terminal t)) → ((p : ℕ) → ¬ (HasReduce g sets s t p)) → ¬ (HasAccept g sets s t)
       → action_of table s t ≡ Fails
 
+-- the action of state s at token t is what conflict resolution with precedences gives. If items call for a shift and for a reduction,
+-- it is what the precedences decide between the shift and the reduction by the least production, and the shift, if they decide
+-- nothing. Otherwise it is the shift, if items call for one; the reduction by the least production; accept; or an error
+pub record ActsByPrecedence (g : Grammar) (lists : PrecedenceLists) (sets : ℕ → ItemOf → Type 0) (table : Table) (s t : ℕ) : Type 0 where
+  pub meets : HasAfterDot g sets s (Terminal t) → (p : ℕ) → HasFirstReduce g sets s t p
+      → (next : ℕ) × (action_of table s t ≡ chosen (resolution_of lists p t) next p) × LeadsTo g sets s (Terminal t) next
+  pub shifts : HasAfterDot g sets s (Terminal t) → ((p : ℕ) → ¬ (HasReduce g sets s t p))
+      → (next : ℕ) × (action_of table s t ≡ ShiftTo next) × LeadsTo g sets s (Terminal t) next
+  pub reduces : ¬ (HasAfterDot g sets s (Terminal t)) → (p : ℕ) → HasFirstReduce g sets s t p → action_of table s t ≡ ReduceBy p
+  pub accepts : ¬ (HasAfterDot g sets s (Terminal t)) → ((p : ℕ) → ¬ (HasReduce g sets s t p)) → HasAccept g sets s t
+      → action_of table s t ≡ Accepts
+  pub fails : ¬ (HasAfterDot g sets s (Terminal t)) → ((p : ℕ) → ¬ (HasReduce g sets s t p)) → ¬ (HasAccept g sets s t)
+      → action_of table s t ≡ Fails
+
 -- the goto of state s by rule r is that of its item set
 pub record GoesAsItems (g : Grammar) (sets : ℕ → ItemOf → Type 0) (table : Table) (s r : ℕ) : Type 0 where
   pub goes : HasAfterDot g sets s (Nonterminal r) → (next : ℕ) × (goto_of table s r ≡ Some next) × LeadsTo g sets s (Nonterminal r) next
@@ -75,6 +91,14 @@ IsReduceConflict g sets x = HasFirstReduce g sets x.state x.token x.first × Has
 -- a shift/reduce conflict: the state calls for a shift at the token, and for a reduction; the production is the least one
 abbrev pub IsShiftConflict : Grammar → (ℕ → ItemOf → Type 0) → ShiftReduce → Type 0
 IsShiftConflict g sets x = HasAfterDot g sets x.state (Terminal x.token) × HasFirstReduce g sets x.state x.token x.prod
+
+-- a shift/reduce conflict that precedences don't resolve
+abbrev pub IsUnresolvedConflict : Grammar → PrecedenceLists → (ℕ → ItemOf → Type 0) → ShiftReduce → Type 0
+IsUnresolvedConflict g lists sets x = IsShiftConflict g sets x × (resolution_of lists x.prod x.token ≡ None)
+
+-- a shift/reduce conflict that they resolve, and how
+abbrev pub IsResolvedConflict : Grammar → PrecedenceLists → (ℕ → ItemOf → Type 0) → ResolvedOf → Type 0
+IsResolvedConflict g lists sets x = IsShiftConflict g sets x.conflict × (resolution_of lists x.conflict.prod x.conflict.token ≡ Some x.by)
 
 -- an accept/reduce conflict: the set calls for accept at the end token, and for a reduction
 abbrev pub IsAcceptConflict : Grammar → (ℕ → ItemOf → Type 0) → ℕ → Type 0

@@ -1,5 +1,5 @@
 -- The table that the parts of code make.
-use Rattle.std.proofs.Common.{◌≡◌, ◌≤◌, ◌∙◌, ℕ, List, All, Vec, Global, length, map, slice_index_or, ap, sym, arith}
+use Rattle.std.proofs.Common.{◌≡◌, ◌≤◌, ◌∙◌, ℕ, List, [], All, Vec, Global, length, map, slice_index_or, ap, sym, arith}
 use Rattle.std.proofs.lemmas.List.{length-map}
 use Rattle.lrpar_grammar_places.specs.declared.span.RIdx.{RIdx}
 use Rattle.lrpar_grammar_places.specs.declared.span.StIdx.{StIdx}
@@ -7,6 +7,7 @@ use Rattle.lrpar_grammar_places.specs.declared.span.TIdx.{TIdx}
 use Rattle.lrpar_table_rows.specs.PlainRows.{action_entry, goto_entry, plain_action, plain_goto, plain_rows, sparse_table_of}
 use Rattle.lrpar_table_rows.specs.PlainTable.{plain_table}
 use Rattle.lrpar_table_rows.specs.Rows.{row_actions, row_gotos, table_of}
+use Rattle.lrpar_table_rows.specs.Table.{ResolvedOf}
 use Rattle.lrpar_table_rows.specs.declared.rows.Action.{Action}
 use Rattle.lrpar_table_rows.specs.declared.rows.SparseRows.{SparseRows}
 use Rattle.lrpar_table_rows.specs.declared.rows.TableRows.{TableRows}
@@ -15,9 +16,9 @@ use Rattle.lrpar_table_rows.proofs.RowLemmas.{map-map}
 
 -- the parts that are made of sparse rows make their table
 pub parts_are : {S : Type 0} (index : S → ℕ) (rows : SparseRows S) (actions : List (List (TIdx S × Action S))) (gotos : List (List (RIdx S × StIdx S)))
-    → length rows.actions.items ≡ rows.states → actions ≡ map (λ row. row.items) rows.actions.items → gotos ≡ map (λ row. row.items) rows.gotos.items
-    → plain_table index rows.start rows.tokens rows.rules actions gotos rows.conflicts ≡ sparse_table_of index rows
-parts_are index rows actions gotos states actions_are gotos_are =
+    (resolved : List ResolvedOf) → resolved ≡ [] → length rows.actions.items ≡ rows.states → actions ≡ map (λ row. row.items) rows.actions.items → gotos ≡ map (λ row. row.items) rows.gotos.items
+    → plain_table index rows.start rows.tokens rows.rules actions gotos rows.conflicts resolved ≡ sparse_table_of index rows
+parts_are index rows actions gotos resolved none states actions_are gotos_are =
     let len : length actions ≡ rows.states = ap length actions_are ∙ length-map rows.actions.items (λ row. row.items) ∙ states in
     let stored : map (map (action_entry index)) actions ≡ map (λ row. map (action_entry index) row.items) rows.actions.items =
     ap (map (map (action_entry index))) actions_are ∙ map-map (λ row. row.items) (map (action_entry index)) rows.actions.items in

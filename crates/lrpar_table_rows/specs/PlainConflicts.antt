@@ -3,11 +3,16 @@ use Rattle.std.specs.Prelude.{ℕ}
 use Rattle.lrpar_grammar_places.specs.declared.span.TIdx.{TIdx}
 use Rattle.lrpar_grammar_places.specs.declared.span.PIdx.{PIdx}
 use Rattle.lrpar_grammar_places.specs.declared.span.StIdx.{StIdx}
-use Rattle.lrpar_table_rows.specs.Table.{ReduceReduce, ShiftReduce}
+use Rattle.lrpar_table_precedence.specs.declared.precedence.Resolution.{Resolution}
+use Rattle.lrpar_table_rows.specs.Table.{ReduceReduce, ResolvedOf, ShiftReduce}
 
 -- a reduce/reduce conflict: the token, the two productions and the state
 abbrev pub reduce_reduce_of : {S : Type 0} → (S → ℕ) → TIdx S × PIdx S × PIdx S × StIdx S → ReduceReduce
 reduce_reduce_of index x = record { token = index x.0.0; first = index x.1.0; second = index x.2.0; state = index x.3.0 }
+
+-- a resolved conflict: the token, the production, the state, and how it was resolved
+abbrev pub resolved_conflict_of : {S : Type 0} → (S → ℕ) → TIdx S × PIdx S × StIdx S × Resolution → ResolvedOf
+resolved_conflict_of index x = record { conflict = record { token = index x.0.0; prod = index x.1.0; state = index x.2.0 }; by = x.3 }
 
 -- a shift/reduce conflict: the token, the production and the state
 abbrev pub shift_reduce_of : {S : Type 0} → (S → ℕ) → TIdx S × PIdx S × StIdx S → ShiftReduce

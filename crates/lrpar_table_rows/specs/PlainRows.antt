@@ -1,5 +1,5 @@
 -- The rows that values of code represent, by the numbers of their indexes.
-use Rattle.std.specs.Prelude.{ℕ, map, Option, Some, None}
+use Rattle.std.specs.Prelude.{ℕ, [], map, Option, Some, None}
 use Rattle.lrpar_grammar_places.specs.declared.span.RIdx.{RIdx}
 use Rattle.lrpar_grammar_places.specs.declared.span.StIdx.{StIdx}
 use Rattle.lrpar_grammar_places.specs.declared.span.TIdx.{TIdx}
@@ -51,4 +51,5 @@ sparse_table_of index rows = record {
   actions = map (λ row. map (action_entry index) row.items) rows.actions.items;
   gotos = map (λ row. map (goto_entry index) row.items) rows.gotos.items;
   conflicts = rows.conflicts;
+  resolved = [];
 }

@@ -1,5 +1,5 @@
 -- Full rows, from which a table is made: an action for each token, and an optional state for each rule.
-use Rattle.std.specs.Prelude.{◌≡◌, ◌<◌, ◌≤◌, ℕ, List, length, map, filter_map, option_map, All, Option, Some, None}
+use Rattle.std.specs.Prelude.{◌≡◌, ◌<◌, ◌≤◌, ℕ, List, [], length, map, filter_map, option_map, All, Option, Some, None}
 use Rattle.std.specs.List.{enumerate_from}
 use Rattle.lrpar_table_rows.specs.Table.{ConflictLists, IsActionWithin, IsGotoWithin, Table, TableAction, ShiftTo, ReduceBy, Accepts, Fails}
 
@@ -65,4 +65,5 @@ table_of rows = record {
   actions = map row_actions rows.actions;
   gotos = map row_gotos rows.gotos;
   conflicts = rows.conflicts;
+  resolved = [];
 }

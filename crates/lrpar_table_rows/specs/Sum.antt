@@ -18,6 +18,7 @@ sum_table = record {
       ∷ ((1, ShiftTo 3) ∷ []) ∷ ((2, ReduceBy 0) ∷ []) ∷ [];
   gotos = ((1, 1) ∷ (2, 2) ∷ []) ∷ [] ∷ [] ∷ [] ∷ ((1, 5) ∷ (2, 2) ∷ []) ∷ [] ∷ [];
   conflicts = None;
+  resolved = [];
 }
 
 -- a row of three actions: at '+', at 'ID' and at the end token

@@ -4,6 +4,7 @@ use Rattle.std.specs.List.{range_with_len}
 use Rattle.std.specs.List.Sorted.{IsStrictlyIncreasing}
 use Rattle.std.specs.Map.{keys_of, lookup}
 use Rattle.std.specs.Option.{is_some}
+use Rattle.lrpar_table_precedence.specs.declared.precedence.Resolution.{Resolution}
 
 -- a parser shifts the token and goes to a state, reduces by a production, accepts, or reports an error
 pub data TableAction : Type 0 where
@@ -25,13 +26,18 @@ pub record ShiftReduce : Type 0 where
   pub prod : ℕ
   pub state : ℕ
 
+-- a shift/reduce conflict that precedences resolve, and how
+pub record ResolvedOf : Type 0 where
+  pub conflict : ShiftReduce
+  pub by : Resolution
+
 -- the conflicts of both kinds
 pub record ConflictLists : Type 0 where
   pub reduce_reduce : List ReduceReduce
   pub shift_reduce : List ShiftReduce
 
 -- the start state; the numbers of states, tokens and rules; for each state the entries that are stored: actions, each with
--- its token, and states to go to, each with its rule
+-- its token, and states to go to, each with its rule; the conflicts, and those that precedences resolved
 pub record Table : Type 0 where
   pub start : ℕ
   pub states : ℕ
@@ -40,6 +46,11 @@ pub record Table : Type 0 where
   pub actions : List (List (ℕ × TableAction))
   pub gotos : List (List (ℕ × ℕ))
   pub conflicts : Option ConflictLists
+  pub resolved : List ResolvedOf
+
+-- the same table with other resolved conflicts
+abbrev pub with_resolved : Table → List ResolvedOf → Table
+with_resolved table resolved = record table { resolved = resolved }
 
 -- the number of states
 abbrev pub states_len : Table → ℕ

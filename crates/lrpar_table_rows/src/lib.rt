@@ -13,6 +13,7 @@ mod items;
 mod key;
 pub mod laws;
 mod numbers;
+mod resolved;
 mod rows;
 mod sparse;
 pub mod table;

@@ -4,7 +4,7 @@ ghost use Rattle.std.specs.List.Sorted.{IsStrictlyIncreasing};
 ghost use Rattle.std.specs.Map.{keys_of};
 ghost use Rattle.std.specs.Option.{option_map};
 ghost use Rattle.lrpar_table_rows.specs.Rows.{AreRows, table_of};
-ghost use Rattle.lrpar_table_rows.specs.Table.{TableAction, Fails, IsActionEntry, IsActionWithin, IsClosed, IsGotoEntry, IsGotoWithin, IsTable, action_of, actions_at, entries_len, goto_of, gotos_at, states_len};
+ghost use Rattle.lrpar_table_rows.specs.Table.{TableAction, Fails, IsActionEntry, IsActionWithin, IsClosed, IsGotoEntry, IsGotoWithin, IsTable, action_of, actions_at, entries_len, goto_of, gotos_at, states_len, with_resolved};
 ghost use Rattle.lrpar_table_rows.specs.PlainRows.{action_entry, goto_entry, plain_action, plain_goto, plain_rows, sparse_table_of};
 ghost use Rattle.lrpar_table_rows.specs.declared.fault.TableFault.{TableFault};
 
@@ -13,6 +13,7 @@ use crate::entries::{Entries, place_by};
 pub use crate::fault::TableFault;
 use crate::full::{are_rows, stored_actions, stored_gotos};
 pub use crate::graph::{Core, Item, StateGraph};
+pub use crate::resolved::{Resolved, ResolvedConflict};
 pub use crate::rows::{Action, SparseRows, TableRows};
 use crate::sparse::is_sparse_table;
 use lrpar_grammar::span::{RIdx, StIdx, StorageIndex, TIdx};
@@ -29,6 +30,7 @@ pub struct StateTable<StorageT: StorageIndex> {
     actions: Entries<TIdx<StorageT>, Action<StorageT>>,
     gotos: Entries<RIdx<StorageT>, StIdx<StorageT>>,
     conflicts: Option<Conflicts<StorageT>>,
+    resolved: Resolved<StorageT>,
 }
 
 // With its own `Drop`, a function that drops one proves one call.
@@ -41,10 +43,12 @@ impl<StorageT: StorageIndex> Drop for StateTable<StorageT> {
             actions,
             gotos,
             conflicts,
+            resolved,
         } = self;
         drop(actions);
         drop(gotos);
         drop(conflicts);
+        drop(resolved);
     }
 }
 
@@ -54,9 +58,9 @@ impl<StorageT: StorageIndex> Model for StateTable<StorageT> {
 
     ghost Value = { Table };
 
-    ghost view = { λ t. plain_table StorageT.index t.start t.tokens t.rules t.actions t.gotos t.conflicts };
+    ghost view = { λ t. plain_table StorageT.index t.start t.tokens t.rules t.actions t.gotos t.conflicts t.resolved };
 
-    ghost invariant = { λ t. IsTable StorageT.limit (plain_table StorageT.index t.start t.tokens t.rules t.actions t.gotos t.conflicts) };
+    ghost invariant = { λ t. IsTable StorageT.limit (plain_table StorageT.index t.start t.tokens t.rules t.actions t.gotos t.conflicts t.resolved) };
 }
 
 impl<StorageT: StorageIndex> StateTable<StorageT> {
@@ -135,6 +139,22 @@ impl<StorageT: StorageIndex> StateTable<StorageT> {
         ensures end { (s r : ℕ) → self.now.rules ≤ r → goto_of self.now s r ≡ None }
     {
         self.rules
+    }
+
+    /// The same table, with these conflicts as those that precedences resolved. They aren't checked.
+    pub fn with_resolved(self, resolved: Resolved<StorageT>) -> Self
+        ensures { result ≡ with_resolved self resolved }
+    {
+        let mut table = self;
+        table.resolved = resolved;
+        table
+    }
+
+    /// The conflicts that precedences resolved when the table was built. A table that was made of rows has none.
+    pub fn resolved(&self) -> &Resolved<StorageT>
+        ensures { result.now ≡ self.now.resolved }
+    {
+        &self.resolved
     }
 
     /// The conflicts that came with the rows, if any did.
@@ -253,6 +273,7 @@ fn of_sparse<StorageT: StorageIndex>(
 {
     let actions = Entries::from_rows(alloc, &rows.actions)?;
     let gotos = Entries::from_rows(alloc, &rows.gotos)?;
+    let resolved = Resolved::none(alloc);
     Ok(StateTable {
         start: rows.start,
         tokens: rows.tokens,
@@ -260,5 +281,6 @@ fn of_sparse<StorageT: StorageIndex>(
         actions,
         gotos,
         conflicts: rows.conflicts,
+        resolved,
     })
 }

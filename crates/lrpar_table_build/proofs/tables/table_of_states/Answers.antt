@@ -1,9 +1,9 @@
-use Rattle.std.proofs.Common.{◌≡◌, ◌∙◌, sym, subst, arith, map}
+use Rattle.std.proofs.Common.{◌≡◌, ◌∙◌, [], sym, subst, arith, map}
 use Rattle.std.proofs.lemmas.List.{length-map}
 use Rattle.std.proofs.lemmas.Result.{IfOk-weaker}
 use Rattle.lrpar_table_rows.specs.PlainRows.{action_entry, goto_entry}
 use Rattle.lrpar_table_rows.specs.Table.{IsTable}
-use Rattle.lrpar_table_items.specs.StateRows.{table_of_states}
+use Rattle.lrpar_table_items.specs.StateRows.{table_with}
 use Rattle.lrpar_table_items.specs.States.{state_of}
 use Rattle.lrpar_table_build.proofs.TableRowLemmas.{is_table, some_state}
 use Rattle.lrpar_table_build.proofs.TablesLemmas.{table_is}
@@ -24,10 +24,11 @@ table_of-requires g c =
     let start : index c.unwrap.result ≡ 0 = rw c.unwrap.ensures at c.from_index.ensures.back in
     let made = table_is c.args.grm.now states (index c.unwrap.result) c.len-len.result c.tokens_len.result c.rules_len.result
     (map (λ row. map (action_entry index) row.items) c.args.actions.items) (map (λ row. map (goto_entry index) row.items) c.in_ok-gotos.gotos.items)
-    c.args.conflicts start (c.len-len.ensures ∙ c.args.states.ok.0 ∙ sym len) c.tokens_len.ensures.len c.rules_len.ensures.len c.requires.actions
-    c.in_ok-gotos.ensures c.requires.conflicts in
-    let is = is_table c.args.grm.now states c.requires.states c.requires.well_formed g.StorageT.StorageIndex.limit (omega (arith, len, c.requires.fit))
-    (omega (arith, c.tokens_len.ensures.len, c.tokens_len.ensures.within)) (omega (arith, c.rules_len.ensures.len, c.rules_len.ensures.within)) in
+    c.args.conflicts start (c.len-len.ensures ∙ c.args.states.ok.0 ∙ sym len) c.tokens_len.ensures.len c.rules_len.ensures.len c.in_ok-gotos.ensures in
+    let rows = is_table c.args.grm.now states c.requires.states c.requires.well_formed c.requires.actions.0 g.StorageT.StorageIndex.limit c.args.conflicts []
+    (omega (arith, len, c.requires.fit)) (omega (arith, c.tokens_len.ensures.len, c.tokens_len.ensures.within))
+    (omega (arith, c.rules_len.ensures.len, c.rules_len.ensures.within)) in
+    let is = subst (λ actions. IsTable g.StorageT.StorageIndex.limit (table_with c.args.grm.now states actions c.args.conflicts [])) (sym c.requires.actions.1) rows in
     subst (IsTable g.StorageT.StorageIndex.limit) (sym made) is
 
 pub returns-clause-table : goal.returns-clause-table
@@ -38,8 +39,7 @@ returns-clause-table g c =
     let start : index c.unwrap.result ≡ 0 = rw c.unwrap.ensures at c.from_index.ensures.back in
     let made = table_is c.args.grm.now states (index c.unwrap.result) c.len-len.result c.tokens_len.result c.rules_len.result
     (map (λ row. map (action_entry index) row.items) c.args.actions.items) (map (λ row. map (goto_entry index) row.items) c.in_ok-gotos.gotos.items)
-    c.args.conflicts start (c.len-len.ensures ∙ c.args.states.ok.0 ∙ sym len) c.tokens_len.ensures.len c.rules_len.ensures.len c.requires.actions
-    c.in_ok-gotos.ensures c.requires.conflicts in
+    c.args.conflicts start (c.len-len.ensures ∙ c.args.states.ok.0 ∙ sym len) c.tokens_len.ensures.len c.rules_len.ensures.len c.in_ok-gotos.ensures in
     IfOk-weaker c.table_of.result _ _ (λ table is. is ∙ made) c.table_of.ensures.table
 
 pub returns-clause-valid : goal.returns-clause-valid
@@ -50,10 +50,11 @@ returns-clause-valid g c =
     let start : index c.unwrap.result ≡ 0 = rw c.unwrap.ensures at c.from_index.ensures.back in
     let made = table_is c.args.grm.now states (index c.unwrap.result) c.len-len.result c.tokens_len.result c.rules_len.result
     (map (λ row. map (action_entry index) row.items) c.args.actions.items) (map (λ row. map (goto_entry index) row.items) c.in_ok-gotos.gotos.items)
-    c.args.conflicts start (c.len-len.ensures ∙ c.args.states.ok.0 ∙ sym len) c.tokens_len.ensures.len c.rules_len.ensures.len c.requires.actions
-    c.in_ok-gotos.ensures c.requires.conflicts in
-    let is = is_table c.args.grm.now states c.requires.states c.requires.well_formed g.StorageT.StorageIndex.limit (omega (arith, len, c.requires.fit))
-    (omega (arith, c.tokens_len.ensures.len, c.tokens_len.ensures.within)) (omega (arith, c.rules_len.ensures.len, c.rules_len.ensures.within)) in
+    c.args.conflicts start (c.len-len.ensures ∙ c.args.states.ok.0 ∙ sym len) c.tokens_len.ensures.len c.rules_len.ensures.len c.in_ok-gotos.ensures in
+    let rows = is_table c.args.grm.now states c.requires.states c.requires.well_formed c.requires.actions.0 g.StorageT.StorageIndex.limit c.args.conflicts []
+    (omega (arith, len, c.requires.fit)) (omega (arith, c.tokens_len.ensures.len, c.tokens_len.ensures.within))
+    (omega (arith, c.rules_len.ensures.len, c.rules_len.ensures.within)) in
+    let is = subst (λ actions. IsTable g.StorageT.StorageIndex.limit (table_with c.args.grm.now states actions c.args.conflicts [])) (sym c.requires.actions.1) rows in
     IfOk-weaker c.table_of.result _ _ (λ table same. subst (IsTable g.StorageT.StorageIndex.limit) (sym (same ∙ made)) is) c.table_of.ensures.table
 
 pub returns-in_err-gotos-clause-table : goal.returns-in_err-gotos-clause-table

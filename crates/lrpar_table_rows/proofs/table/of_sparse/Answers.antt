@@ -11,7 +11,7 @@ invariant_of-result g c =
     let rows = c.args.rows in
     let states : length rows.actions.items ≡ rows.states = sym (length-map rows.actions.items (λ row. map (action_entry index) row.items)) ∙ c.requires.actions_len in
     subst (IsTable g.StorageT.StorageIndex.limit)
-    (sym (parts_are index rows c.in_ok-actions.actions c.in_ok-gotos.gotos states (rw c.deref.ensures.value at c.in_ok-actions.ensures)
+    (sym (parts_are index rows c.in_ok-actions.actions c.in_ok-gotos.gotos c.none-resolved.result c.none-resolved.ensures states (rw c.deref.ensures.value at c.in_ok-actions.ensures)
     (rw c.deref-2.ensures.value at c.in_ok-gotos.ensures))) c.requires
 
 pub returns : goal.returns
@@ -19,5 +19,5 @@ returns g c =
     let index = g.StorageT.StorageIndex.index in
     let rows = c.args.rows in
     let states : length rows.actions.items ≡ rows.states = sym (length-map rows.actions.items (λ row. map (action_entry index) row.items)) ∙ c.requires.actions_len in
-    parts_are index rows c.in_ok-actions.actions c.in_ok-gotos.gotos states (rw c.deref.ensures.value at c.in_ok-actions.ensures)
+    parts_are index rows c.in_ok-actions.actions c.in_ok-gotos.gotos c.none-resolved.result c.none-resolved.ensures states (rw c.deref.ensures.value at c.in_ok-actions.ensures)
     (rw c.deref-2.ensures.value at c.in_ok-gotos.ensures)

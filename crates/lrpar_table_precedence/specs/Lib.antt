@@ -1,0 +1,3 @@
+pub mod Precedence
+pub mod Levels
+pub mod Filled

@@ -1,0 +1,54 @@
+-- What precedences decide between a shift and a reduction: yacc's rule, as in Aho, Johnson and Ullman, 'Deterministic Parsing of
+-- Ambiguous Grammars'.
+use Rattle.std.specs.Prelude.{ℕ, List, [], Option, Some, None, slice_index_or}
+use Rattle.std.specs.Ordering.{nat_cmp}
+use Rattle.std.specs.declared.cmp.Ordering.{Ordering}
+use Rattle.std.specs.declared.cmp.Ordering.TheVariants.{Less, Equal, Greater}
+use Rattle.lrpar_table_precedence.specs.declared.precedence.AssocKind.{AssocKind}
+use Rattle.lrpar_table_precedence.specs.declared.precedence.AssocKind.TheVariants.{Left, Right, Nonassoc}
+use Rattle.lrpar_table_precedence.specs.declared.precedence.Precedence.{Precedence}
+use Rattle.lrpar_table_precedence.specs.declared.precedence.Resolution.{Resolution}
+use Rattle.lrpar_table_precedence.specs.declared.precedence.Resolution.TheVariants.{Shift, Reduce, Error}
+
+-- at one level: if it associates to the left, the state reduces; if to the right, it shifts; if not at all, it is an error
+abbrev pub by_kind : AssocKind → Resolution
+by_kind Left = Reduce
+by_kind Right = Shift
+by_kind Nonassoc = Error
+
+-- by how the production's level compares with the token's: the higher level wins
+abbrev pub by_levels : Ordering → AssocKind → Resolution
+by_levels Less kind = Shift
+by_levels Equal kind = by_kind kind
+by_levels Greater kind = Reduce
+
+-- a production's precedence against a token's
+abbrev pub against : Precedence → Precedence → Resolution
+against prod token = by_levels (nat_cmp prod.level token.level) token.kind
+
+-- the same, if both have a precedence; otherwise nothing is decided
+abbrev pub decided : Option Precedence → Option Precedence → Option Resolution
+decided (Some prod) (Some token) = Some (against prod token)
+decided (Some prod) None = None
+decided None token = None
+
+-- the precedences of tokens and of productions, by their numbers; a number past the list has none
+pub record PrecedenceLists : Type 0 where
+  pub tokens : List (Option Precedence)
+  pub prods : List (Option Precedence)
+
+-- no precedences at all
+abbrev pub no_precedences : PrecedenceLists
+no_precedences = record { tokens = []; prods = [] }
+
+-- the precedence of token t
+abbrev pub token_precedence : PrecedenceLists → ℕ → Option Precedence
+token_precedence lists t = slice_index_or lists.tokens t None
+
+-- the precedence of production p
+abbrev pub prod_precedence : PrecedenceLists → ℕ → Option Precedence
+prod_precedence lists p = slice_index_or lists.prods p None
+
+-- p against t: how a conflict between the reduction by p and the shift of t is resolved, if it is
+abbrev pub resolution_of : PrecedenceLists → ℕ → ℕ → Option Resolution
+resolution_of lists p t = decided (prod_precedence lists p) (token_precedence lists t)

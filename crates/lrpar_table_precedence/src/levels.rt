@@ -1,0 +1,125 @@
+//! Levels of precedence: their tokens, and the productions that name one of them.
+ghost use Rattle.std.specs.Prelude.{◌≡◌, ◌<◌, ◌++◌, All, IfOk, IsTrue, ◌↔◌, OnOk, length, map};
+ghost use Rattle.lrpar_grammar.specs.Grammar.{prods_len, tokens_len};
+ghost use Rattle.lrpar_table_precedence.specs.Levels.{AreWithin, level_of, named_of, precedence_at, prod_entries, token_entries};
+
+use crate::precedence::{AssocKind, Precedence};
+use lrpar_grammar::grammar::YaccGrammar;
+use lrpar_grammar::span::{PIdx, StorageIndex, TIdx};
+use std::alloc::{AllocError, Global};
+
+/// A level of precedence: how its tokens associate, and its tokens. It may have none: a production can name it all the same.
+#[derive(Debug, Drop)]
+pub struct Level<StorageT: StorageIndex> {
+    pub kind: AssocKind,
+    pub tokens: Vec<TIdx<StorageT>>,
+}
+
+// Whether each token and each production is one of the grammar, and each level that a production names is there.
+pub(crate) fn are_within<StorageT: StorageIndex>(
+    grm: &YaccGrammar<StorageT>,
+    levels: &[Level<StorageT>],
+    named: &[(PIdx<StorageT>, usize)],
+) -> bool
+    ensures { IsTrue result ↔ AreWithin grm.now (map (level_of StorageT.index) levels.now) (map (named_of StorageT.index) named.now) }
+{
+    all_tokens_within(levels, grm.tokens_len())
+        && all_named_within(named, grm.prods_len(), levels.len())
+}
+
+// Whether each token of the levels is below the number.
+fn all_tokens_within<StorageT: StorageIndex>(levels: &[Level<StorageT>], tokens: usize) -> bool
+    ensures { IsTrue result ↔ All (λ level. All (λ t. StorageT.index t.0 < tokens) level.tokens.items) levels.now }
+{
+    for level in levels {
+        if !are_tokens_within(&level.tokens, tokens) {
+            return false;
+        }
+    }
+    true
+}
+
+// Whether each token is below the number.
+fn are_tokens_within<StorageT: StorageIndex>(level: &[TIdx<StorageT>], tokens: usize) -> bool
+    ensures { IsTrue result ↔ All (λ t. StorageT.index t.0 < tokens) level.now }
+{
+    for token in level {
+        if usize::from(*token) >= tokens {
+            return false;
+        }
+    }
+    true
+}
+
+// Whether each production and each level that it names are below these numbers.
+fn all_named_within<StorageT: StorageIndex>(
+    named: &[(PIdx<StorageT>, usize)],
+    prods: usize,
+    levels: usize,
+) -> bool
+    ensures { IsTrue result ↔ All (λ entry. (StorageT.index entry.0.0 < prods) × (entry.1 < levels)) named.now }
+{
+    for entry in named {
+        let (prod, level) = *entry;
+        if usize::from(prod) >= prods || level >= levels {
+            return false;
+        }
+    }
+    true
+}
+
+// The tokens of the levels, each with its precedence.
+pub(crate) fn entries_of_tokens<StorageT: StorageIndex>(
+    alloc: Global,
+    levels: &[Level<StorageT>],
+) -> Result<Vec<(usize, Precedence)>, AllocError>
+    ensures { IfOk result (λ entries. entries.items ≡ token_entries (map (level_of StorageT.index) levels.now)) }
+{
+    let mut entries = Vec::new(alloc);
+    for number in 0..levels.len() {
+        let precedence = precedence_of(levels, number);
+        push_tokens(&levels[number].tokens, precedence, &mut entries)?;
+    }
+    Ok(entries)
+}
+
+// The precedence of a level.
+fn precedence_of<StorageT: StorageIndex>(levels: &[Level<StorageT>], level: usize) -> Precedence
+    requires { level < length levels.now }
+    ensures { result ≡ precedence_at (map (level_of StorageT.index) levels.now) level }
+{
+    let kind = levels[level].kind;
+    Precedence { level, kind }
+}
+
+// Appends the tokens, each with the precedence.
+fn push_tokens<StorageT: StorageIndex>(
+    tokens: &[TIdx<StorageT>],
+    precedence: Precedence,
+    entries: &mut Vec<(usize, Precedence)>,
+) -> Result<(), AllocError>
+    ensures { OnOk result (entries.new.items ≡ entries.old.items ++ map (λ t. (StorageT.index t.0, precedence)) tokens.now) }
+{
+    for token in tokens {
+        entries.push((usize::from(*token), precedence))?;
+    }
+    Ok(())
+}
+
+// The productions that name a level, each with the level's precedence.
+pub(crate) fn entries_of_prods<StorageT: StorageIndex>(
+    alloc: Global,
+    levels: &[Level<StorageT>],
+    named: &[(PIdx<StorageT>, usize)],
+) -> Result<Vec<(usize, Precedence)>, AllocError>
+    requires { All (λ entry. entry.1 < length levels.now) named.now }
+    ensures { IfOk result (λ entries. entries.items
+        ≡ prod_entries (map (level_of StorageT.index) levels.now) (map (named_of StorageT.index) named.now)) }
+{
+    let mut entries = Vec::with_capacity(alloc, named.len())?;
+    for entry in named {
+        let (prod, level) = *entry;
+        entries.push((usize::from(prod), precedence_of(levels, level)))?;
+    }
+    Ok(entries)
+}
