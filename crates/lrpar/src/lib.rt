@@ -15,7 +15,7 @@ pub use lrpar_parse_lexemes::{
 };
 pub use lrpar_parse_trees::Node;
 pub use lrpar_table::check::ParserData;
-pub use lrpar_table::{build, check, table};
+pub use lrpar_table::{build, check, precedences, table};
 
 /// Spans of a text, and the numbers of rules, productions, tokens and states.
 pub mod span {
@@ -72,9 +72,11 @@ pub mod laws {
     pub use lrpar_parse_repair::laws::{or_repairs_where_one_does, steps_are_compared_by_contents};
     pub use lrpar_table::laws::{
         ambiguous_grammars_have_conflicts, built_tables_are_complete_without_conflicts,
+        resolved_tables_are_incomplete,
     };
     pub use lrpar_table_build::laws::{
         canonical_conflicts_fit, canonical_tables_are_safe, no_conflicts_are_one_action,
+        precedences_keep_apart, tables_by_precedence_are_safe,
     };
     pub use lrpar_table_check::laws::{
         complete_tables_expect_sentences, complete_tables_take_sentences,

@@ -1,1 +1,2 @@
 pub mod CompleteLemmas
+pub mod ResolvedLemmas

@@ -1,11 +1,12 @@
 -- What follows for a table that is built of a grammar alone: it is complete if and only if it has no conflicts, so a grammar with
 -- two trees for one text has conflicts.
-use Rattle.std.specs.Prelude.{◌≡◌, ◌≢◌, ◌↔◌, ℕ, None}
+use Rattle.std.specs.Prelude.{◌≡◌, ◌≢◌, ◌↔◌, ℕ, [], None}
 use Rattle.lrpar_grammar.specs.Grammar.{Grammar, IsWellFormed, Nonterminal}
 use Rattle.lrpar_grammar.specs.Tree.{Tree, Fits, leaves}
+use Rattle.lrpar_table_precedence.specs.Precedence.{PrecedenceLists}
 use Rattle.lrpar_table_rows.specs.Graph.{Graph}
 use Rattle.lrpar_table_rows.specs.Table.{Table, IsClosed}
-use Rattle.lrpar_table_build.specs.Built.{IsBuilt}
+use Rattle.lrpar_table_build.specs.Built.{IsBuilt, IsBuiltBy}
 use Rattle.lrpar_table_conditions.specs.Complete.{IsComplete}
 
 -- the table is complete if and only if it has no conflicts
@@ -16,6 +17,12 @@ IsCompleteWithoutConflicts g graph table = IsComplete g graph table ↔ (table.c
 abbrev pub BuiltTablesAreCompleteWithoutConflicts : Type 0
 BuiltTablesAreCompleteWithoutConflicts =
     (g : Grammar) (graph : Graph) (table : Table) → IsWellFormed g → IsBuilt g graph table → IsCompleteWithoutConflicts g graph table
+
+-- a table in which precedences resolved a conflict isn't complete: its state calls for a shift and for a reduction at one token
+abbrev pub ResolvedTablesAreIncomplete : Type 0
+ResolvedTablesAreIncomplete =
+    (g : Grammar) (precedences : PrecedenceLists) (graph : Graph) (table : Table) → IsBuiltBy g precedences graph table
+    → table.resolved ≢ [] → ¬ (IsComplete g graph table)
 
 -- two different trees of the start rule with the same leaves
 pub record HaveSameLeaves {X : Type 0} (token : X → ℕ) (g : Grammar) (tree other : Tree X) : Type 0 where

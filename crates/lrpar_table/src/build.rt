@@ -4,7 +4,7 @@ ghost use Rattle.lrpar_table.specs.ParserData.{IsParserDataOf, IsUnbuilt};
 
 use lrpar_grammar::grammar::YaccGrammar;
 use lrpar_grammar::span::StorageIndex;
-pub use lrpar_table_build::build::{BuildFault, from_yacc};
+pub use lrpar_table_build::build::{BuildFault, from_yacc, from_yacc_with};
 use lrpar_table_check::check::{ParserData, Refused};
 use std::alloc::Global;
 use std::error::Error;
