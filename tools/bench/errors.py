@@ -1,10 +1,11 @@
 """Says what looking for repairs comes to, and what it takes: on random changes of random sentences, on errors as people make them, and
 on long texts.
 
-    errors.py [--texts N] [--only NAME] --bench BENCH_PROGRAM --nimbleparse NIMBLEPARSE TOOLS
+    errors.py [--counts] [--texts N] [--only NAME] --bench BENCH_PROGRAM --nimbleparse NIMBLEPARSE TOOLS
 
 TOOLS is as for run.sh: with `tools/data.py`, whose sentences are changed, and `../grammars`. The programs are the built ones. README.md
-says what the figures are. The same words give the same texts.
+says what the figures are. The same words give the same texts. With --counts, errors by name and prose are counted in instructions, too,
+which needs valgrind.
 """
 import argparse
 import os
@@ -110,8 +111,8 @@ def changed(words, seed):
 
 
 class Programs:
-    def __init__(self, bench, nimbleparse, folder):
-        self.bench, self.nimbleparse = bench, nimbleparse
+    def __init__(self, bench, nimbleparse, folder, counts):
+        self.bench, self.nimbleparse, self.counts = bench, nimbleparse, counts
         self.input = os.path.join(folder, "input")
 
     def given(self, text):
@@ -139,6 +140,20 @@ class Programs:
         wrote = subprocess.run(words, capture_output=True, text=True, check=True).stdout
         after = resource.getrusage(resource.RUSAGE_CHILDREN)
         return wrote, after.ru_utime + after.ru_stime - before.ru_utime - before.ru_stime
+
+    def cost(self, language, text, mode="cheapest"):
+        """milliseconds, and millions of instructions if they are counted"""
+        shown = f"{self.milliseconds(language, text, mode):.2f} ms"
+        return f"{shown}, {self.instructions(language, text, mode) / 1e6:.1f} M instructions" if self.counts else shown
+
+    def instructions(self, language, text, mode):
+        """the instructions of a parse"""
+        found = []
+        for times in ("1", "3"):
+            words = ["valgrind", "--tool=callgrind", "--callgrind-out-file=/dev/null", self.bench, mode, times]
+            ran = subprocess.run([*words, language.grammar, language.lexer, self.given(text)], capture_output=True, text=True, check=True)
+            found.append(int(re.search(r"Collected : (\d+)", ran.stderr)[1]))
+        return (found[1] - found[0]) / 2
 
     def peak(self, language, text, mode="cheapest"):
         """the most bytes that a process had"""
@@ -222,10 +237,10 @@ def named_errors(programs, languages):
         ("JSON, closed halfway with 400 objects after it", json,
          '[{"a": 1}], ' + ", ".join('{"name": "x", "size": 1, "tags": [1, 2, 3], "left": null, "right": true, "note": {"a": 1}}' for _ in range(400)) + "\n"),
     ]
-    print("\nErrors by name: errors, those without a repair, milliseconds of a parse")
+    print("\nErrors by name: errors, those without a repair, and what a parse costs")
     for name, language, text in named:
         errors, bare = programs.errors(language, text)
-        print(f"{name}: {errors}, {bare}, {programs.milliseconds(language, text):.2f}", flush=True)
+        print(f"{name}: {errors}, {bare}, {programs.cost(language, text)}", flush=True)
 
 
 def objects(count, wrong=()):
@@ -263,10 +278,12 @@ def completions(programs, c, folder):
     with open(path, "w", encoding="utf-8") as out:
         out.write(without)
     language = Language(c.tools, "c_without_else", folder, path, c.lexer)
+    short = "the quick brown fox jumps over the lazy dog\n"
     line = "it was a dark and stormy night; the rain fell in torrents, except at occasional intervals, when it was checked by a violent gust\n"
-    print("\nProse in C without else: milliseconds of a parse with the cheapest repairs, then a completion")
-    for name, text in (("a line", line), ("a line in a function", "int f(int a) {\n" + line + "return a;\n}\n"), ("100 lines", line * 100)):
-        print(f"{name}: {programs.milliseconds(language, text, 'completed'):.2f}", flush=True)
+    print("\nProse in C without else: what a parse costs with the cheapest repairs, then a completion")
+    texts = {"a line with one error": short, "a line with four": line, "a line in a function": "int f(int a) {\n" + line + "return a;\n}\n"}
+    for name, text in texts.items():
+        print(f"{name}: {programs.cost(language, text, 'completed')}", flush=True)
 
 
 def memory(programs, c):
@@ -279,6 +296,7 @@ def memory(programs, c):
 
 def main():
     parser = argparse.ArgumentParser(description=__doc__.split("\n", 1)[0])
+    parser.add_argument("--counts", action="store_true")
     parser.add_argument("--texts", type=int, default=100)
     parser.add_argument("--only")
     parser.add_argument("--bench", required=True)
@@ -290,7 +308,7 @@ def main():
     languages.append(Language(given.tools, "c", os.path.join(CASES, "c"), "grammar.y", "lexer.lex"))
     by_name = {it.name: it for it in languages}
     with tempfile.TemporaryDirectory() as folder:
-        programs = Programs(given.bench, given.nimbleparse, folder)
+        programs = Programs(given.bench, given.nimbleparse, folder, given.counts)
         parts = {
             "random": lambda: random_errors(programs, languages, given.texts),
             "hand": lambda: hand_errors(programs, languages),
