@@ -8,7 +8,6 @@ use Rattle.std.specs.Option.{option_map_or}
 use Rattle.lrpar_grammar.specs.Grammar.{Grammar, GrammarSymbol, Nonterminal, Terminal, end_token, prod_len, rule_of, symbols_of}
 use Rattle.lrpar_grammar.specs.Tree.{Tree, Forest, Leaf, Branch, Nil, Cons, leaves, forest_leaves, productions, forest_productions, Fits, ForestFits}
 use Rattle.lrpar_grammar.proofs.ForestLemmas.{joined, joined_fits, joined_leaves, splits, split_leaves}
-use Rattle.lrpar_table_rows.specs.Safe.{GoesBy}
 use Rattle.lrpar_table_rows.specs.Table.{Table, ReduceBy, ShiftTo, action_of, goto_of}
 use Rattle.lrpar_table_build.specs.KeptApart.{BeginsWithItsRule, EndsInItsRule}
 use Rattle.lrpar_table_build.proofs.KeptApartLemmas.{two_first}
@@ -254,8 +253,9 @@ module _ {X : Type 0} (token : X → ℕ) (g : Grammar) (table : Table) (never :
               ∙ ap (λ (ys : List ℕ). forest_productions parts.first ++ ys) (append-nil (forest_productions children ++ n ∷ []))
               ∙ sym (append_assoc (forest_productions parts.first) (forest_productions children) (n ∷ []))
               ∙ ap (λ (ys : List ℕ). ys ++ n ∷ []) (sym (ap forest_productions parts.both ∙ joined_productions parts.first children) ∙ has.productions_are);
-          good = each_joined IsGood parts.first node (each_first IsGood parts.first children good)
-              (((
+          good = each_joined IsGood parts.first node (each_first IsGood parts.first children good) (
+            (
+              (
                 λ says is last.
                     let shift = last_shifts children upper bottom above_children last in
                     no_shift says (last_of start has.above) t shift.0 (action ∙ ap (λ (k : ℕ). ReduceBy k) is)
@@ -265,11 +265,17 @@ module _ {X : Type 0} (token : X → ℕ) (g : Grammar) (table : Table) (never :
                     (subst (λ (ss : List GrammarSymbol). ForestFits token g children ss) (symbols_q is) parts.others_fit)
                     (followed_other parts.first children t (followed says)) first in
                     no_reduction says reduced.0 reduced.1,
-              ), each_other IsGood parts.first children good), tt);
-          shifted = shifted_joined parts.first node lower (reduces.state ∷ []) (shifted_first parts.first children below lower upper parts.first_fits count shifted)
-              (λ is. node_shifts bottom reduces.state parts_q.0 upper
-              (subst (λ (ss : List GrammarSymbol). Leads table bottom ss upper) (symbols_q is) states.upper_leads)
-              (ap (goto_of table bottom) (sym (ap (rule_of g) is ∙ begins.of_rule)) ∙ goto), tt);
+              ),
+              each_other IsGood parts.first children good,
+            ),
+            tt,
+          );
+          shifted = shifted_joined parts.first node lower (reduces.state ∷ []) (shifted_first parts.first children below lower upper parts.first_fits count shifted) (
+            λ is. node_shifts bottom reduces.state parts_q.0 upper
+                (subst (λ (ss : List GrammarSymbol). Leads table bottom ss upper) (symbols_q is) states.upper_leads)
+                (ap (goto_of table bottom) (sym (ap (rule_of g) is ∙ begins.of_rule)) ∙ goto),
+            tt,
+          );
           followed = λ says. followed_node parts.first children t n children
               (λ is at. (last_of start has.above, sym (ap (λ (k : ℕ). action_of table (last_of start has.above) k) at) ∙ action ∙ ap (λ (k : ℕ). ReduceBy k) is))
               (followed says);

@@ -142,13 +142,26 @@ fn levels_that_are_refused(rt: HostRuntime) -> Result<(), Fail> {
     let alloc = rt.alloc();
     holds(&rt, &"none", refusal(&rt, alloc, &[], &[]).is_none());
     for (tokens, named, fault) in [
-        ([1u8].as_slice(), [].as_slice(), PrecedenceFault::TokenTwice(1)),
+        (
+            [1u8].as_slice(),
+            [].as_slice(),
+            PrecedenceFault::TokenTwice(1),
+        ),
         (&[7], &[], PrecedenceFault::BadIndex),
-        (&[], &[(PIdx(4u8), 0), (PIdx(4), 1)], PrecedenceFault::ProdTwice(4)),
+        (
+            &[],
+            &[(PIdx(4u8), 0), (PIdx(4), 1)],
+            PrecedenceFault::ProdTwice(4),
+        ),
         (&[], &[(PIdx(7), 0)], PrecedenceFault::BadIndex),
         (&[], &[(PIdx(4), 2)], PrecedenceFault::BadIndex),
     ] {
-        same(&rt, &"a fault", &refusal(&rt, alloc, tokens, named), &Some(fault));
+        same(
+            &rt,
+            &"a fault",
+            &refusal(&rt, alloc, tokens, named),
+            &Some(fault),
+        );
     }
     Ok(())
 }
