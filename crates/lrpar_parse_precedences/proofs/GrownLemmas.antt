@@ -8,7 +8,6 @@ use Rattle.std.specs.Option.{option_map_or}
 use Rattle.lrpar_grammar.specs.Grammar.{Grammar, GrammarSymbol, Nonterminal, Terminal, end_token, prod_len, rule_of, symbols_of}
 use Rattle.lrpar_grammar.specs.Tree.{Tree, Forest, Leaf, Branch, Nil, Cons, leaves, forest_leaves, productions, forest_productions, Fits, ForestFits}
 use Rattle.lrpar_grammar.proofs.ForestLemmas.{joined, joined_fits, joined_leaves, splits, split_leaves}
-use Rattle.lrpar_table_rows.specs.Safe.{GoesBy}
 use Rattle.lrpar_table_rows.specs.Table.{Table, ReduceBy, ShiftTo, action_of, goto_of}
 use Rattle.lrpar_table_build.specs.KeptApart.{BeginsWithItsRule, EndsInItsRule}
 use Rattle.lrpar_table_build.proofs.KeptApartLemmas.{two_first}

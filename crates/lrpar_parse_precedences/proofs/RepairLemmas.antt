@@ -1,6 +1,6 @@
 -- The trees of runs with repairs. A replay feeds tokens as a run does, so it keeps what is known of the trees along the stack. Only what a
 -- lookahead says of them is lost at an error point: so nothing that follows from a lookahead is asked here.
-use Rattle.std.proofs.Common.{◌≡◌, ◌≢◌, ◌<◌, ◌≤◌, ◌+◌, ◌-◌, ◌∙◌, refl, sym, ap, subst, arith, ℕ, zero, suc, List, [], ◌∷◌, ◌++◌, drop, length, map, take, slice_get, Some, None, Option}
+use Rattle.std.proofs.Common.{◌≡◌, ◌≢◌, ◌<◌, ◌+◌, ◌-◌, ◌∙◌, refl, sym, ap, subst, arith, ℕ, suc, List, [], ◌∷◌, ◌++◌, drop, take, Some, None, Option}
 use Rattle.std.proofs.lemmas.List.{append-nil, append_assoc}
 use Rattle.std.specs.Option.{option_map, option_map_or}
 use Rattle.lrpar_grammar.specs.Grammar.{Grammar, end_token}
@@ -26,10 +26,6 @@ fed_first lexemes i j x before here =
 
 fed_none : {X : Type 0} (lexemes : List X) (i : ℕ) → fed_between lexemes i i ≡ []
 fed_none lexemes i = let none : i - i ≡ 0 = omega arith in ap (λ (k : ℕ). take k (drop i lexemes)) none
-
--- a lexeme by its facts
-token_of_facts : {X : Type 0} (facts : X → LexemeFacts) (x : X) (f : LexemeFacts) → facts x ≡ f → f.token ≡ (facts x).token
-token_of_facts facts x f is = sym (ap (λ (y : LexemeFacts). y.token) is)
 
 module _ {X : Type 0} (facts : X → LexemeFacts) (g : Grammar) (table : Table) (never : NeverSticks g table) (p q r b : ℕ) (ends : EndsInItsRule g p r)
     (begins : BeginsWithItsRule g q r b) (Says : Type 0)

@@ -1,12 +1,12 @@
 -- The trees of runs without errors respect precedences: the tree of a run is the only one with its leaves and its productions.
-use Rattle.std.proofs.Common.{◌≡◌, ◌≢◌, ◌<◌, ◌∙◌, sym, subst, inl, inr, arith, ℕ, [], List}
+use Rattle.std.proofs.Common.{◌≡◌, ◌≢◌, ◌∙◌, sym, subst, inl, inr, ℕ, [], List}
 use Rattle.std.proofs.lemmas.Bool.{cases_lt}
-use Rattle.lrpar_grammar.specs.Grammar.{Grammar, IsWellFormed, Nonterminal}
+use Rattle.lrpar_grammar.specs.Grammar.{Grammar, Nonterminal}
 use Rattle.lrpar_grammar.specs.Sentence.{LexemeFacts}
 use Rattle.lrpar_grammar.specs.Tree.{Branch, Cons, Forest, Leaf, Nil, Tree}
 use Rattle.lrpar_table_precedence.specs.Precedence.{PrecedenceLists, resolution_of}
 use Rattle.lrpar_table_rows.specs.Graph.{Graph}
-use Rattle.lrpar_table_rows.specs.Table.{Fails, IsClosed, ReduceBy, ShiftTo, Table, action_of, states_len}
+use Rattle.lrpar_table_rows.specs.Table.{Fails, ReduceBy, ShiftTo, Table, action_of, states_len}
 use Rattle.lrpar_table_rows.specs.declared.condition.SafetyCondition.TheVariants.{S5}
 use Rattle.lrpar_table_build.specs.BuilderLaws.{lists_in}
 use Rattle.lrpar_table_build.specs.Built.{IsBuiltBy}
