@@ -76,16 +76,23 @@ fn push_fault(out: &mut Printed, fault: &YaccFileFault) {
     }
 }
 
-// The erased file, with `_` for each space and `~` for each CR, and what it declares.
+// The lines of the erased file that aren't empty, with `_` for each space and `~` for each CR, and what it declares.
 fn push_text(out: &mut Printed, text: &YaccText) {
     for line in text.erased.as_str().split('\n') {
-        out.text("erased ");
-        for part in line.chars() {
-            out.show(&shown(part));
+        if !line.is_empty() {
+            push_line(out, line);
         }
-        out.text("\n");
     }
     push_declarations(out, &text.declarations);
+}
+
+// A line of an erased file.
+fn push_line(out: &mut Printed, line: &str) {
+    out.text("erased ");
+    for part in line.chars() {
+        out.show(&shown(part));
+    }
+    out.text("\n");
 }
 
 // How a character of an erased file is shown.
