@@ -13,3 +13,4 @@ pub mod TakeLemmas
 pub mod ProdTextLemmas
 pub mod SpelledLawLemmas
 pub mod SpelledPartsLemmas
+pub mod YaccFileLemmas

@@ -16,3 +16,4 @@ pub mod ProdText
 pub mod SpelledFaults
 pub mod SpelledParts
 pub mod SpelledLaws
+pub mod YaccFiles

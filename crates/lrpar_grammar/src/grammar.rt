@@ -12,6 +12,7 @@ mod symbol_names;
 mod text;
 mod tokens;
 mod value;
+mod yacc;
 
 pub use lrpar_grammar_reader::parts::{GrammarFault, GrammarParts, ProdPart, RulePart, TokenPart};
 pub use numbers::Numbers;
@@ -19,3 +20,4 @@ pub use spelled::Spelled;
 pub use spelled_fault::SpelledFault;
 pub use spelled_parts::SpelledParts;
 pub use value::YaccGrammar;
+pub use yacc::{YaccFile, YaccFileFault};

@@ -51,9 +51,9 @@ pub enum Role {
 }
 
 impl Expected {
-    // The role of a word of that kind here, and what is allowed after it: `None` if no such word is allowed here.
+    /// The role of a word of that kind here, and what is allowed after it: `None` if no such word is allowed here.
     #[tactic(auto, unfolding(crate::specs::WordOrder::after))]
-    pub(crate) fn after(self, kind: WordKind) -> Option<(Role, Expected)>
+    pub fn after(self, kind: WordKind) -> Option<(Role, Expected)>
         ensures { result ≡ after self kind }
     {
         match self {

@@ -48,11 +48,13 @@ impl Word<'_> {
     }
 }
 
-// The longest piece of a text at some place: a word or, if `word` is `None`, blanks. Its length is in bytes.
+/// The longest piece of a text at some place: a word, or blanks.
 #[derive(Clone, Copy)]
-pub(crate) struct Piece {
-    pub(crate) word: Option<WordKind>,
-    pub(crate) len: usize,
+pub struct Piece {
+    /// The kind of the word; `None` for blanks.
+    pub word: Option<WordKind>,
+    /// Its length in bytes.
+    pub len: usize,
 }
 
 impl Piece {
@@ -100,8 +102,8 @@ impl WordKind {
     }
 }
 
-// The word of that kind and length that begins at `place` of the text.
-pub(crate) fn word_at(text: &str, place: usize, kind: WordKind, len: usize) -> Word
+/// The word of that kind and length that begins at `place` of the text, as `piece_at` found it there.
+pub fn word_at(text: &str, place: usize, kind: WordKind, len: usize) -> Word
     requires within { place + len ≤ length text.now }
     requires some { 0 < len }
     requires word { IsWordPiece (drop place text.now) len kind }
@@ -117,8 +119,9 @@ pub(crate) fn word_at(text: &str, place: usize, kind: WordKind, len: usize) -> W
     }
 }
 
-// The piece that the rest of a text begins with: `None` if the rest is empty, or if no word and no blanks begin there.
-pub(crate) fn piece_at(rest: &[u8]) -> Option<Piece>
+/// The piece that the rest of a text begins with: `None` if the rest is empty, or if no word and no blanks begin there. Takes
+/// time linear in the piece, if there is one.
+pub fn piece_at(rest: &[u8]) -> Option<Piece>
     ensures piece { result ≡ piece_at rest.now }
     ensures within { IfSome result (λ piece. IsWithin piece (length rest.now)) }
     ensures ascii { IfSome result (λ piece. IfSome piece.word (IsWordPiece rest.now piece.len)) }

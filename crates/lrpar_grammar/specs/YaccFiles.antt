@@ -1,0 +1,79 @@
+-- The grammar of a `.y` file: that of its erasure; and the faults of the file.
+use Rattle.std.specs.Prelude.{◌≡◌, ◌++◌, not, nat_lt, ℕ, List, map, Option, Some, None, option_map, bytes_eq, if◌then◌else◌}
+use Rattle.std.specs.List.{find, flat_map, list_any}
+use Rattle.std.specs.Option.{is_some}
+use Rattle.std.specs.BTreeMap.{BTreeMap, get_by}
+use Rattle.std.specs.Borrow.{Bor}
+use Rattle.std.specs.Cmp.Lexicographic.{slice_cmp}
+use Rattle.std.specs.Ordering.{nat_cmp}
+use Rattle.lrpar_grammar_places.specs.Span.{Extent}
+use Rattle.lrpar_grammar_words.specs.Words.{PlacedWord}
+use Rattle.lrpar_grammar.specs.declared.grammar.yacc.YaccFileFault.{YaccFileFault}
+use Rattle.lrpar_grammar.specs.declared.grammar.yacc.YaccFileFault.TheVariants.{Declared, Text, UnknownToken, Memory}
+use Rattle.lrpar_grammar_yacc.specs.declared.parts.YaccKind.{YaccKind}
+use Rattle.lrpar_grammar_yacc.specs.Declares.{TextDeclarations, TextLevel, declarations}
+use Rattle.lrpar_grammar_yacc.specs.Erasure.{erasure}
+use Rattle.lrpar_grammar_yacc.specs.Faults.{first_fault, IsFaultOf as IsDeclaredFault}
+use Rattle.lrpar_grammar_reader.specs.declared.parts.GrammarFault.{GrammarFault}
+use Rattle.lrpar_grammar_reader.specs.Grammar.{Grammar}
+use Rattle.lrpar_grammar_reader.specs.Spells.{IsFaultOf, Spells}
+
+-- the names of all tokens
+abbrev pub token_names : Grammar → List (List ℕ)
+token_names g = map (λ t. t.name) g.tokens
+
+-- the names with a precedence
+abbrev pub level_names : List TextLevel → List (List ℕ)
+level_names levels = flat_map (λ x. map (λ w. w.name) x.names) levels
+
+-- the first word whose name isn't among these
+abbrev pub unknown_among : List (List ℕ) → List PlacedWord → Option Extent
+unknown_among names words = option_map (λ (w : PlacedWord). w.span) (find (λ (w : PlacedWord). not (list_any (bytes_eq w.name) names)) words)
+
+-- the first name after `%prec` that is no token and has no precedence
+abbrev pub unknown_prec : Grammar → TextDeclarations → Option Extent
+unknown_prec g d = unknown_among (token_names g ++ level_names d.levels) (map (λ x. x.name) d.precs)
+
+-- the first name after `%avoid_insert` that is no token
+abbrev pub unknown_avoided : Grammar → TextDeclarations → Option Extent
+unknown_avoided g d = unknown_among (token_names g) d.avoided
+
+-- of two places the first
+abbrev pub first_of : Option Extent → Option Extent → Option Extent
+first_of None b = b
+first_of (Some a) None = Some a
+first_of (Some a) (Some b) = if nat_lt b.start a.start then Some b else Some a
+
+-- the first name that a file declares something of, and that the grammar doesn't know
+abbrev pub unknown_token : Grammar → TextDeclarations → Option Extent
+unknown_token g d = first_of (unknown_prec g d) (unknown_avoided g d)
+
+-- g is the grammar of the file, which has no fault
+pub record IsFileOf (kind : YaccKind) (text : List ℕ) (g : Grammar) : Type 0 where
+  pub sound : first_fault kind text ≡ None
+  pub spelled : Spells (erasure kind text) g
+  pub known : unknown_token g (declarations kind text) ≡ None
+
+-- the file has no fault, but its erasure has this one, or an allocation failed
+pub record HasTextFault (limit : ℕ) (kind : YaccKind) (text : List ℕ) (fault : GrammarFault) : Type 0 where
+  pub sound : first_fault kind text ≡ None
+  pub fault_is : IsFaultOf limit (erasure kind text) fault
+
+-- the name at this place is the first that the grammar of the file doesn't know
+pub record HasUnknownToken (kind : YaccKind) (text : List ℕ) (span : Extent) : Type 0 where
+  pub grammar : Grammar
+  pub sound : first_fault kind text ≡ None
+  pub spelled : Spells (erasure kind text) grammar
+  pub unknown : unknown_token grammar (declarations kind text) ≡ Some span
+
+-- why there is no grammar: the first fault of the file; else the fault of its erasure; else the first unknown name. Or an
+-- allocation failed.
+abbrev pub IsFileFault : ℕ → YaccKind → List ℕ → YaccFileFault → Type 0
+IsFileFault limit kind text (Declared fault) = IsDeclaredFault kind text fault
+IsFileFault limit kind text (Text fault) = HasTextFault limit kind text fault
+IsFileFault limit kind text (UnknownToken span) = HasUnknownToken kind text span
+IsFileFault limit kind text Memory = Unit {0}
+
+-- the map has these names
+abbrev pub AreNames : BTreeMap (Bor (List ℕ)) (Unit {0}) → List (List ℕ) → Type 0
+AreNames known names = (q : List ℕ) → is_some (get_by (λ k. slice_cmp nat_cmp q k.now) known) ≡ list_any (bytes_eq q) names

@@ -1,0 +1,209 @@
+//! The grammar of a `.y` file, and what the file declares beside it.
+ghost use Rattle.std.specs.Prelude.{◌≡◌, ◌++◌, List, ℕ, IfErr, IfOk, OnOk, map, string_bytes};
+ghost use Rattle.lrpar_grammar_reader.specs.SpansFit.{SpansFit};
+ghost use Rattle.lrpar_grammar_words.specs.Words.{placed};
+ghost use Rattle.lrpar_grammar_yacc.specs.Declares.{declarations, declarations_of, level_of, prec_of};
+ghost use Rattle.lrpar_grammar_yacc.specs.Erasure.{erasure};
+ghost use Rattle.lrpar_grammar.specs.declared.grammar.yacc.YaccFileFault.TheVariants.{Declared, Memory, Text};
+ghost use Rattle.lrpar_grammar.specs.YaccFiles.{AreNames, first_of, level_names, token_names, unknown_among, unknown_token};
+
+use super::value::YaccGrammar;
+use lrpar_grammar_places::span::{Span, StorageIndex};
+use lrpar_grammar_reader::parts::GrammarFault;
+use lrpar_grammar_words::words::Word;
+use lrpar_grammar_yacc::declarations::{Declarations, Level, Prec};
+use lrpar_grammar_yacc::faults::{YaccFault, YaccText};
+use lrpar_grammar_yacc::parts::YaccKind;
+use std::alloc::{AllocError, AllocFailed, Global};
+use std::collections::BTreeMap;
+use thiserror::Error;
+
+/// The grammar of a `.y` file, and what the file declares beside it.
+pub struct YaccFile<'a, StorageT: StorageIndex> {
+    /// The grammar.
+    pub grammar: YaccGrammar<StorageT>,
+    /// The erased file, and what it declares beside the grammar.
+    pub text: YaccText<'a>,
+}
+
+// Hand-written, so that code that drops a file needs the proof of one call only.
+impl<'a, StorageT: StorageIndex> Drop for YaccFile<'a, StorageT> {
+    fn drop(self) {
+        let YaccFile { grammar, text } = self;
+        drop(grammar);
+        drop(text);
+    }
+}
+
+/// Why there is no grammar of a `.y` file.
+#[derive(Clone, Debug, Drop, PartialEq, Eq, Error)]
+pub enum YaccFileFault {
+    /// A fault of what a grammar text doesn't have.
+    #[error("{0}")]
+    Declared(YaccFault),
+    /// A fault of the grammar text that is left.
+    #[error("{0}")]
+    Text(GrammarFault),
+    /// A name after `%prec` that is no token and has no precedence, or one after `%avoid_insert` that is no token.
+    #[error("unknown token at byte {at}", at = .0.start())]
+    UnknownToken(Span),
+    /// An allocation failed.
+    #[error("out of memory")]
+    Memory,
+}
+
+impl From<YaccFault> for YaccFileFault {
+    ghost from_gives = { λ e fault. fault ≡ Declared e };
+
+    fn from(fault: YaccFault) -> YaccFileFault {
+        YaccFileFault::Declared(fault)
+    }
+}
+
+impl From<GrammarFault> for YaccFileFault {
+    ghost from_gives = { λ e fault. fault ≡ Text e };
+
+    fn from(fault: GrammarFault) -> YaccFileFault {
+        YaccFileFault::Text(fault)
+    }
+}
+
+impl From<AllocError> for YaccFileFault {
+    ghost from_gives = { λ _ fault. fault ≡ Memory };
+
+    fn from(_: AllocError) -> YaccFileFault {
+        YaccFileFault::Memory
+    }
+}
+
+impl<StorageT: StorageIndex> YaccGrammar<StorageT> {
+    ghost use Rattle.lrpar_grammar_reader.specs.Grammar.{IsWellFormed};
+    ghost use Rattle.lrpar_grammar.specs.YaccFiles.{IsFileFault, IsFileOf};
+
+    /// The grammar of a `.y` file, with what the file declares beside it. It is the grammar of the erased file, which has blanks
+    /// in place of all that a grammar text doesn't have: actions, types, precedences and the like. So each place is one of the file.
+    ///
+    /// A name that `%left`, `%right` or `%nonassoc` declares is a token only if a rule uses it in quotes, or if `%token`
+    /// declares it. A `%prec` may have it even if it is none.
+    ///
+    /// Fails with the first fault of what is erased, by its place; else with the fault of the erased file, as
+    /// `new_with_storaget` answers it; else with `UnknownToken` at the first unknown name; or with `Memory` if an allocation
+    /// fails. Takes memory linear in the text, and time linear in it but for names: each is looked up in logarithmic time.
+    pub fn new_with_kind<'a>(
+        alloc: Global,
+        kind: YaccKind,
+        text: &'a str,
+    ) -> Result<YaccFile<'a, StorageT>, YaccFileFault>
+        ensures file { IfOk result (λ y. IsFileOf kind text.now y.grammar) }
+        ensures well_formed { IfOk result (λ y. IsWellFormed y.grammar) }
+        ensures fits { IfOk result (λ y. SpansFit y.grammar (erasure kind text.now)) }
+        ensures erased { IfOk result (λ y. string_bytes y.text.erased ≡ erasure kind text.now) }
+        ensures declared { IfOk result (λ y. declarations_of y.text.declarations ≡ declarations kind text.now) }
+        ensures faulty { IfErr result (IsFileFault StorageT.limit kind text.now) }
+    {
+        let text = YaccText::read(alloc, kind, text)?;
+        let grammar = YaccGrammar::new_with_storaget(alloc, text.erased.as_str())?;
+        match unknown_token(alloc, &grammar, &text.declarations)? {
+            Some(span) => Err(YaccFileFault::UnknownToken(span)),
+            None => Ok(YaccFile { grammar, text }),
+        }
+    }
+}
+
+// The first name that a file declares something of, and that the grammar doesn't know.
+fn unknown_token<'a, StorageT: StorageIndex>(
+    alloc: Global,
+    grm: &'a YaccGrammar<StorageT>,
+    declarations: &'a Declarations<'a>,
+) -> Result<Option<Span>, AllocError>
+    ensures { IfOk result (λ found. found ≡ unknown_token grm.now (declarations_of declarations.now)) }
+{
+    let mut names = token_list(alloc, grm)?;
+    let tokens = known(alloc, &names)?;
+    let avoided = unknown_word(&declarations.avoided, &tokens);
+    push_levels(&mut names, &declarations.levels)?;
+    let all = known(alloc, &names)?;
+    let words = prec_words(alloc, &declarations.precs)?;
+    let prec = unknown_word(&words, &all);
+    Ok(first_of(&prec, &avoided))
+}
+
+// The names of all tokens.
+fn token_list<'a, StorageT: StorageIndex>(
+    alloc: Global,
+    grm: &'a YaccGrammar<StorageT>,
+) -> Result<Vec<&'a str>, AllocError>
+    ensures { IfOk result (λ names. map (λ x. x.now) names.items ≡ token_names grm.now) }
+{
+    let mut names = Vec::new(alloc);
+    let tokens = grm.tokens_map(alloc)?;
+    for (name, _) in &tokens {
+        names.push(*name)?;
+    }
+    Ok(names)
+}
+
+// Appends the names of levels.
+fn push_levels<'a>(names: &mut Vec<&'a str>, levels: &[Level<'a>]) -> Result<(), AllocError>
+    ensures { OnOk result (map (λ x. x.now) names.new.items ≡ map (λ x. x.now) names.old.items ++ level_names (map level_of levels.now)) }
+{
+    for level in levels {
+        push_names(names, &level.names)?;
+    }
+    Ok(())
+}
+
+// Appends the names of words.
+fn push_names<'a>(names: &mut Vec<&'a str>, words: &[Word<'a>]) -> Result<(), AllocError>
+    ensures { OnOk result (map (λ x. x.now) names.new.items ≡ map (λ x. x.now) names.old.items ++ map (λ w. w.name) (map placed words.now)) }
+{
+    for word in words {
+        names.push(word.name)?;
+    }
+    Ok(())
+}
+
+// The names that productions have their precedence from.
+fn prec_words<'a>(alloc: Global, precs: &[Prec<'a>]) -> Result<Vec<Word<'a>>, AllocError>
+    ensures { IfOk result (λ words. map placed words.items ≡ map (λ x. x.name) (map prec_of precs.now)) }
+{
+    let mut words = Vec::new(alloc);
+    for prec in precs {
+        words.push(prec.name)?;
+    }
+    Ok(words)
+}
+
+// A map with these names.
+fn known<'a>(alloc: Global, names: &[&'a str]) -> Result<BTreeMap<&'a str, ()>, AllocError>
+    ensures { IfOk result (λ known. AreNames known (map (λ x. x.now) names.now)) }
+{
+    let mut known = BTreeMap::new(alloc);
+    for name in names {
+        known.insert(*name, ())?;
+    }
+    Ok(known)
+}
+
+// The first word whose name isn't known.
+fn unknown_word(words: &[Word], known: &BTreeMap<&str, ()>) -> Option<Span>
+    ensures { (names : List (List ℕ)) → AreNames known.now names → result ≡ unknown_among names (map placed words.now) }
+{
+    for word in words {
+        if !known.contains_key(word.name) {
+            return Some(word.span());
+        }
+    }
+    None
+}
+
+// Of two places the first.
+fn first_of(a: &Option<Span>, b: &Option<Span>) -> Option<Span>
+    ensures { result ≡ first_of a.now b.now }
+{
+    match (a, b) {
+        (Some(a), Some(b)) => Some(if b.start() < a.start() { *b } else { *a }),
+        (Some(a), None) => Some(*a),
+        (None, b) => *b,
+    }
+}

@@ -1,0 +1,9 @@
+pub mod CodeLemmas
+pub mod EndLemmas
+pub mod PartLemmas
+pub mod StepLemmas
+pub mod DeclareLemmas
+pub mod OwnLemmas
+pub mod FaultLemmas
+pub mod BlankLemmas
+pub mod LiteralLemmas
