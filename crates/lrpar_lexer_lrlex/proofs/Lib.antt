@@ -1,0 +1,7 @@
+pub mod ActiveLemmas
+pub mod EscapeLemmas
+pub mod FaultLemmas
+pub mod LexingInLemmas
+pub mod PartLemmas
+pub mod PieceLemmas
+pub mod StateLemmas
