@@ -29,7 +29,7 @@ pub written_both : (c : ℕ) (old mid new : List ℕ) → has_meaning c ≡ true
     → new ≡ old ++ encode_utf8_all (written true c)
 written_both c old mid new is first second =
     second ∙ ap (λ b. b ++ encode_utf8 c) first ∙ append_assoc old (encode_utf8 92) (encode_utf8 c)
-    ∙ ap (λ b. old ++ encode_utf8 92 ++ b) (sym (one_char c))
+    ∙ ap (λ b. old ++ (encode_utf8 92 ++ b)) (sym (one_char c))
     ∙ ap (λ cs. old ++ encode_utf8_all cs) (sym (cond-true (has_meaning c) (92 ∷ c ∷ []) (c ∷ []) is))
 
 pub written_end : (e : Bool) (old new : List ℕ) → e ≡ true → new ≡ old ++ encode_utf8 92 → new ≡ old ++ encode_utf8_all (without_needless e [])

@@ -1,5 +1,5 @@
 -- Faults that a `?` or a `match` returns.
-use Rattle.std.proofs.Common.{◌≡◌, ◌≢◌, Result, Ok, Err, IsErrAnd, MatchResult, sym, ◌∙◌, ap}
+use Rattle.std.proofs.Common.{◌≡◌, ◌≢◌, Result, Ok, Err, IfErr, IsErrAnd, MatchResult, sym, subst, ◌∙◌, ap}
 use Rattle.lrpar_lexer_lrlex.specs.declared.fault.LrlexFault.{LrlexFault}
 use Rattle.lrpar_lexer_lrlex.specs.declared.fault.LrlexFault.TheVariants.{Memory}
 use Rattle.lrpar_lexer_lrlex.specs.Faults.{Gives, Keeps}
@@ -19,3 +19,9 @@ module _ {B : Type 0} (is : Result B LrlexFault) (fault : LrlexFault) where
       → Keeps left is r
   keeps_fault left (Ok x) same says = absurd same
   keeps_fault left (Err y) same says = λ other. says (λ memory. other (same ∙ memory)) ∙ ap Err (sym same)
+
+-- the same of what holds of a fault
+pub if_fault : {T : Type 0} (P : LrlexFault → Type 0) (fault : LrlexFault) (r : Result T LrlexFault) → IsErrAnd r (λ y. y ≡ fault)
+    → (fault ≢ Memory → P fault) → IfErr r (λ y. y ≢ Memory → P y)
+if_fault P fault (Ok x) same says = tt
+if_fault P fault (Err y) same says = λ other. subst P (sym same) (says (λ memory. other (same ∙ memory)))

@@ -1,9 +1,9 @@
 -- The lexemes and errors of a text by rules with start states, step by step.
-use Rattle.std.proofs.Common.{◌≡◌, ℕ, ◌+◌, ◌<◌, ◌≤◌, suc, Bool, cond, false, List, [], ◌∷◌, ◌++◌, length, map, drop, get_or, Option, Some, None, Result, Err, sym, subst, ◌∙◌, ap, arith, append_assoc, slice_get}
+use Rattle.std.proofs.Common.{◌≡◌, ℕ, ◌+◌, ◌<◌, ◌≤◌, suc, Bool, cond, false, List, [], ◌∷◌, ◌++◌, length, map, drop, get_or, Option, Some, None, option_map, Result, Err, sym, subst, ◌∙◌, ap, arith, append_assoc, slice_get}
 use Rattle.std.specs.List.{All, AllZip}
 use Rattle.std.specs.Str.{IsCharBoundary}
 use Rattle.std.proofs.lemmas.Bool.{cond_both}
-use Rattle.std.proofs.lemmas.List.{append-nil, length-map}
+use Rattle.std.proofs.lemmas.List.{append-nil, get_or-map, get_or_default, length-map}
 use Rattle.std.proofs.lemmas.List.Elements.{All-cons, All-nil, All-weaker}
 use Rattle.std.proofs.lemmas.Option.{get_or_from_slice_get, slice_get_within}
 use Rattle.regex.specs.Patterns.{Re, empty}
@@ -11,13 +11,16 @@ use Rattle.regex_meta.specs.declared.program.Program.{Program}
 use Rattle.lrpar_lexer.specs.Anchored.{FindsAtStart}
 use Rattle.lrpar_lexer.specs.Lexing.{lexemes_of, nothing_at}
 use Rattle.lrpar_lexer.specs.Matching.{IsWinner, NoneMatches, Wins, chosen_of}
-use Rattle.lrpar_lexer.specs.Rules.{Rule, anchored_of, pattern_of}
+use Rattle.lrpar_lexer.specs.Rules.{Rule, anchored_of, pattern_of, plain_rule, token_of}
+use Rattle.lrpar_lexer.specs.declared.rule.LexRule.{LexRule}
 use Rattle.lrpar_lexer.specs.declared.matching.Winner.{Winner}
 use Rattle.lrpar_lexer.specs.declared.token.Token.{Token}
 use Rattle.lrpar_lexer.specs.declared.token.NoToken.{NoToken}
 use Rattle.lrpar_lexer.proofs.LexingLemmas.{boundary_past, patterns_same}
 use Rattle.lrpar_lexer.proofs.WinnerLemmas.{rules_find}
 use Rattle.lrpar_lexer_lrlex.specs.declared.rules.LrlexRules.{LrlexRules}
+use Rattle.lrpar_lexer_lrlex.specs.declared.states.Starts as code
+use Rattle.lrpar_lexer_lrlex.specs.States.{plain_target}
 use Rattle.lrpar_lexer_lrlex.specs.LexingIn.{LexesIn, ReadsIn, ends, falls, nothing_below, patterns_in, reads, stops}
 use Rattle.lrpar_lexer_lrlex.specs.StateRules.{Starts, StateRules, active, active_from, is_active, moved, plain_starts, plain_state_rules, target_at, token_at}
 
@@ -60,7 +63,7 @@ module _ (rules : StateRules) (text : List ℕ) where
 -- the numbers of the active rules are those of rules
 pub active_small : (from : ℕ) (exclusive : Bool) (state : ℕ) (starts : List Starts)
     → All (λ i. i < from + length starts) (active_from from exclusive state starts)
-active_small from exclusive state [] = All-nil (λ i. i < from + length [])
+active_small from exclusive state [] = All-nil _
 active_small from exclusive state (start ∷ starts) =
     let more : All (λ i. i < from + length (start ∷ starts)) (active_from (from + 1) exclusive state starts) =
     All-weaker (λ i. i < (from + 1) + length starts) (λ i. i < from + length (start ∷ starts)) (λ i less. omega (arith, less))
@@ -70,13 +73,36 @@ active_small from exclusive state (start ∷ starts) =
     (λ _. All-cons (λ i. i < from + length (start ∷ starts)) from (active_from (from + 1) exclusive state starts) (omega arith) more)
     (λ _. more)
 
+-- the token and the target of a rule
+pub token_is : {S : Type 0} (index : S → ℕ) (rules : LrlexRules S) (rule : ℕ) (one : LexRule S) → rule < length rules.rules.items
+    → one ≡ get_or rules.rules.items rule one → token_of index one ≡ token_at (plain_state_rules index rules) rule
+token_is index rules rule one within read =
+    let all = rules.rules.items in
+    let plain : get_or (map (plain_rule index) all) rule (plain_rule index one) ≡ plain_rule index one =
+    get_or-map (plain_rule index) all rule one _ within ∙ ap (plain_rule index) (sym read) in
+    let len : rule < length (map (plain_rule index) all) = omega (arith, within, length-map all (plain_rule index)) in
+    sym (get_or_default (map (λ (r : Rule). r.token) (map (plain_rule index) all)) rule None (token_of index one)
+    (omega (arith, len, length-map (map (plain_rule index) all) (λ (r : Rule). r.token)))
+    ∙ get_or-map (λ (r : Rule). r.token) (map (plain_rule index) all) rule (plain_rule index one) _ len ∙ ap (λ (r : Rule). r.token) plain)
+
+pub target_is : {S : Type 0} (index : S → ℕ) (rules : LrlexRules S) (rule : ℕ) (one : code.Starts) → rule < length rules.starts.items
+    → one ≡ get_or rules.starts.items rule one → option_map plain_target one.target ≡ target_at (plain_state_rules index rules) rule
+target_is index rules rule one within read =
+    let all = rules.starts.items in
+    let plain : get_or (map plain_starts all) rule (plain_starts one) ≡ plain_starts one =
+    get_or-map plain_starts all rule one _ within ∙ ap plain_starts (sym read) in
+    let len : rule < length (map plain_starts all) = omega (arith, within, length-map all plain_starts) in
+    sym (get_or_default (map (λ (s : Starts). s.target) (map plain_starts all)) rule None (option_map plain_target one.target)
+    (omega (arith, len, length-map (map plain_starts all) (λ (s : Starts). s.target)))
+    ∙ get_or-map (λ (s : Starts). s.target) (map plain_starts all) rule (plain_starts one) _ len ∙ ap (λ (s : Starts). s.target) plain)
+
 module _ {S : Type 0} (index : S → ℕ) (rules : LrlexRules S) (state : ℕ) where
   -- so each has a pattern
   pub active_have_patterns : All (λ i. i < length (map pattern_of rules.rules.items)) (active (plain_state_rules index rules) state)
   active_have_patterns =
       let starts = map plain_starts rules.starts.items in
-      let count : length starts ≡ length (map pattern_of rules.rules.items) =
-      length-map rules.starts.items plain_starts ∙ rules.paired ∙ sym (length-map rules.rules.items pattern_of) in
+      let count : 0 + length starts ≡ length (map pattern_of rules.rules.items) =
+      omega (arith, length-map rules.starts.items plain_starts, rules.paired, length-map rules.rules.items pattern_of) in
       subst (λ n. All (λ i. i < n) (active (plain_state_rules index rules) state)) count
       (active_small 0 (get_or rules.exclusive.items state false) state starts)
 

@@ -4,4 +4,5 @@ pub mod FaultLemmas
 pub mod LexingInLemmas
 pub mod PartLemmas
 pub mod PieceLemmas
+pub mod ReadingLemmas
 pub mod StateLemmas

@@ -38,16 +38,20 @@ declare states line =
     if length line.bytes == 0 || is_comment line then Ok states
     else declare_by states line (after_word (codes "%x") line) (after_word (codes "%s") line)
 
+-- the line ends the declarations
+abbrev pub is_rules_sign : Part → Bool
+is_rules_sign line = bytes_eq line.bytes (codes "%%")
+
 -- the states after these lines up to the first line `%%`, and the lines after that
 abbrev pub declared : List states.StateName → List Part → Result (List states.StateName × List Part) LrlexFault
 declared states [] = Err NoRules
 declared states (line ∷ lines) =
-    if bytes_eq ((trimmed line).bytes) (codes "%%") then Ok (states, lines)
+    if is_rules_sign (trimmed line) then Ok (states, lines)
     else declare states (trimmed line) >>= λ states. declared states lines
 
 -- the same of a text's lines, with the state `INITIAL` before all others
 abbrev pub declarations : List Part → Result (List states.StateName × List Part) LrlexFault
 declarations lines = declared (record { name = codes "INITIAL"; exclusive = false } ∷ []) lines
 
-abbrev pub plain_declared : Vec code_state.StateName × Option code.Part → List states.StateName × List Part
+abbrev pub plain_declared : {Z : Type 0} → Vec code_state.StateName Z × Option code.Part → List states.StateName × List Part
 plain_declared (states, rest) = (plain_names states.items, pieces_left 10 (option_map (λ p. placed p) rest))

@@ -27,13 +27,20 @@ pub(crate) fn declarations<'t>(
     'lines: while let Some(part) = left {
         let (line, rest) = part.cut('\n');
         let core = line.trimmed();
-        if core.text == "%%" {
+        if is_rules_sign(core) {
             return Ok((states, rest));
         }
         declare(&mut states, core)?;
         left = rest;
     }
     Err(LrlexFault::NoRules)
+}
+
+// Whether the line ends the declarations.
+fn is_rules_sign(line: Part) -> bool
+    ensures { result ≡ spec.is_rules_sign (placed line.entry) }
+{
+    line.text == "%%"
 }
 
 // Adds the states that a line declares. A line with nothing declares none, nor does a comment.

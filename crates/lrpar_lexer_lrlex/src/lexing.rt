@@ -2,13 +2,13 @@
 ghost use Rattle.std.specs.Prelude.{◌≡◌, ◌<◌, ◌≤◌, ◌+◌, ◌++◌, IfOk, IfSome, MatchOption, OnOk, None, Some, drop, length, map, option_map, slice_get};
 ghost use Rattle.std.specs.Str.{IsCharBoundary};
 ghost use Rattle.lrpar_lexer.specs.Answers.{plain_answers};
-ghost use Rattle.lrpar_lexer.specs.Lexing.{lexemes_of};
+ghost use Rattle.lrpar_lexer.specs.Lexing.{lexemes_of, nothing_at};
 ghost use Rattle.lrpar_lexer.specs.Matchers.{programs_of};
 ghost use Rattle.lrpar_lexer.specs.Matching.{NoneMatches};
 ghost use Rattle.lrpar_lexer.specs.Rules.{anchored_of};
-ghost use Rattle.lrpar_lexer_lrlex.specs.LexingIn.{LexesByStates, ReadsIn, patterns_in};
+ghost use Rattle.lrpar_lexer_lrlex.specs.LexingIn.{LexesByStates, ReadsIn, nothing_below, patterns_in};
 ghost use Rattle.lrpar_lexer_lrlex.specs.StateRules as spec;
-ghost use Rattle.lrpar_lexer_lrlex.specs.StateRules.{plain_state_rules};
+ghost use Rattle.lrpar_lexer_lrlex.specs.StateRules.{plain_state_rules, target_at, token_at};
 ghost use Rattle.lrpar_lexer_lrlex.specs.States.{plain_target};
 
 use crate::active::active_in;
@@ -28,26 +28,83 @@ pub(crate) fn answers<StorageT: StorageIndex>(
 ) -> Result<Vec<Result<Token<StorageT>, NoToken>>, AllocError>
     ensures { IfOk result (λ answers. LexesByStates (plain_state_rules StorageT.index rules.now) text.now (plain_answers StorageT.index answers.items)) }
 {
-    let mut matchers = Matchers::new(alloc, &rules.rules)?;
+    let mut matchers = matchers_of(alloc, rules)?;
     let mut stack = Stack::new(alloc);
-    let mut active = active_in(alloc, &rules.exclusive, &rules.starts, 0)?;
+    let mut active = active_rules(alloc, rules, 0)?;
     let mut answers = Vec::new(alloc);
     let mut at = 0;
     'places: while at < text.len() {
         let Some((rule, len)) = read_at(&mut matchers, rules, stack.top, &active, text, at) else {
-            answers.push(Err(NoToken::new(Span::new(at, at))))?;
+            answers.push(Err(nothing_at(at)))?;
             return Ok(answers);
         };
-        let target = rules.starts[rule].target;
-        if !stack.go_on(target)? {
-            answers.push(Err(NoToken::new(Span::new(at, at + len))))?;
+        let target = target_of(rules, rule);
+        let goes = stack.go_on(target)?;
+        if !goes {
+            answers.push(Err(nothing_below(at, len)))?;
             return Ok(answers);
         }
-        active = active_after(alloc, rules, active, stack.top, target)?;
-        push_lexeme(&mut answers, rules.rules[rule].token(), at, len)?;
+        let next = active_after(alloc, rules, active, stack.top, target)?;
+        active = next;
+        push_lexeme(&mut answers, token_of(rules, rule), at, len)?;
         at += len;
     }
     Ok(answers)
+}
+
+// The searches for the patterns of the rules.
+fn matchers_of<StorageT: StorageIndex>(
+    alloc: Global,
+    rules: &LrlexRules<StorageT>,
+) -> Result<Matchers<'_>, AllocError>
+    ensures { IfOk result (λ matchers. programs_of matchers ≡ map anchored_of rules.now.rules.items) }
+{
+    Matchers::new(alloc, &rules.rules)
+}
+
+// The numbers of the rules that are active in a state.
+fn active_rules<StorageT: StorageIndex>(
+    alloc: Global,
+    rules: &LrlexRules<StorageT>,
+    state: usize,
+) -> Result<Vec<usize>, AllocError>
+    ensures { IfOk result (λ active. active.items ≡ spec.active (plain_state_rules StorageT.index rules.now) state) }
+{
+    active_in(alloc, &rules.exclusive, &rules.starts, state)
+}
+
+// The error for a place at which no active rule matches.
+fn nothing_at(at: usize) -> NoToken
+    ensures { result ≡ nothing_at at }
+{
+    NoToken::new(Span::new(at, at))
+}
+
+// The error for a match that pops the last state.
+fn nothing_below(at: usize, len: usize) -> NoToken
+    requires { at + len ≤ usize.MAX }
+    ensures { result ≡ nothing_below at len }
+{
+    NoToken::new(Span::new(at, at + len))
+}
+
+// The target of a rule.
+fn target_of<StorageT: StorageIndex>(rules: &LrlexRules<StorageT>, rule: usize) -> Option<Target>
+    requires { rule < length rules.now.starts.items }
+    ensures { option_map plain_target result ≡ target_at (plain_state_rules StorageT.index rules.now) rule }
+{
+    rules.starts[rule].target
+}
+
+// The token of a rule.
+fn token_of<StorageT: StorageIndex>(
+    rules: &LrlexRules<StorageT>,
+    rule: usize,
+) -> Option<TIdx<StorageT>>
+    requires { rule < length rules.now.starts.items }
+    ensures { option_map (λ token. StorageT.index token.0) result ≡ token_at (plain_state_rules StorageT.index rules.now) rule }
+{
+    rules.rules[rule].token()
 }
 
 // Of the active rules the one that wins at byte `at`, and the number of bytes of its match.
@@ -96,7 +153,7 @@ fn active_after<StorageT: StorageIndex>(
     if target.is_none() {
         return Ok(active);
     }
-    active_in(alloc, &rules.exclusive, &rules.starts, top)
+    active_rules(alloc, rules, top)
 }
 
 // Appends the lexeme of the token, with `len` bytes from byte `at` on; nothing if there is no token.

@@ -21,6 +21,6 @@ chars-preserved c =
 
 pub returns : goal.returns
 returns c =
-    let none = ap chars (nil_from_length _ c.in_default.ensures.steps.0.0) ∙ chars-nil in
+    let none = ap chars (nil_from_length _ c.in-None.ensures.steps.0.0) ∙ chars-nil in
     c.in_ok-push_end.ensures
     ∙ ap (λ cs. string_bytes c.chars.text ++ encode_utf8_all (without_needless c.chars.is_escaped cs)) (sym none) ∙ c.chars.invariant.text
