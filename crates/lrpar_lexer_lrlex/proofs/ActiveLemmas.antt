@@ -1,9 +1,9 @@
 -- The rules that are active in a state, one after the other.
-use Rattle.std.proofs.Common.{◌≡◌, ℕ, ◌+◌, ◌<◌, ◌≤◌, Bool, cond, List, [], ◌∷◌, ◌++◌, length, map, drop, get_or, inl, inr, sym, ◌∙◌, ap, append-nil, append_assoc, arith}
+use Rattle.std.proofs.Common.{◌≡◌, ℕ, ◌+◌, ◌<◌, Bool, cond, List, [], ◌∷◌, ◌++◌, length, map, drop, get_or, inl, inr, sym, ◌∙◌, ap, append-nil, append_assoc, arith}
 use Rattle.std.proofs.lemmas.Bool.{cases_Bool, cond-false, cond-true}
 use Rattle.std.proofs.lemmas.List.{drop_more, get_or-map, length-map}
 use Rattle.lrpar_lexer_lrlex.specs.declared.states.Starts as code
-use Rattle.lrpar_lexer_lrlex.specs.StateRules.{Starts, active_from, is_active, plain_starts}
+use Rattle.lrpar_lexer_lrlex.specs.StateRules.{active_from, is_active, plain_starts}
 
 -- one more rule
 pub active_step : (index : ℕ) (exclusive : Bool) (state : ℕ) (starts : List code.Starts) (before after : List ℕ) (start : code.Starts) (test : Bool)

@@ -1,5 +1,5 @@
 -- What is written for a character of a pattern.
-use Rattle.std.proofs.Common.{◌≡◌, ℕ, ◌==◌, ◌&&◌, not, Bool, true, false, cond, List, [], ◌∷◌, ◌++◌, encode_utf8, encode_utf8_all, sym, ◌∙◌, ap, refl, append-nil, append_assoc}
+use Rattle.std.proofs.Common.{◌≡◌, ℕ, ◌==◌, ◌&&◌, not, Bool, true, false, List, [], ◌∷◌, ◌++◌, encode_utf8, encode_utf8_all, sym, ◌∙◌, ap, append-nil, append_assoc}
 use Rattle.std.proofs.lemmas.Bool.{cond-false, cond-true, true≢false}
 use Rattle.lrpar_lexer_lrlex.specs.Escapes.{has_meaning, without_needless, written}
 

@@ -1,5 +1,5 @@
 -- The lexemes and errors of a text by rules with start states, step by step.
-use Rattle.std.proofs.Common.{◌≡◌, ℕ, ◌+◌, ◌<◌, ◌≤◌, suc, Bool, cond, false, List, [], ◌∷◌, ◌++◌, length, map, drop, get_or, Option, Some, None, option_map, Result, Err, sym, subst, ◌∙◌, ap, arith, append_assoc, slice_get}
+use Rattle.std.proofs.Common.{◌≡◌, ℕ, ◌+◌, ◌<◌, ◌≤◌, Bool, false, List, [], ◌∷◌, ◌++◌, length, map, drop, get_or, Option, Some, None, option_map, Result, Err, sym, subst, ◌∙◌, ap, arith, append_assoc, slice_get}
 use Rattle.std.specs.List.{All, AllZip}
 use Rattle.std.specs.Str.{IsCharBoundary}
 use Rattle.std.proofs.lemmas.Bool.{cond_both}
@@ -21,7 +21,7 @@ use Rattle.lrpar_lexer.proofs.WinnerLemmas.{rules_find}
 use Rattle.lrpar_lexer_lrlex.specs.declared.rules.LrlexRules.{LrlexRules}
 use Rattle.lrpar_lexer_lrlex.specs.declared.states.Starts as code
 use Rattle.lrpar_lexer_lrlex.specs.States.{plain_target}
-use Rattle.lrpar_lexer_lrlex.specs.LexingIn.{LexesIn, ReadsIn, ends, falls, nothing_below, patterns_in, reads, stops}
+use Rattle.lrpar_lexer_lrlex.specs.LexingIn.{LexesIn, ReadsIn, fails, falls, finishes, moves_on, nothing_below, patterns_in}
 use Rattle.lrpar_lexer_lrlex.specs.StateRules.{Starts, StateRules, active, active_from, is_active, moved, plain_starts, plain_state_rules, target_at, token_at}
 
 -- the results so far, and then those from byte `at` on with that stack, are the results of the whole text
@@ -40,13 +40,13 @@ module _ (rules : StateRules) (text : List ℕ) where
       → LeadsTo rules text (at + n) next under (before ++ lexemes_of (token_at rules rule) at n)
   leads_on at top below rule n next under before within read goes leads after lexes =
       subst (LexesIn rules text 0 0 []) (sym (append_assoc before (lexemes_of (token_at rules rule) at n) after))
-      (leads (lexemes_of (token_at rules rule) at n ++ after) (reads at top below rule n next under after within read goes lexes))
+      (leads (lexemes_of (token_at rules rule) at n ++ after) (moves_on at top below rule n next under after within read goes lexes))
 
   -- nothing matches
   pub leads_to_error : (at top : ℕ) (below : List ℕ) (before : List (Result (Token ℕ) NoToken)) → at < length text
       → NoneMatches (patterns_in rules top) (drop at text) → LeadsTo rules text at top below before
       → LexesIn rules text 0 0 [] (before ++ Err (nothing_at at) ∷ [])
-  leads_to_error at top below before within none leads = leads (Err (nothing_at at) ∷ []) (stops at top below within none)
+  leads_to_error at top below before within none leads = leads (Err (nothing_at at) ∷ []) (fails at top below within none)
 
   -- a match pops the last state
   pub leads_to_fall : (at top : ℕ) (below : List ℕ) (rule n : ℕ) (before : List (Result (Token ℕ) NoToken)) → at < length text
@@ -58,7 +58,7 @@ module _ (rules : StateRules) (text : List ℕ) where
   -- the text ends
   pub leads_to_end : (at top : ℕ) (below : List ℕ) (before : List (Result (Token ℕ) NoToken)) → length text ≤ at
       → LeadsTo rules text at top below before → LexesIn rules text 0 0 [] before
-  leads_to_end at top below before past leads = subst (LexesIn rules text 0 0 []) (append-nil before) (leads [] (ends at top below past))
+  leads_to_end at top below before past leads = subst (LexesIn rules text 0 0 []) (append-nil before) (leads [] (finishes at top below past))
 
 -- the numbers of the active rules are those of rules
 pub active_small : (from : ℕ) (exclusive : Bool) (state : ℕ) (starts : List Starts)

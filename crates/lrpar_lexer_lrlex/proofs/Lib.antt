@@ -1,6 +1,7 @@
 pub mod ActiveLemmas
 pub mod EscapeLemmas
 pub mod FaultLemmas
+pub mod LawLemmas
 pub mod LexingInLemmas
 pub mod PartLemmas
 pub mod PieceLemmas

@@ -1,5 +1,5 @@
 -- What the methods of `str` make of a part of a text.
-use Rattle.std.proofs.Common.{◌≡◌, ◌≢◌, ◌⊎◌, ℕ, ◌+◌, ◌-◌, ◌<◌, ◌≤◌, ◌==◌, nat_lt, Bool, true, false, not, ◌&&◌, cond, List, [], ◌∷◌, ◌++◌, length, take, drop, get_or, Option, Some, None, MatchOption, Bor, inl, inr, sym, subst, ◌∙◌, ap, ap₂, refl, arith, eqb-true, length-drop, length-take-le, take_all, take_at, take-append-drop}
+use Rattle.std.proofs.Common.{◌≡◌, ◌≢◌, ℕ, ◌+◌, ◌-◌, ◌<◌, ◌≤◌, ◌==◌, nat_lt, Bool, true, false, not, ◌&&◌, List, [], ◌∷◌, ◌++◌, length, take, drop, get_or, Option, Some, None, MatchOption, Bor, inl, inr, sym, ◌∙◌, ap, ap₂, refl, arith, eqb-true, length-drop, take_all, take_at, take-append-drop}
 use Rattle.std.specs.Char.{char_set_contains}
 use Rattle.std.specs.List.{after_last, before_last, prefix_len, suffix_len}
 use Rattle.std.specs.Str.{NoCharPasses, bytes_eq}

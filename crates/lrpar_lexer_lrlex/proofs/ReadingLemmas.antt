@@ -1,5 +1,5 @@
 -- The rules of the first lines of a text, and of one line more.
-use Rattle.std.proofs.Common.{◌≡◌, ℕ, cond, Bool, true, false, List, [], ◌∷◌, ◌++◌, map, filter, Option, Some, None, option_map, inl, inr, sym, subst, ◌∙◌, ap, append-nil, append_assoc}
+use Rattle.std.proofs.Common.{◌≡◌, ℕ, cond, true, false, List, [], ◌∷◌, ◌++◌, Option, Some, option_map, inl, inr, sym, subst, ◌∙◌, ap, append-nil, append_assoc}
 use Rattle.std.proofs.lemmas.Bool.{cond-false, cond-true}
 use Rattle.lrpar_grammar.specs.Grammar.{Grammar}
 use Rattle.lrpar_lexer.specs.declared.rule.LexRule.{LexRule}
@@ -18,7 +18,7 @@ module _ (flags : TextFlags) (left rest : Option code.Part) (part line core : co
     (ends : placed core ≡ trimmed (placed line)) where
   next_line : rule_lines flags (pieces_left 10 (option_map (λ p. placed p) left))
       ≡ cond (counts flags (placed core)) (placed core ∷ rule_lines flags (pieces_left 10 (option_map (λ p. placed p) rest)))
-          (rule_lines flags (pieces_left 10 (option_map (λ p. placed p) rest)))
+      (rule_lines flags (pieces_left 10 (option_map (λ p. placed p) rest)))
   next_line =
       ap (λ (o : Option code.Part). rule_lines flags (pieces_left 10 (option_map (λ p. placed p) o))) is
       ∙ ap (rule_lines flags) (pieces_step 10 (placed part))

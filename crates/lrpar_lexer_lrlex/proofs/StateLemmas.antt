@@ -1,5 +1,5 @@
 -- The first state with a name.
-use Rattle.std.proofs.Common.{◌≡◌, ℕ, ◌+◌, nat_lt, not, Bool, cond, List, [], ◌∷◌, length, map, Option, Some, None, sym, ◌∙◌, ap, refl}
+use Rattle.std.proofs.Common.{◌≡◌, ◌+◌, nat_lt, not, Bool, cond, List, [], ◌∷◌, length, map, Some, None, ◌∙◌, ap, refl}
 use Rattle.std.specs.List.{position, position_or_len, prefix_len}
 use Rattle.std.proofs.lemmas.List.{length-map}
 

@@ -1,11 +1,11 @@
 -- The lines before `%%`, which declare start states.
-use Rattle.std.specs.Prelude.{ℕ, ◌==◌, ◌||◌, Bool, true, false, not, List, [], ◌∷◌, ◌++◌, length, Option, Some, None, is_some, is_none, option_map, Result, Ok, Err, codes, bytes_eq, if◌then◌else◌, Vec}
+use Rattle.std.specs.Prelude.{◌==◌, ◌||◌, Bool, true, false, not, List, [], ◌∷◌, ◌++◌, length, Option, Some, None, is_some, is_none, option_map, Result, Ok, Err, codes, bytes_eq, if◌then◌else◌, Vec}
 use Rattle.lrpar_lexer_lrlex.specs.declared.fault.LrlexFault.{LrlexFault}
 use Rattle.lrpar_lexer_lrlex.specs.declared.fault.LrlexFault.TheVariants.{Declaration, NoRules, RepeatedState, StateName}
 use Rattle.lrpar_lexer_lrlex.specs.declared.part.Part as code
 use Rattle.lrpar_lexer_lrlex.specs.declared.states.StateName as code_state
 use Rattle.lrpar_lexer_lrlex.specs.Faults.{◌>>=◌}
-use Rattle.lrpar_lexer_lrlex.specs.Parts.{Part, after_byte, after_cut, after_word, before_cut, is_comment, pieces, pieces_left, placed, span_of, trimmed}
+use Rattle.lrpar_lexer_lrlex.specs.Parts.{Part, after_cut, after_word, before_cut, is_comment, pieces_left, placed, span_of, trimmed}
 use Rattle.lrpar_lexer_lrlex.specs.States as states
 use Rattle.lrpar_lexer_lrlex.specs.States.{is_state_name, plain_names, state_named}
 

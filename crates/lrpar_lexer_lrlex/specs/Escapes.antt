@@ -1,5 +1,5 @@
 -- The escapes of a pattern of lrlex.
-use Rattle.std.specs.Prelude.{ℕ, ◌==◌, ◌||◌, ◌&&◌, Bool, true, false, not, List, [], ◌∷◌, ◌++◌, chars, encode_utf8_all, if◌then◌else◌}
+use Rattle.std.specs.Prelude.{ℕ, ◌==◌, ◌&&◌, Bool, true, false, not, List, [], ◌∷◌, ◌++◌, chars, encode_utf8_all, if◌then◌else◌}
 use Rattle.std.specs.Char.{is_ascii, is_ascii_alphabetic}
 use Rattle.regex_syntax.specs.Reading.{◌∈◌}
 

@@ -1,6 +1,5 @@
 -- The flags of a `.l` file, which come first: `%grmtools{FLAGS}`.
 use Rattle.std.specs.Prelude.{ℕ, ◌==◌, Bool, true, false, List, [], ◌∷◌, length, Option, Some, None, Result, Ok, Err, codes, ok_or, bytes_eq, if◌then◌else◌}
-use Rattle.regex_syntax.specs.declared.Config.{Config}
 use Rattle.regex_syntax.specs.declared.flags.Flags.{Flags}
 use Rattle.regex.specs.Patterns.{default_config}
 use Rattle.lrpar_lexer_lrlex.specs.declared.fault.LrlexFault.{LrlexFault}

@@ -1,5 +1,5 @@
 -- The lexemes and errors that rules with start states give for a text.
-use Rattle.std.specs.Prelude.{◌≡◌, ℕ, ◌+◌, ◌<◌, ◌≤◌, List, [], ◌∷◌, ◌++◌, length, map, drop, Option, Some, None, Result, Ok, Err, slice_get}
+use Rattle.std.specs.Prelude.{◌≡◌, ℕ, ◌+◌, ◌<◌, ◌≤◌, List, [], ◌∷◌, ◌++◌, length, map, drop, Some, None, Result, Err, slice_get}
 use Rattle.regex.specs.Patterns.{Re}
 use Rattle.lrpar_lexer.specs.Lexing.{lexemes_of, nothing_at}
 use Rattle.lrpar_lexer.specs.Matching.{NoneMatches, Wins, chosen_of}
@@ -24,12 +24,12 @@ nothing_below at n = record { span = record { start = at; end = at + n } }
 -- The lexemes and errors of a text from byte `at` on, with a stack of states: a lexeme for each match of a rule with a token, and then the
 -- stack that the rule's target makes; an error if no active rule matches, or if a match pops the last state, which is the last result.
 pub data LexesIn (rules : StateRules) (text : List ℕ) : ℕ → ℕ → List ℕ → List (Result (Token ℕ) NoToken) → Type 0 where
-  ends : (at top : ℕ) (below : List ℕ) → length text ≤ at → LexesIn rules text at top below []
-  stops : (at top : ℕ) (below : List ℕ) → at < length text → NoneMatches (patterns_in rules top) (drop at text)
+  finishes : (at top : ℕ) (below : List ℕ) → length text ≤ at → LexesIn rules text at top below []
+  fails : (at top : ℕ) (below : List ℕ) → at < length text → NoneMatches (patterns_in rules top) (drop at text)
       → LexesIn rules text at top below (Err (nothing_at at) ∷ [])
   falls : (at top : ℕ) (below : List ℕ) (rule n : ℕ) → at < length text → ReadsIn rules text top at rule n
       → moved (target_at rules rule) top below ≡ None → LexesIn rules text at top below (Err (nothing_below at n) ∷ [])
-  reads : (at top : ℕ) (below : List ℕ) (rule n next : ℕ) (under : List ℕ) (answers : List (Result (Token ℕ) NoToken)) → at < length text
+  moves_on : (at top : ℕ) (below : List ℕ) (rule n next : ℕ) (under : List ℕ) (answers : List (Result (Token ℕ) NoToken)) → at < length text
       → ReadsIn rules text top at rule n → moved (target_at rules rule) top below ≡ Some (next, under)
       → LexesIn rules text (at + n) next under answers → LexesIn rules text at top below (lexemes_of (token_at rules rule) at n ++ answers)
 

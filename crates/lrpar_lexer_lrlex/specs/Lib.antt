@@ -1,5 +1,6 @@
 pub mod Parts
 pub mod Faults
+pub mod FaultPlaces
 pub mod LineParts
 pub mod States
 pub mod Flags

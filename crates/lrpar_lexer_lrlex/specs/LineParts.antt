@@ -1,5 +1,5 @@
 -- The parts of a line of a rule: `<STATES>PATTERN <TARGET>NAME`.
-use Rattle.std.specs.Prelude.{ℕ, ◌==◌, List, length, Option, Some, None, option_map, Result, Ok, Err, codes, bytes_eq, if◌then◌else◌}
+use Rattle.std.specs.Prelude.{ℕ, ◌==◌, length, Option, Some, None, option_map, Result, Ok, Err, codes, bytes_eq, if◌then◌else◌}
 use Rattle.lrpar_lexer_lrlex.specs.declared.fault.LrlexFault.{LrlexFault}
 use Rattle.lrpar_lexer_lrlex.specs.declared.fault.LrlexFault.TheVariants.{NoName, NoPattern, OpenQuote, OpenState}
 use Rattle.lrpar_lexer_lrlex.specs.declared.part.Part as code

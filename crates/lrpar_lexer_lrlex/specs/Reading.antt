@@ -1,9 +1,8 @@
 -- The rules that a `.l` file gives for a grammar.
-use Rattle.std.specs.Prelude.{◌≡◌, ◌≢◌, ◌⊎◌, ℕ, ◌==◌, ◌||◌, ◌&&◌, Bool, not, List, [], ◌∷◌, length, map, filter, ⊤, Option, option_map, Result, Ok, Err}
+use Rattle.std.specs.Prelude.{◌≡◌, ◌≢◌, ◌⊎◌, ℕ, ◌==◌, ◌||◌, ◌&&◌, Bool, not, List, [], ◌∷◌, length, map, filter, ⊤, option_map, Ok, Err}
 use Rattle.regex.specs.Patterns.{Config}
 use Rattle.regex.specs.Failures.{IsRightKind}
 use Rattle.regex.specs.Sources.{IsRefusal}
-use Rattle.regex.specs.declared.error.Error.{Error}
 use Rattle.regex.specs.declared.error.Error.TheVariants.{Internal, OutOfMemory}
 use Rattle.lrpar_grammar.specs.Grammar.{Grammar}
 use Rattle.lrpar_lexer.specs.Rules.{HasPatternBy, token_of}

@@ -19,7 +19,11 @@ pub(crate) fn active_in(
     let mut active = Vec::new(alloc);
     let mut index = 0;
     'starts: while index < starts.len() {
-        push_active(&mut active, index, is_active(&starts[index], state, exclusive))?;
+        push_active(
+            &mut active,
+            index,
+            is_active(&starts[index], state, exclusive),
+        )?;
         index += 1;
     }
     Ok(active)

@@ -51,6 +51,32 @@ pub enum LrlexFault {
     Memory,
 }
 
+impl LrlexFault {
+    ghost use Rattle.std.specs.Prelude.{◌≡◌};
+    ghost use Rattle.lrpar_lexer_lrlex.specs.FaultPlaces.{place_of};
+
+    /// The place of the fault in the text. `NoRules` and `Memory` have none.
+    pub fn span(&self) -> Option<Span>
+        ensures { result ≡ place_of self.now }
+    {
+        match *self {
+            LrlexFault::Header(span)
+            | LrlexFault::Flag(span)
+            | LrlexFault::Declaration(span)
+            | LrlexFault::StateName(span)
+            | LrlexFault::RepeatedState(span)
+            | LrlexFault::OpenState(span)
+            | LrlexFault::NoPattern(span)
+            | LrlexFault::OpenQuote(span)
+            | LrlexFault::NoName(span)
+            | LrlexFault::UnknownState(span)
+            | LrlexFault::UnknownToken(span)
+            | LrlexFault::Pattern(span, _) => Some(span),
+            LrlexFault::NoRules | LrlexFault::Memory => None,
+        }
+    }
+}
+
 impl From<AllocError> for LrlexFault {
     ghost use Rattle.std.specs.Prelude.{◌≡◌};
     ghost use Rattle.lrpar_lexer_lrlex.specs.declared.fault.LrlexFault.TheVariants.{Memory};

@@ -6,6 +6,7 @@ mod declarations;
 mod escapes;
 mod fault;
 mod flags;
+pub mod laws;
 mod lexer;
 mod lexing;
 mod line;

@@ -12,7 +12,7 @@ use crate::flags::{TextFlags, header};
 use crate::line::{Line, read_line};
 use crate::part::Part;
 use crate::rules::LrlexRules;
-use crate::states::{StateName, Starts};
+use crate::states::{Starts, StateName};
 use lrpar_grammar::grammar::YaccGrammar;
 use lrpar_grammar_places::span::{Span, StorageIndex};
 use lrpar_lexer::LexRule;

@@ -1,6 +1,5 @@
 use Rattle.std.proofs.Common.{◌≡◌, true, false, Ok, option_map, sym, ◌∙◌, ap}
 use Rattle.std.proofs.lemmas.Bool.{cond-false, cond-true}
-use Rattle.lrpar_lexer_lrlex.specs.declared.part.Part as code
 use Rattle.lrpar_lexer_lrlex.specs.Declarations.{declarations, declare, declared, is_rules_sign}
 use Rattle.lrpar_lexer_lrlex.specs.Parts.{before_cut, pieces, pieces_left, placed, trimmed}
 use Rattle.lrpar_lexer_lrlex.specs.States.{plain_names}

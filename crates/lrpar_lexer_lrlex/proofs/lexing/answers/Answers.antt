@@ -1,4 +1,4 @@
-use Rattle.std.proofs.Common.{◌+◌, ◌++◌, ◌∷◌, [], Err, Some, sym, subst, ◌∙◌, ap}
+use Rattle.std.proofs.Common.{◌+◌, ◌++◌, ◌∷◌, [], Err, sym, subst, ◌∙◌, ap}
 use Rattle.std.proofs.lemmas.Bool.{cond-false, cond-true}
 use Rattle.std.proofs.lemmas.Str.{IsCharBoundary-start}
 use Rattle.lrpar_lexer.specs.Answers.{plain_answers}
@@ -40,7 +40,7 @@ returns-then-not-goes g c =
     let text = c.args.text.now in
     let top = c.places.stack.top in
     let below = c.places.stack.below.items in
-    subst (LexesIn rules text 0 0 []) (sym (plain_push_error index c.places.answers.items c.push.new.self.items c.nothing_below.result c.in_ok-push.ensures.items))
+    subst (LexesIn rules text 0 0 []) (sym (plain_push_error index c.places.answers.items c.push-then-not-goes.new.self.items c.nothing_below.result c.in_ok-push-2.ensures.items))
     (subst (λ e. LexesIn rules text 0 0 [] (plain_answers index c.places.answers.items ++ Err e ∷ [])) (sym c.nothing_below.ensures)
     (leads_to_fall rules text c.places.at top below c.in-Some.rule c.in-Some.len (plain_answers index c.places.answers.items) c.places-test.true
     c.in-Some.ensures.found

@@ -1,4 +1,4 @@
-use Rattle.std.proofs.Common.{◌≡◌, ◌++◌, ◌-◌, List, Result, length, map}
+use Rattle.std.proofs.Common.{◌≡◌, ◌-◌, length, map}
 use Rattle.std.specs.Str.{IsCharBoundary}
 use Rattle.lrpar_lexer.specs.Answers.{plain_answers}
 use Rattle.lrpar_lexer.specs.Matchers.{programs_of}

@@ -1,5 +1,5 @@
 use Rattle.std.proofs.Common.{None, Some, drop}
-use Rattle.lrpar_lexer.specs.Matching.{IsWinner, NoneMatches, Wins}
+use Rattle.lrpar_lexer.specs.Matching.{NoneMatches, Wins}
 use Rattle.lrpar_lexer_lrlex.specs.LexingIn.{patterns_in}
 use Rattle.lrpar_lexer_lrlex.specs.StateRules.{plain_state_rules}
 use Rattle.lrpar_lexer_lrlex.proofs.LexingInLemmas.{match_within, read_in, rule_known, winner_in, winner_place}
@@ -37,7 +37,7 @@ returns-clause-known g c =
 pub returns-clause-some : goal.returns-clause-some
 returns-clause-some g c =
     let wins : Wins (patterns_in (plain_state_rules g.StorageT.StorageIndex.index c.args.rules.now) c.args.state) (drop c.args.at c.args.text.now)
-        c.in_ok-winner.winner.rule c.in_ok-winner.winner.len =
+    c.in_ok-winner.winner.rule c.in_ok-winner.winner.len =
     winner_in g.StorageT.StorageIndex.index c.args.rules.now c.args.state (programs_of c.args.matchers.now) c.args.active.now c.args.text.now
     c.range_from.result.now c.args.at (Some c.in_ok-winner.winner) c.requires.programs c.requires.active c.range_from.ensures.value
     c.in_ok-winner.ensures.winner in

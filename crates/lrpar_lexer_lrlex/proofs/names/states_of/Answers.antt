@@ -1,6 +1,6 @@
 use Rattle.std.proofs.Common.{◌∷◌, ◌++◌, [], Ok, sym, ◌∙◌, ap, refl, option_map}
 use Rattle.lrpar_lexer_lrlex.specs.Faults.{◌>>=◌}
-use Rattle.lrpar_lexer_lrlex.specs.Names.{numbers_of, state_of, states_of, with_number_of}
+use Rattle.lrpar_lexer_lrlex.specs.Names.{numbers_of, states_of, with_number_of}
 use Rattle.lrpar_lexer_lrlex.specs.Parts.{placed}
 use Rattle.lrpar_lexer_lrlex.specs.States.{plain_names}
 use Rattle.lrpar_lexer_lrlex.proofs.FaultLemmas.{gives_fault}

@@ -1,6 +1,5 @@
-use Rattle.std.proofs.Common.{◌≡◌, ◌+◌, ◌∷◌, [], None, length, option_map, rules, sym, ◌∙◌, ap}
+use Rattle.std.proofs.Common.{◌≡◌, ◌+◌, None, length, option_map, rules, sym, ◌∙◌, ap}
 use Rattle.std.proofs.lemmas.List.{length_push}
-use Rattle.lrpar_lexer_lrlex.specs.declared.part.Part as code
 use Rattle.lrpar_lexer_lrlex.specs.Parts.{pieces_left, placed}
 use Rattle.lrpar_lexer_lrlex.specs.Reading.{IsFirstFault, rule_lines}
 use Rattle.lrpar_lexer_lrlex.specs.States.{plain_names}
