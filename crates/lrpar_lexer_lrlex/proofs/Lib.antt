@@ -3,6 +3,7 @@ pub mod EscapeLemmas
 pub mod FaultLemmas
 pub mod LawLemmas
 pub mod LexingInLemmas
+pub mod OneWayLemmas
 pub mod PartLemmas
 pub mod PieceLemmas
 pub mod ReadingLemmas
