@@ -1,5 +1,5 @@
 -- Rules with start states give a text one list of lexemes and errors.
-use Rattle.std.proofs.Common.{◌≡◌, ℕ, ◌+◌, ◌<◌, ◌≤◌, List, length, take, drop, get_or, Option, Some, None, Result, Err, [], ◌∷◌, ◌++◌, inl, inr, sym, subst, ◌∙◌, ap, ap₂, refl, arith, slice_get}
+use Rattle.std.proofs.Common.{◌≡◌, ℕ, ◌+◌, ◌<◌, ◌≤◌, List, length, take, drop, get_or, Some, Err, [], ◌∷◌, ◌++◌, inl, inr, sym, subst, ◌∙◌, ap, ap₂, refl, arith, slice_get}
 use Rattle.std.specs.List.{All}
 use Rattle.std.proofs.lemmas.Bool.{cases_lt}
 use Rattle.std.proofs.lemmas.Grind.{common_steps}
@@ -7,9 +7,7 @@ use Rattle.std.proofs.lemmas.List.{get_or-take}
 use Rattle.std.proofs.lemmas.Option.{get_or_from_slice_get, none-some, same_Some, slice_get_within}
 use Rattle.regex.specs.Patterns.{Re}
 use Rattle.lrpar_lexer.specs.Lexing.{lexemes_of}
-use Rattle.lrpar_lexer.specs.Matching.{HasNoMatch, MatchesAtMost, MatchesLess, NoneMatches, Wins}
-use Rattle.lrpar_lexer.specs.declared.token.Token.{Token}
-use Rattle.lrpar_lexer.specs.declared.token.NoToken.{NoToken}
+use Rattle.lrpar_lexer.specs.Matching.{MatchesAtMost, MatchesLess, NoneMatches, Wins}
 use Rattle.lrpar_lexer.proofs.LexingLawLemmas.{wins_not_none}
 use Rattle.lrpar_lexer_lrlex.specs.Laws.{LexesInOneWay}
 use Rattle.lrpar_lexer_lrlex.specs.LexingIn.{LexesIn, ReadsIn, fails, falls, finishes, moves_on, nothing_below, patterns_in}
