@@ -3,8 +3,8 @@ use Rattle.std.specs.Prelude.{◌≡◌, ◌≢◌, Result, Ok, Err}
 use Rattle.lrpar_lexer_lrlex.specs.declared.fault.LrlexFault.{LrlexFault}
 use Rattle.lrpar_lexer_lrlex.specs.declared.fault.LrlexFault.TheVariants.{Memory}
 
--- one step after another, where each may give a fault
 infixl 10 ◌>>=◌
+-- one step after another, where each may give a fault
 abbrev pub ◌>>=◌ : {A B : Type 0} → Result A LrlexFault → (A → Result B LrlexFault) → Result B LrlexFault
 Ok x >>= f = f x
 Err fault >>= f = Err fault
