@@ -4,7 +4,7 @@ use Rattle.std.proofs.lemmas.Bool.{cases_Bool, cases_lt, cond-false, cond-true}
 use Rattle.std.proofs.lemmas.Option.{none-some, same_Some, slice_get-get_or}
 use Rattle.std.proofs.lemmas.Str.{IsCharBoundary-start}
 use Rattle.std.specs.Str.{IsUtf8}
-use Rattle.regex.specs.Patterns.{Match, Re, Start, find, find_str, holds, span}
+use Rattle.regex.specs.Patterns.{Config, Match, Re, Start, find, find_str, holds, span}
 use Rattle.regex_hir.specs.Looks.{holds_between}
 use Rattle.regex_hir.specs.Re.{Trace, accept, attempt}
 use Rattle.regex_hir.specs.Text.{is_boundary}
@@ -92,8 +92,8 @@ module _ (re : Re) (text : List ℕ) where
       (option_cases (attempt text re accept 0))
 
 -- so the program of a pattern after the assertion finds what the pattern finds at the start
-pub finds_after : (source : List ℕ) (program : Program) → IsAfterStart source program → FindsAtStart program (without_start (pattern_of program))
-finds_after source program it text utf8 =
+pub finds_after : (config : Config) (source : List ℕ) (program : Program) → IsAfterStart config source program → FindsAtStart program (without_start (pattern_of program))
+finds_after config source program it text utf8 =
     let boundary : is_boundary text 0 ≡ true = test_of_IsCharBoundary text 0 (IsCharBoundary-start text utf8) in
     let pattern : without_start (pattern_of program) ≡ meaning it.tree = ap without_start it.after in
     ap (λ re. option_map span (find re text 0)) it.after ∙ found_at_start (meaning it.tree) text boundary

@@ -1,4 +1,5 @@
 pub mod WinnerLemmas
+pub mod ChosenLemmas
 pub mod LexingLemmas
 pub mod LexingLawLemmas
 pub mod AnswerLemmas

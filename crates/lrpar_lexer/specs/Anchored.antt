@@ -1,6 +1,6 @@
 -- What a pattern finds at the start of a text.
 use Rattle.std.specs.Prelude.{◌≡◌, ℕ, ◌==◌, List, Option, Some, None, if◌then◌else◌, option_map, IsUtf8}
-use Rattle.regex.specs.Patterns.{Re, Reads, Start, cat, default_config, empty, find_str, look, span}
+use Rattle.regex.specs.Patterns.{Config, Re, Reads, Start, cat, empty, find_str, look, span}
 use Rattle.regex_hir.specs.Meaning.{meaning}
 use Rattle.regex_hir.specs.Re.{accept, attempt}
 use Rattle.regex_hir.specs.declared.hir.Hir.{Hir}
@@ -27,11 +27,11 @@ abbrev pub without_start : Re → Re
 without_start (cat first (cat pattern rest)) = pattern
 without_start _ = empty
 
--- the program searches, at the start of a text, for the pattern that the grammar of patterns reads in the source
-pub record IsAfterStart (source : List ℕ) (program : Program) : Type 0 where
+-- the program searches, at the start of a text, for the pattern that the grammar of patterns reads in the source with these options
+pub record IsAfterStart (config : Config) (source : List ℕ) (program : Program) : Type 0 where
   pub tree : Hir
   pub names : Names
-  pub read : Reads default_config source tree names
+  pub read : Reads config source tree names
   pub after : pattern_of program ≡ after_start (meaning tree)
 
 -- the pattern matches nothing at the start of the text

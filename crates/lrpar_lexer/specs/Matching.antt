@@ -1,8 +1,8 @@
 -- Which of several patterns wins at the start of a text. What a pattern finds is what `regex` finds.
-use Rattle.std.specs.Prelude.{◌≡◌, ℕ, ◌+◌, ◌<◌, ◌≤◌, List, length, Option, Some, None, if◌then◌else◌, nat_le, option_map, MatchOption, take, drop, slice_get}
+use Rattle.std.specs.Prelude.{◌≡◌, ℕ, ◌+◌, ◌<◌, ◌≤◌, List, length, map, get_or, Option, Some, None, if◌then◌else◌, nat_le, option_map, MatchOption, take, drop, slice_get}
 use Rattle.std.specs.List.{All}
 use Rattle.std.specs.Str.{IsCharBoundary}
-use Rattle.regex.specs.Patterns.{Re, find_str, span}
+use Rattle.regex.specs.Patterns.{Re, empty, find_str, span}
 use Rattle.lrpar_lexer.specs.declared.matching.Winner.{Winner}
 
 -- what the pattern finds in `rest` begins at its start, has n bytes, at least one, and ends between two characters
@@ -51,6 +51,10 @@ pub record IsUnmatched (patterns : List Re) (text : List ℕ) (at : ℕ) (n : �
 -- the winner of the patterns, if one matches
 abbrev pub IsWinner : List Re → List ℕ → Option Winner → Type 0
 IsWinner patterns rest winner = MatchOption winner (NoneMatches patterns rest) (λ w. Wins patterns rest w.rule w.len)
+
+-- the patterns with these indices
+abbrev pub chosen_of : List Re → List ℕ → List Re
+chosen_of patterns indices = map (λ i. get_or patterns i empty) indices
 
 -- the better of two winners: pattern i with its match only if that is longer
 abbrev pub better : Option Winner → ℕ → Option ℕ → Option Winner

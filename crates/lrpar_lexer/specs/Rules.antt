@@ -1,6 +1,6 @@
 -- The rules of a lexer.
 use Rattle.std.specs.Prelude.{◌≡◌, ℕ, List, map, Option, option_map}
-use Rattle.regex.specs.Patterns.{Re, Reads, default_config}
+use Rattle.regex.specs.Patterns.{Config, Re, Reads, default_config}
 use Rattle.regex_hir.specs.Meaning.{meaning}
 use Rattle.regex_hir.specs.declared.hir.Hir.{Hir}
 use Rattle.regex_meta.specs.Programs as programs
@@ -29,12 +29,16 @@ plain_rule index rule = record { pattern = pattern_of rule; token = option_map (
 abbrev pub plain_rules : {S : Type 0} → (S → ℕ) → List (LexRule S) → List Rule
 plain_rules index rules = map (plain_rule index) rules
 
--- the rule's pattern is what the grammar of `regex` reads in the text, with the default options
-pub record HasPattern {S : Type 0} (text : List ℕ) (rule : LexRule S) : Type 0 where
+-- the rule's pattern is what the grammar of `regex` reads in the text, with these options
+pub record HasPatternBy {S : Type 0} (config : Config) (text : List ℕ) (rule : LexRule S) : Type 0 where
   pub tree : Hir
   pub names : Names
-  pub read : Reads default_config text tree names
+  pub read : Reads config text tree names
   pub is : pattern_of rule ≡ meaning tree
+
+-- the same with the default options
+abbrev pub HasPattern : {S : Type 0} → List ℕ → LexRule S → Type 0
+HasPattern text rule = HasPatternBy default_config text rule
 
 abbrev pub token_of : {S : Type 0} → (S → ℕ) → LexRule S → Option ℕ
 token_of index rule = option_map (λ token. index token.0) rule.token

@@ -17,6 +17,7 @@ mod token;
 pub use lexer::RuleLexer;
 pub use list_fault::ListFault;
 pub use list_lexer::ListLexer;
+pub use matching::{Matchers, Winner};
 pub use rule::LexRule;
 pub use rules::{LineFault, RulesFault, rules_of};
 pub use token::{NoToken, Token, TokenTypes};

@@ -1,36 +1,38 @@
 //! Which of several patterns wins at a place of a text.
 ghost use Rattle.std.specs.Prelude.{◌≡◌, ◌<◌, IfOk, MatchBool, false, List, drop, length, map, slice_get, vec_len};
-ghost use Rattle.std.specs.List.{AllZip};
+ghost use Rattle.std.specs.List.{All, AllZip};
 ghost use Rattle.std.specs.Str.{IsCharBoundary};
 ghost use Rattle.regex.specs.Patterns.{Re};
 ghost use Rattle.regex_meta.specs.Programs.{pattern_of as searched_by};
 ghost use Rattle.regex_meta.specs.declared.program.Program.{Program};
 ghost use Rattle.lrpar_lexer.specs.Anchored.{FindsAtStart, HasNothingAtStart};
-ghost use Rattle.lrpar_lexer.specs.Matching.{IsMatchLen, IsUnmatched, IsWinner, NoneMatches, better};
+ghost use Rattle.lrpar_lexer.specs.Matching.{IsMatchLen, IsUnmatched, IsWinner, NoneMatches, better, chosen_of};
 ghost use Rattle.lrpar_lexer.specs.Rules.{anchored_of};
 
 use crate::rule::LexRule;
 use regex_meta::{Program, Searcher};
 use std::alloc::{AllocError, Global};
 
-/// The winner at a place: the rule, and the number of bytes that it takes.
-#[derive(Clone, Copy)]
-pub(crate) struct Winner {
-    pub(crate) rule: usize,
-    pub(crate) len: usize,
+/// The winner at a place.
+#[derive(Clone, Copy, Debug)]
+pub struct Winner {
+    /// The place of its rule in the list of the rules that are tried, from 0 on.
+    pub rule: usize,
+    /// The number of bytes of its match.
+    pub len: usize,
 }
 
-/// Searches for several patterns at one place.
+/// Searches for the patterns of several rules at one place of a text.
 #[derive(Drop)]
-pub(crate) struct Matchers<'r> {
+pub struct Matchers<'r> {
     searchers: Vec<Searcher<'r>>,
 }
 
 impl<'r> Matchers<'r> {
     ghost use Rattle.lrpar_lexer.specs.Matchers.{programs_of};
 
-    // The searches for the patterns of the rules.
-    pub(crate) fn new<StorageT>(
+    /// The searches for the patterns of the rules. Takes memory for each rule.
+    pub fn new<StorageT>(
         alloc: Global,
         rules: &'r [LexRule<StorageT>],
     ) -> Result<Matchers<'r>, AllocError>
@@ -54,6 +56,34 @@ impl<'r> Matchers<'r> {
             best = better(best, index, found);
         }
         best
+    }
+
+    /// The winner at the start of a text among the patterns with these indices, if one of them matches there: the longest match, and the
+    /// first in the list of indices among several. The winner's `rule` is a place in that list. An index past the last rule has no match.
+    pub fn winner_among(&mut self, rest: &str, chosen: &[usize]) -> Option<Winner>
+        ensures winner { (patterns : List Re) → AllZip FindsAtStart (programs_of self.old) patterns
+            → All (λ index. index < length patterns) chosen.now → IsWinner (chosen_of patterns chosen.now) rest.now result }
+        ensures same { programs_of self.new ≡ programs_of self.old }
+    {
+        let mut best = None;
+        'chosen: for (place, index) in chosen.iter().enumerate() {
+            let found = self.match_of(*index, rest);
+            best = better(best, place, found);
+        }
+        best
+    }
+
+    // The same as `match_len`, and nothing if there is no pattern with that index.
+    fn match_of(&mut self, index: usize, rest: &str) -> Option<usize>
+        ensures found { (program : Program) (pattern : Re) → slice_get (programs_of self.old) index ≡ Some program
+            → FindsAtStart program pattern → IsMatchLen rest.now pattern result }
+        ensures same { programs_of self.new ≡ programs_of self.old }
+    {
+        if index < self.searchers.len() {
+            self.match_len(index, rest)
+        } else {
+            None
+        }
     }
 
     // The number of bytes of the longest run of characters from byte `at` on at which no pattern matches, if none matches at `at`.

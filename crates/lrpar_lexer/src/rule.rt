@@ -37,7 +37,7 @@ impl<StorageT: Drop> Drop for LexRule<StorageT> {
 }
 
 impl<StorageT: StorageIndex> LexRule<StorageT> {
-    ghost use Rattle.lrpar_lexer.specs.Rules.{HasPattern, token_of};
+    ghost use Rattle.lrpar_lexer.specs.Rules.{HasPattern, HasPatternBy, token_of};
 
     /// The rule with this pattern and token. Fails as `regex` fails for the pattern. The pattern is compiled only here.
     pub fn new(alloc: Global, pattern: &str, token: Option<TIdx<StorageT>>) -> Result<Self, Error>
@@ -47,7 +47,23 @@ impl<StorageT: StorageIndex> LexRule<StorageT> {
         ensures kind { IfErr result (IsRightKind default_config pattern.now) }
         ensures no_internal { IfErr result (λ error. error ≢ Internal) }
     {
-        let anchored = anchored(alloc, pattern)?;
+        LexRule::with_config(alloc, pattern, &Config::default(), token)
+    }
+
+    /// The same, with these options of the pattern: the flags at its start, octal escapes, and how deep it may nest.
+    pub fn with_config(
+        alloc: Global,
+        pattern: &str,
+        config: &Config,
+        token: Option<TIdx<StorageT>>,
+    ) -> Result<Self, Error>
+        ensures pattern { IfOk result (HasPatternBy config.now pattern.now) }
+        ensures token { IfOk result (λ rule. token_of StorageT.index rule ≡ option_map (λ token. StorageT.index token.0) token) }
+        ensures refused { IfErr result (IsRefusal config.now pattern.now) }
+        ensures kind { IfErr result (IsRightKind config.now pattern.now) }
+        ensures no_internal { IfErr result (λ error. error ≢ Internal) }
+    {
+        let anchored = anchored(alloc, pattern, config)?;
         Ok(LexRule { anchored, token })
     }
 
@@ -68,13 +84,13 @@ impl<StorageT: fmt::Debug> fmt::Debug for LexRule<StorageT> {
 }
 
 // The program that finds at the start of a text what the pattern finds there.
-fn anchored(alloc: Global, pattern: &str) -> Result<Program, Error>
-    ensures read { IfOk result (IsAfterStart pattern.now) }
-    ensures refused { IfErr result (IsRefusal default_config pattern.now) }
-    ensures kind { IfErr result (IsRightKind default_config pattern.now) }
+fn anchored(alloc: Global, pattern: &str, config: &Config) -> Result<Program, Error>
+    ensures read { IfOk result (IsAfterStart config.now pattern.now) }
+    ensures refused { IfErr result (IsRefusal config.now pattern.now) }
+    ensures kind { IfErr result (IsRightKind config.now pattern.now) }
     ensures no_internal { IfErr result (λ error. error ≢ Internal) }
 {
-    let Parsed { hir, names } = regex_syntax::parse(alloc, pattern, &Config::default())?;
+    let Parsed { hir, names } = regex_syntax::parse(alloc, pattern, config)?;
     let Ok(groups) = u32::try_from(names.len()) else {
         return Err(Error::CompiledTooBig);
     };
