@@ -15,6 +15,9 @@ mod value;
 mod yacc;
 
 pub use lrpar_grammar_reader::parts::{GrammarFault, GrammarParts, ProdPart, RulePart, TokenPart};
+pub use lrpar_grammar_yacc::declarations::{Declarations, Level, Number, Prec};
+pub use lrpar_grammar_yacc::faults::{YaccFault, YaccText};
+pub use lrpar_grammar_yacc::parts::{AssocKind, YaccKind};
 pub use numbers::Numbers;
 pub use spelled::Spelled;
 pub use spelled_fault::SpelledFault;
