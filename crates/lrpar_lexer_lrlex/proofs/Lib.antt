@@ -1,0 +1,10 @@
+pub mod ActiveLemmas
+pub mod EscapeLemmas
+pub mod FaultLemmas
+pub mod LawLemmas
+pub mod LexingInLemmas
+pub mod OneWayLemmas
+pub mod PartLemmas
+pub mod PieceLemmas
+pub mod ReadingLemmas
+pub mod StateLemmas

@@ -1,0 +1,20 @@
+-- Answers with a fault, unless memory ran out.
+use Rattle.std.specs.Prelude.{◌≡◌, ◌≢◌, Result, Ok, Err}
+use Rattle.lrpar_lexer_lrlex.specs.declared.fault.LrlexFault.{LrlexFault}
+use Rattle.lrpar_lexer_lrlex.specs.declared.fault.LrlexFault.TheVariants.{Memory}
+
+infixl 10 ◌>>=◌
+-- one step after another, where each may give a fault
+abbrev pub ◌>>=◌ : {A B : Type 0} → Result A LrlexFault → (A → Result B LrlexFault) → Result B LrlexFault
+Ok x >>= f = f x
+Err fault >>= f = Err fault
+
+-- the answer, as plain data, or the fault is this one; the fault may also be `Memory`
+abbrev pub Gives : {A B : Type 0} → (A → B) → Result B LrlexFault → Result A LrlexFault → Type 0
+Gives view is (Ok x) = is ≡ Ok (view x)
+Gives view is (Err fault) = fault ≢ Memory → is ≡ Err fault
+
+-- the same of what a call without an answer has left
+abbrev pub Keeps : {A B : Type 0} → B → Result B LrlexFault → Result A LrlexFault → Type 0
+Keeps left is (Ok x) = is ≡ Ok left
+Keeps left is (Err fault) = fault ≢ Memory → is ≡ Err fault

@@ -1,0 +1,14 @@
+pub mod Parts
+pub mod Faults
+pub mod FaultPlaces
+pub mod LineParts
+pub mod States
+pub mod Flags
+pub mod Declarations
+pub mod Names
+pub mod Escapes
+pub mod Lines
+pub mod Reading
+pub mod StateRules
+pub mod LexingIn
+pub mod Laws

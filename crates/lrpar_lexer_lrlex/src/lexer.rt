@@ -1,0 +1,109 @@
+//! The lexer of a text by rules with start states.
+ghost use Rattle.std.specs.Prelude.{◌≡◌, [], IfOk, slice_range};
+ghost use Rattle.std.specs.Str.{IsCharBoundary};
+ghost use Rattle.lrpar_grammar_places.specs.Lines.{column_of, line_of, line_table};
+ghost use Rattle.lrpar_grammar_places.specs.Span.{IsPartOf};
+
+use crate::lexing::answers;
+use crate::rules::LrlexRules;
+use lrpar_grammar_places::lines::NewlineCache;
+use lrpar_grammar_places::span::{Span, StorageIndex};
+use lrpar_lexer::{NoToken, Token, TokenTypes};
+use lrpar_parse_lexemes::{InputLexer, Lexeme, Lexer, NonStreamingLexer};
+use std::alloc::{AllocError, Global};
+
+/// A lexer of a text by rules with start states. It has a stack of states, at first `INITIAL` alone. At each place, of the rules that are
+/// active in the state on top, the one with the longest match wins, and among several such rules the first. If it has a token, the match is a
+/// lexeme; otherwise the match is skipped. Then its target pushes a state, pops one, or leaves one state alone.
+///
+/// If no active rule matches, there is an error, whose place is empty, and it is the last result. If a match pops the last state, there is an
+/// error too, whose place is the match, and it is the last result.
+#[derive(Drop)]
+pub struct StateLexer<'rules, 'input, StorageT = u32> {
+    rules: &'rules LrlexRules<StorageT>,
+    input: &'input str,
+    lines: NewlineCache,
+    ghost lines_of_input: { lines ≡ line_table input.now },
+}
+
+impl<'rules, 'input, StorageT: StorageIndex> StateLexer<'rules, 'input, StorageT> {
+    /// The lexer of this text by these rules. Takes time linear in the text, and memory for each of its lines.
+    pub fn new(
+        alloc: Global,
+        rules: &'rules LrlexRules<StorageT>,
+        input: &'input str,
+    ) -> Result<Self, AllocError>
+        ensures rules { IfOk result (λ lexer. lexer.rules.now ≡ rules.now) }
+        ensures input { IfOk result (λ lexer. lexer.input.now ≡ input.now) }
+    {
+        let lines = NewlineCache::new(alloc, input)?;
+        Ok(StateLexer {
+            rules,
+            input,
+            lines,
+        })
+    }
+
+    /// The lexeme's part of the input. It is empty if the lexeme doesn't start and end in the input, each between two characters.
+    pub fn text(&self, lexeme: &Token<StorageT>) -> &'input str
+        ensures part { IsPartOf self.now.input.now lexeme.now.span
+            → result.now ≡ slice_range self.now.input.now lexeme.now.span.start lexeme.now.span.end }
+        ensures outside { ¬ (IsPartOf self.now.input.now lexeme.now.span) → result.now ≡ [] }
+    {
+        let span = lexeme.span();
+        if !self.input.is_char_boundary(span.start()) || !self.input.is_char_boundary(span.end()) {
+            return "";
+        }
+        &self.input[span.start()..span.end()]
+    }
+
+    // The line and the column of a byte.
+    fn place(&self, byte: usize) -> (usize, usize)
+        requires { IsCharBoundary self.now.input.now byte }
+        ensures line { result.0 ≡ line_of self.now.input.now byte }
+        ensures column { result.1 ≡ column_of self.now.input.now byte }
+    {
+        self.lines
+            .byte_to_line_num_and_col_num(self.input, byte)
+            .unwrap()
+    }
+}
+
+impl<'rules, 'input, StorageT: StorageIndex> Lexer<TokenTypes<StorageT>>
+    for StateLexer<'rules, 'input, StorageT> {
+    ghost use Rattle.lrpar_lexer.specs.Answers.{plain_answers};
+    ghost use Rattle.lrpar_lexer_lrlex.specs.LexingIn.{LexesByStates};
+    ghost use Rattle.lrpar_lexer_lrlex.specs.StateRules.{plain_state_rules};
+
+    ghost allows = { λ lexer given. LexesByStates (plain_state_rules StorageT.index lexer.rules.now) lexer.input.now
+        (plain_answers StorageT.index given) };
+
+    fn iter(&self, alloc: Global) -> Result<Vec<Result<Token<StorageT>, NoToken>>, AllocError> {
+        answers(alloc, self.rules, self.input)
+    }
+}
+
+impl<'rules, 'input, StorageT: StorageIndex> NonStreamingLexer<'input, TokenTypes<StorageT>>
+    for StateLexer<'rules, 'input, StorageT> {
+    ghost text = { λ lexer. lexer.input.now };
+
+    fn span_str(&self, span: Span) -> &'input str {
+        &self.input[span.start()..span.end()]
+    }
+
+    fn span_lines_str(&self, span: Span) -> &'input str {
+        let (start, end) = self.lines.span_line_bytes(span);
+        &self.input[start..end]
+    }
+
+    fn line_col(&self, span: Span) -> ((usize, usize), (usize, usize)) {
+        (self.place(span.start()), self.place(span.end()))
+    }
+}
+
+impl<'rules, 'input, StorageT: StorageIndex> InputLexer<'input, TokenTypes<StorageT>>
+    for StateLexer<'rules, 'input, StorageT> {
+    fn input(&self) -> &'input str {
+        self.input
+    }
+}

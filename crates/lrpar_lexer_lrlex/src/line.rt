@@ -1,0 +1,55 @@
+//! A line of a rule: what it says.
+ghost use Rattle.std.specs.Prelude.{◌≡◌};
+ghost use Rattle.lrpar_lexer_lrlex.specs.Faults.{Gives};
+ghost use Rattle.lrpar_lexer_lrlex.specs.Lines as spec;
+ghost use Rattle.lrpar_lexer_lrlex.specs.Lines.{plain_line};
+ghost use Rattle.lrpar_lexer_lrlex.specs.Parts.{placed};
+ghost use Rattle.lrpar_lexer_lrlex.specs.States.{plain_names};
+
+use crate::escapes::unescaped;
+use crate::fault::LrlexFault;
+use crate::names::{states_of, target_of, token_of};
+use crate::part::Part;
+use crate::rule_line::line_parts;
+use crate::states::{StateName, Target};
+use lrpar_grammar::grammar::YaccGrammar;
+use lrpar_grammar_places::span::{Span, StorageIndex, TIdx};
+use std::alloc::Global;
+
+// What a line of a rule says.
+#[derive(Drop)]
+pub(crate) struct Line<StorageT> {
+    // the pattern for `regex`
+    pub(crate) pattern: String,
+    // the place of the pattern in the text
+    pub(crate) place: Span,
+    pub(crate) states: Vec<usize>,
+    pub(crate) target: Option<Target>,
+    pub(crate) token: Option<TIdx<StorageT>>,
+}
+
+// What a line of a rule says.
+pub(crate) fn read_line<StorageT: StorageIndex>(
+    alloc: Global,
+    grm: &YaccGrammar<StorageT>,
+    states: &[StateName],
+    line: Part,
+) -> Result<Line<StorageT>, LrlexFault>
+    ensures { Gives (plain_line StorageT.index) (spec.read_line grm.now (plain_names states.now) (placed line.entry)) result }
+{
+    let parts = match line_parts(line) {
+        Ok(parts) => parts,
+        Err(fault) => return Err(fault),
+    };
+    let numbers = states_of(alloc, states, parts.states)?;
+    let target = target_of(states, parts.target)?;
+    let token = token_of(grm, parts.name)?;
+    let pattern = unescaped(alloc, parts.pattern.text)?;
+    Ok(Line {
+        pattern,
+        place: parts.pattern.span(),
+        states: numbers,
+        target,
+        token,
+    })
+}

@@ -1,0 +1,54 @@
+//! Stacks of states.
+ghost use Rattle.std.specs.Prelude.{◌≡◌, [], if◌then◌else◌, IfOk, None, Some, option_map};
+ghost use Rattle.lrpar_lexer_lrlex.specs.StateRules.{moved};
+ghost use Rattle.lrpar_lexer_lrlex.specs.States.{plain_target};
+
+use crate::states::Target;
+use std::alloc::{AllocError, Global};
+
+// A stack of states: the one on top, and those below it, of which the last is the nearest.
+#[derive(Drop)]
+pub(crate) struct Stack {
+    pub(crate) top: usize,
+    pub(crate) below: Vec<usize>,
+}
+
+impl Stack {
+    // The stack of state 0 alone.
+    pub(crate) fn new(alloc: Global) -> Stack
+        ensures top { result.top ≡ 0 }
+        ensures below { result.below.items ≡ [] }
+    {
+        Stack {
+            top: 0,
+            below: Vec::new(alloc),
+        }
+    }
+
+    // What a match with this target makes of the stack. No if it pops the last state.
+    pub(crate) fn go_on(&mut self, target: Option<Target>) -> Result<bool, AllocError>
+        ensures { IfOk result (λ went. moved (option_map plain_target target) self.old.top self.old.below.items
+            ≡ (if went then Some (self.new.top, self.new.below.items) else None)) }
+    {
+        match target {
+            None => Ok(true),
+            Some(Target::Push(state)) => {
+                self.below.push(self.top)?;
+                self.top = state;
+                Ok(true)
+            }
+            Some(Target::Set(state)) => {
+                self.below.clear();
+                self.top = state;
+                Ok(true)
+            }
+            Some(Target::Pop) => match self.below.pop() {
+                Some(state) => {
+                    self.top = state;
+                    Ok(true)
+                }
+                None => Ok(false),
+            },
+        }
+    }
+}
