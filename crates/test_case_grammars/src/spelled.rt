@@ -1,5 +1,5 @@
 //! Lists of productions by their texts.
-use lrpar_grammar::grammar::{Spelled, SpelledFault, SpelledParts, YaccGrammar};
+use lrpar_grammar::grammar::{GrammarFault, Spelled, SpelledFault, SpelledParts, YaccGrammar};
 use lrpar_grammar::span::PIdx;
 use std::alloc::{AllocError, Global};
 use test_case_lines::cases::Case;
@@ -25,6 +25,7 @@ pub fn outcome(out: &mut Printed, alloc: Global, case: Case<'_, '_>) -> Result<(
     let made = YaccGrammar::new_with_storaget(alloc, text.as_str());
     match made {
         Ok(grm) => push_outcome(out, alloc, case, &grm),
+        Err(GrammarFault::Memory) => Err(Fault::Memory),
         Err(_) => Err(Fault::Line(case.number, "a grammar is wanted")),
     }
 }
