@@ -8,4 +8,3 @@ pub mod reports;
 pub mod spelled;
 pub mod underlines;
 mod uses;
-pub mod yacc;

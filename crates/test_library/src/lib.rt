@@ -16,8 +16,6 @@ mod lines;
 #[cfg(test)]
 mod messages;
 #[cfg(test)]
-mod precedences;
-#[cfg(test)]
 mod recoverer;
 #[cfg(test)]
 mod repairs;

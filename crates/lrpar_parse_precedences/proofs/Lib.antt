@@ -1,3 +1,0 @@
-pub mod GrownLemmas
-pub mod RepairLemmas
-pub mod RespectLemmas
