@@ -25,7 +25,7 @@ use Rattle.lrpar_table_build.proofs.ReachedLemmas.{closure_cases, no_added_rule,
 use Rattle.lrpar_table_build.proofs.SafeLemmas.{advanced_from}
 
 -- a list by its first two elements
-two_first : {X : Type 0} (w : List X) (x y : X) → slice_get w 0 ≡ Some x → slice_get w 1 ≡ Some y → (v : List X) × (w ≡ x ∷ y ∷ v)
+pub two_first : {X : Type 0} (w : List X) (x y : X) → slice_get w 0 ≡ Some x → slice_get w 1 ≡ Some y → (v : List X) × (w ≡ x ∷ y ∷ v)
 two_first [] x y first second = absurd (cc)
 two_first (a ∷ []) x y first second = absurd (cc)
 two_first (a ∷ b ∷ v) x y first second = let same : a ≡ x = cc in let also : b ≡ y = cc in (v, cc)

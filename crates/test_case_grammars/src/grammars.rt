@@ -73,8 +73,8 @@ fn push_fault(out: &mut Printed, fault: &GrammarFault) {
     }
 }
 
-// What the case asks of the grammar.
-fn push_shown(
+/// Adds what the case asks of the grammar.
+pub fn push_shown(
     out: &mut Printed,
     alloc: Global,
     case: Case<'_, '_>,

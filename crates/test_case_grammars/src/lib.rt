@@ -8,3 +8,4 @@ pub mod reports;
 pub mod spelled;
 pub mod underlines;
 mod uses;
+pub mod yacc;

@@ -3,7 +3,7 @@ use crate::{commands, streams};
 use std::alloc::Global;
 use std::rt::Files;
 use test_case_faults::faults;
-use test_case_grammars::{examples, grammars, parts, reports, spelled, underlines};
+use test_case_grammars::{examples, grammars, parts, reports, spelled, underlines, yacc};
 use test_case_lines::cases::Case;
 use test_case_lines::fault::Fault;
 use test_case_lines::printed::Printed;
@@ -18,6 +18,7 @@ pub(crate) fn inputs_of(kind: &str) -> &'static [&'static str] {
         "run" | "nimble" => commands::INPUTS,
         "streams" => streams::INPUTS,
         "text" | "cuts" => grammars::INPUTS,
+        "yacc" | "yacc_cuts" => yacc::INPUTS,
         "parts" => parts::INPUTS,
         "spelled" => spelled::INPUTS,
         "build" => built::INPUTS,
@@ -48,6 +49,8 @@ pub(crate) fn outcome<R: Files>(
         "nothing" => Ok(()),
         "text" => grammars::outcome(out, alloc, case),
         "cuts" => grammars::outcome_of_cuts(out, alloc, case),
+        "yacc" => yacc::outcome(out, alloc, case),
+        "yacc_cuts" => yacc::outcome_of_cuts(out, alloc, case),
         "parts" => parts::outcome(out, alloc, case),
         "spelled" => spelled::outcome(out, alloc, case),
         "build" => built::outcome(out, alloc, case),

@@ -16,6 +16,8 @@ mod lines;
 #[cfg(test)]
 mod messages;
 #[cfg(test)]
+mod precedences;
+#[cfg(test)]
 mod recoverer;
 #[cfg(test)]
 mod repairs;

@@ -1,0 +1,3 @@
+pub mod GrownLemmas
+pub mod RepairLemmas
+pub mod RespectLemmas

@@ -1,0 +1,30 @@
+//! Laws of trees that respect precedences. Each function has one as its contract, and does nothing.
+ghost use Rattle.std.specs.Prelude.{ℕ};
+ghost use Rattle.lrpar_grammar.specs.Sentence.{LexemeFacts};
+ghost use Rattle.lrpar_table_check.specs.Checked.{Checked};
+ghost use Rattle.lrpar_parse_lexemes.specs.Views.{facts_by};
+ghost use Rattle.lrpar_parse_repair.specs.Asked.{allowed_at};
+ghost use Rattle.lrpar_parse_precedences.specs.PrecedenceTrees.{RepairedTreesRespectPrecedences, TreesRespectPrecedences};
+
+use lrpar_grammar::span::StorageIndex;
+use lrpar_parse_lexemes::lex_api::Lexeme;
+use lrpar_parse_repair::repair::Recoverer;
+
+/// Let production p of a rule R end in R, and production q of R begin with R and then a token b. In the tree of a run without errors over
+/// a table that is built by precedences, no node of p has a node of q as its last child if p against b says reduce or error, unless
+/// reduce/reduce conflicts are listed; and no node of q has a node of p as its first child if p against b says shift or error. This
+/// holds over lexemes of any type, and over those that contracts speak of.
+pub fn trees_respect_precedences<LexemeT>()
+    ensures trees { TreesRespectPrecedences LexemeT }
+    ensures facts_trees { TreesRespectPrecedences LexemeFacts }
+{}
+
+/// The tree of any run, also of one with repairs, respects the first half of this: no node of p has a node of q as its last child if p
+/// against b says reduce or error, unless reduce/reduce conflicts are listed.
+pub fn repaired_trees_respect_precedences<
+    StorageT: StorageIndex,
+    LexemeT: Lexeme<StorageT>,
+    R: Recoverer<StorageT, LexemeT>,
+>()
+    ensures { (r : R) (d : Checked) (k : ℕ) → RepairedTreesRespectPrecedences (facts_by StorageT.index LexemeT.parts) (allowed_at (R.allows r) d k) }
+{}
