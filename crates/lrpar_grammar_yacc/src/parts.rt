@@ -10,7 +10,7 @@ use lrpar_grammar_words::words::{WordKind, piece_at};
 
 /// The kinds of `.y` files, as cfgrammar names them. All parts are read in both but these: `-> Type` of a rule is one of
 /// `Grmtools` alone, and `%actiontype` one of `Original` alone.
-#[derive(Clone, Copy)]
+#[derive(Clone, Copy, Debug, PartialEq, Eq)]
 pub enum YaccKind {
     /// The files of grmtools: a rule names the type of its actions.
     Grmtools,
@@ -18,14 +18,14 @@ pub enum YaccKind {
     Original,
 }
 
-/// What operators of one level do beside each other.
-#[derive(Clone, Copy)]
+/// How the tokens of a level of precedence associate.
+#[derive(Clone, Copy, Debug, PartialEq, Eq)]
 pub enum AssocKind {
-    /// `%left`
+    /// To the left, as `%left` declares: `1-2-3` is `(1-2)-3`.
     Left,
-    /// `%right`
+    /// To the right, as `%right` declares: `1=2=3` is `1=(2=3)`.
     Right,
-    /// `%nonassoc`
+    /// Not at all, as `%nonassoc` declares: `1<2<3` is an error.
     Nonassoc,
 }
 

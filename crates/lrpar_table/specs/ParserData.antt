@@ -2,7 +2,8 @@
 use Rattle.std.specs.Prelude.{◌≡◌, ◌≤◌, ℕ}
 use Rattle.lrpar_grammar.specs.Grammar.{Grammar}
 use Rattle.lrpar_table_rows.specs.Graph.{graph_len}
-use Rattle.lrpar_table_build.specs.Built.{IsBuildRefusal, IsBuilt}
+use Rattle.lrpar_table_precedence.specs.Precedence.{PrecedenceLists}
+use Rattle.lrpar_table_build.specs.Built.{IsBuildRefusal, IsBuilt, IsBuiltBy}
 use Rattle.lrpar_table_check.specs.Checked.{Checked, IsChainFault, IsChecked, Unchecked}
 use Rattle.lrpar_table.specs.TableLaws.{IsCompleteWithoutConflicts}
 use Rattle.lrpar_table.specs.declared.build.Unbuilt.{Unbuilt}
@@ -29,3 +30,21 @@ pub record IsRefusedBuilt (g : Grammar) (most cap : ℕ) (refused : Unchecked) :
 abbrev pub IsUnbuilt : {S : Type 0} → ℕ → Grammar → ℕ → ℕ → Unbuilt S → Type 0
 IsUnbuilt limit g most bound (Table fault grm) = (grm ≡ g) × IsBuildRefusal g most limit fault
 IsUnbuilt limit g most bound (Chains refused) = IsRefusedBuilt g most bound refused
+
+-- the same by precedences: whether it is complete isn't said
+pub record IsParserDataBy (g : Grammar) (precedences : PrecedenceLists) (most cap : ℕ) (d : Checked) : Type 0 where
+  pub grammar : d.grammar ≡ g
+  pub cap_is : d.cap ≡ cap
+  pub built : IsBuiltBy g precedences d.graph d.table
+  pub room : graph_len d.graph ≤ most
+  pub checked : IsChecked d
+
+pub record IsRefusedBuiltBy (g : Grammar) (precedences : PrecedenceLists) (most cap : ℕ) (refused : Unchecked) : Type 0 where
+  pub grammar : refused.grammar ≡ g
+  pub built : IsBuiltBy g precedences refused.graph refused.table
+  pub room : graph_len refused.graph ≤ most
+  pub fault : IsChainFault g refused.table cap refused.fault
+
+abbrev pub IsUnbuiltBy : {S : Type 0} → ℕ → Grammar → PrecedenceLists → ℕ → ℕ → Unbuilt S → Type 0
+IsUnbuiltBy limit g precedences most bound (Table fault grm) = (grm ≡ g) × IsBuildRefusal g most limit fault
+IsUnbuiltBy limit g precedences most bound (Chains refused) = IsRefusedBuiltBy g precedences most bound refused

@@ -1,11 +1,12 @@
 //! The table builder, and the checked table of a grammar alone.
 ghost use Rattle.std.specs.Prelude.{IfErr, IfOk};
-ghost use Rattle.lrpar_table.specs.ParserData.{IsParserDataOf, IsUnbuilt};
+ghost use Rattle.lrpar_table.specs.ParserData.{IsParserDataBy, IsParserDataOf, IsUnbuilt, IsUnbuiltBy};
 
 use lrpar_grammar::grammar::YaccGrammar;
 use lrpar_grammar::span::StorageIndex;
 pub use lrpar_table_build::build::{BuildFault, from_yacc, from_yacc_with};
 use lrpar_table_check::check::{ParserData, Refused};
+use lrpar_table_precedence::precedences::Precedences;
 use std::alloc::Global;
 use std::error::Error;
 use std::fmt;
@@ -49,6 +50,29 @@ pub fn parser_data<StorageT: StorageIndex>(
     ensures refused { IfErr result (IsUnbuilt StorageT.limit grm max_states cap) }
 {
     match from_yacc(alloc, &grm, max_states) {
+        Err(fault) => Err(Unbuilt::Table(fault, grm)),
+        Ok((sgraph, stable)) => match ParserData::of_safe(alloc, grm, sgraph, stable, cap) {
+            Ok(data) => Ok(data),
+            Err(refused) => Err(Unbuilt::Chains(refused)),
+        },
+    }
+}
+
+/// The same by precedences: the checked table of the grammar that `from_yacc_with` builds. It is safe, so all that holds of a
+/// checked table holds of it, but where a conflict was resolved it isn't complete.
+///
+/// The faults are those of `from_yacc_with`, and then as for `parser_data`.
+pub fn parser_data_with<StorageT: StorageIndex>(
+    alloc: Global,
+    grm: YaccGrammar<StorageT>,
+    precedences: &Precedences,
+    max_states: usize,
+    cap: u16,
+) -> Result<ParserData<StorageT>, Unbuilt<StorageT>>
+    ensures built { IfOk result (IsParserDataBy grm precedences.now max_states cap) }
+    ensures refused { IfErr result (IsUnbuiltBy StorageT.limit grm precedences.now max_states cap) }
+{
+    match from_yacc_with(alloc, &grm, precedences, max_states) {
         Err(fault) => Err(Unbuilt::Table(fault, grm)),
         Ok((sgraph, stable)) => match ParserData::of_safe(alloc, grm, sgraph, stable, cap) {
             Ok(data) => Ok(data),

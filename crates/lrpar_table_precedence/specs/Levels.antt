@@ -6,8 +6,8 @@ use Rattle.std.specs.Map.{keys_of, lookup}
 use Rattle.std.specs.Option.{option_and_then, option_or}
 use Rattle.lrpar_grammar_places.specs.declared.span.PIdx.{PIdx}
 use Rattle.lrpar_grammar.specs.Grammar.{Grammar, GrammarSymbol, Nonterminal, Terminal, prods_len, symbols_of, tokens_len}
-use Rattle.lrpar_table_precedence.specs.declared.precedence.AssocKind.{AssocKind}
-use Rattle.lrpar_table_precedence.specs.declared.precedence.AssocKind.TheVariants.{Left}
+use Rattle.lrpar_grammar_yacc.specs.declared.parts.AssocKind.{AssocKind}
+use Rattle.lrpar_grammar_yacc.specs.declared.parts.AssocKind.TheVariants.{Left}
 use Rattle.lrpar_table_precedence.specs.declared.precedence.Precedence.{Precedence}
 use Rattle.lrpar_table_precedence.specs.declared.levels.Level.{Level}
 use Rattle.lrpar_table_precedence.specs.declared.fault.PrecedenceFault.{PrecedenceFault}

@@ -4,8 +4,8 @@ use Rattle.std.specs.Prelude.{ℕ, List, [], Option, Some, None, slice_index_or}
 use Rattle.std.specs.Ordering.{nat_cmp}
 use Rattle.std.specs.declared.cmp.Ordering.{Ordering}
 use Rattle.std.specs.declared.cmp.Ordering.TheVariants.{Less, Equal, Greater}
-use Rattle.lrpar_table_precedence.specs.declared.precedence.AssocKind.{AssocKind}
-use Rattle.lrpar_table_precedence.specs.declared.precedence.AssocKind.TheVariants.{Left, Right, Nonassoc}
+use Rattle.lrpar_grammar_yacc.specs.declared.parts.AssocKind.{AssocKind}
+use Rattle.lrpar_grammar_yacc.specs.declared.parts.AssocKind.TheVariants.{Left, Right, Nonassoc}
 use Rattle.lrpar_table_precedence.specs.declared.precedence.Precedence.{Precedence}
 use Rattle.lrpar_table_precedence.specs.declared.precedence.Resolution.{Resolution}
 use Rattle.lrpar_table_precedence.specs.declared.precedence.Resolution.TheVariants.{Shift, Reduce, Error}

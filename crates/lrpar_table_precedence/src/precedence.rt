@@ -2,18 +2,8 @@
 ghost use Rattle.std.specs.Prelude.{◌≡◌};
 ghost use Rattle.lrpar_table_precedence.specs.Precedence.{against, by_kind, decided};
 
+pub use lrpar_grammar::grammar::AssocKind;
 use std::cmp::Ordering;
-
-/// How the tokens of a level associate.
-#[derive(Clone, Copy, Debug, PartialEq, Eq)]
-pub enum AssocKind {
-    /// To the left, as `%left` declares: `1-2-3` is `(1-2)-3`.
-    Left,
-    /// To the right, as `%right` declares: `1=2=3` is `1=(2=3)`.
-    Right,
-    /// Not at all, as `%nonassoc` declares: `1<2<3` is an error.
-    Nonassoc,
-}
 
 /// A precedence: the number of a level, the weakest first, counted from 0, and how the tokens of that level associate.
 #[derive(Clone, Copy, Debug, PartialEq, Eq)]

@@ -22,8 +22,8 @@ use std::marker::Model;
 /// The precedences of the tokens and of the productions of a grammar.
 #[derive(Debug)]
 pub struct Precedences {
-    tokens: Vec<Option<Precedence>>,
-    prods: Vec<Option<Precedence>>,
+    pub(crate) tokens: Vec<Option<Precedence>>,
+    pub(crate) prods: Vec<Option<Precedence>>,
 }
 
 // With its own `Drop`, a function that drops one proves one call.
@@ -206,7 +206,7 @@ fn add_last_tokens<StorageT: StorageIndex>(
 }
 
 // The precedence of the last token among the symbols, if there is one and it has one.
-fn last_precedence<StorageT: StorageIndex>(
+pub(crate) fn last_precedence<StorageT: StorageIndex>(
     tokens: &[Option<Precedence>],
     symbols: &[Symbol<StorageT>],
 ) -> Option<Precedence>

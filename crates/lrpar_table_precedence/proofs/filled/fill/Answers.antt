@@ -1,5 +1,5 @@
 use Rattle.std.proofs.Common.{◌<◌, ◌∙◌, sym, arith, length, slice_index_or}
-use Rattle.lrpar_table_precedence.specs.declared.precedence.AssocKind.TheVariants.{Left}
+use Rattle.lrpar_grammar_yacc.specs.declared.parts.AssocKind.TheVariants.{Left}
 use Rattle.lrpar_table_precedence.proofs.FilledLemmas.{fill_next, fill_twice}
 use Rattle.lrpar_table_precedence.proofs.filled.fill.Goals as goal
 
