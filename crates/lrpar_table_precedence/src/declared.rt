@@ -5,7 +5,7 @@ ghost use Rattle.lrpar_grammar.specs.Grammar.{prods_len};
 ghost use Rattle.lrpar_grammar_words.specs.Words.{placed};
 ghost use Rattle.lrpar_grammar_yacc.specs.Declares.{declarations_of, level_of, prec_of};
 ghost use Rattle.lrpar_table_precedence.specs.declared.precedence.Precedence.{Precedence};
-ghost use Rattle.lrpar_table_precedence.specs.Declared.{HasPrecedences, name_entries, prec_of_prod, precedence_in, prod_by_name, token_by_name};
+ghost use Rattle.lrpar_table_precedence.specs.ByName.{HasPrecedences, name_entries, prec_of_prod, precedence_in, prod_by_name, token_by_name};
 ghost use Rattle.lrpar_table_precedence.specs.Filled.{slot_at};
 ghost use Rattle.lrpar_table_precedence.specs.Precedence.{prod_precedence, token_precedence};
 
@@ -53,12 +53,12 @@ fn names_of_levels<'a>(
 {
     let mut names = BTreeMap::new(alloc);
     for number in 0..levels.len() {
-        let kind = levels[number].kind;
+        let level = &levels[number];
         let precedence = Precedence {
             level: number,
-            kind,
+            kind: level.kind,
         };
-        add_names(&mut names, &levels[number].names, precedence)?;
+        add_names(&mut names, &level.names, precedence)?;
     }
     Ok(names)
 }
