@@ -72,10 +72,10 @@ next_marks marks from next low marked precedences table are step =
 abbrev pub NextAt : List (ℕ × ℕ) → List Bool → ℕ → Type 0
 NextAt edges marks k = (edge : ℕ × ℕ) → slice_get edges k ≡ Some edge → MarksNext marks edge
 
-pub next_at : (edges : List (ℕ × ℕ)) (marks : List Bool) (k : ℕ) (edge : ℕ × ℕ) → k < length edges → edge ≡ get_or edges k edge → MarksNext marks edge
-    → NextAt edges marks k
-next_at edges marks k edge low is next other at =
-    let same : Some edge ≡ Some other = ap (λ (e : ℕ × ℕ). Some e) is ∙ sym (slice_get-get_or edges k edge low) ∙ at in
+pub next_at : (edges : List (ℕ × ℕ)) (marks : List Bool) (k : ℕ) (d : ℕ × ℕ) → k < length edges → MarksNext marks (get_or edges k d) → NextAt edges marks k
+next_at edges marks k d low next other at =
+    let edge = get_or edges k d in
+    let same : Some edge ≡ Some other = sym (slice_get-get_or edges k d low) ∙ at in
     subst (MarksNext marks) (some_same edge other same) next
   where
     some_same : (x y : ℕ × ℕ) → ◌≡◌ {A = Option (ℕ × ℕ)} (Some x) (Some y) → x ≡ y
@@ -94,9 +94,9 @@ edges_within precedences table edges marks steps count k d low =
     (omega (arith, first, count), omega (arith, second, count))
 
 -- a step among those of a table is one
-pub edge_step : (precedences : PrecedenceLists) (table : Table) (edges : List (ℕ × ℕ)) (k : ℕ) (edge : ℕ × ℕ) → AreSteps precedences table edges
-    → k < length edges → edge ≡ get_or edges k edge → IsStep precedences table edge.0 edge.1
-edge_step precedences table edges k edge steps low is = (steps.sound edge (k, low, sym is)).step
+pub edge_step : (precedences : PrecedenceLists) (table : Table) (edges : List (ℕ × ℕ)) (k : ℕ) (d : ℕ × ℕ) → AreSteps precedences table edges
+    → k < length edges → IsStep precedences table (get_or edges k d).0 (get_or edges k d).1
+edge_step precedences table edges k d steps low = (steps.sound (get_or edges k d) (Contains-get_or edges k d low)).step
 
 -- if each step from a marked state leads to a marked one, all states that can be met are marked
 pub all_met : (precedences : PrecedenceLists) (table : Table) (edges : List (ℕ × ℕ)) (marks : List Bool) → AreSteps precedences table edges
@@ -174,7 +174,7 @@ module _ (precedences : PrecedenceLists) (table : Table) (rows : List (List Bool
       Contains-append_left (shift_steps (row_at rows s) s (actions_at table s)) (goto_steps s (gotos_at table s)) (s, next)
       (joined_has (λ (x : ℕ × TableAction). shift_step (row_at rows s) s x.0 x.1) (actions_at table s) (t, ShiftTo next) (s, next)
       (((stored s low).actions t (ShiftTo next)).1 (is, λ never. absurd (cc)))
-      (subst (λ (b : Bool). Contains (cond b [] ((s, next) ∷ [])) (s, next)) (sym no) (0, lit< tt, refl)))
+      (subst (λ (b : Bool). Contains {X = ℕ × ℕ} (cond b [] ((s, next) ∷ [])) (s, next)) (sym no) (0, lit< tt, refl)))
   one_there s next low (Goes r is) =
       Contains-append_right (shift_steps (row_at rows s) s (actions_at table s)) (goto_steps s (gotos_at table s)) (s, next)
       (joined_has (λ (x : ℕ × ℕ). (s, x.1) ∷ []) (gotos_at table s) (r, next) (s, next) (((stored s low).gotos r next).1 is) (0, lit< tt, refl))
@@ -192,3 +192,11 @@ pub below_more : (table : Table) (rows : List (List Bool)) (n : ℕ) → steps_b
 below_more table rows n =
     ap (flat_map (steps_at table rows)) (sym (range_more 0 n) ∙ ap (λ k. range_with_len 0 n ++ k ∷ []) (zero-add n))
     ∙ flat_map-append (steps_at table rows) (range_with_len 0 n) (n ∷ []) ∙ ap (λ ys. steps_below table rows n ++ ys) (append-nil (steps_at table rows n))
+
+pub steps_more : (table : Table) (rows : List (List Bool)) (n k : ℕ) (bits : List Bool) (old new : List (ℕ × ℕ)) → k ≡ n → row_at rows n ≡ bits
+    → old ≡ steps_below table rows n → new ≡ old ++ (shift_steps bits k (actions_at table k) ++ goto_steps k (gotos_at table k))
+    → new ≡ steps_below table rows (n + 1)
+steps_more table rows n k bits old new at row so_far put =
+    put ∙ ap (λ j. old ++ (shift_steps bits j (actions_at table j) ++ goto_steps j (gotos_at table j))) at
+    ∙ ap (λ b. old ++ (shift_steps b n (actions_at table n) ++ goto_steps n (gotos_at table n))) (sym row)
+    ∙ ap (λ es. es ++ steps_at table rows n) so_far ∙ sym (below_more table rows n)
