@@ -1,3 +1,6 @@
+pub mod CalledLemmas
 pub mod GrownLemmas
+pub mod ReducedLemmas
 pub mod RepairLemmas
 pub mod RespectLemmas
+pub mod StopLemmas

@@ -20,7 +20,9 @@ pub fn trees_respect_precedences<LexemeT>()
 {}
 
 /// The tree of any run, also of one with repairs, respects the first half of this: no node of p has a node of q as its last child if p
-/// against b says reduce or error, unless reduce/reduce conflicts are listed.
+/// against b says reduce or error, unless reduce/reduce conflicts are listed. It respects the second half, too, if no conflict was
+/// resolved to an error, each reachable rule is productive, and no lexeme has the end token, as in the parse calls: no node of q has a
+/// node of p as its first child if p against b says shift.
 pub fn repaired_trees_respect_precedences<
     StorageT: StorageIndex,
     LexemeT: Lexeme<StorageT>,
