@@ -67,13 +67,13 @@ repaired_trees_respect_precedences {X} facts allows k precedences g graph table 
     record {
       last = λ says none.
           let good = repaired_is_good facts g table never p q r b ends begins (Unit {0}) ⊥
-          (λ _. no_shift precedences g graph table p b built apart says none) (λ no. absurd no)
-          allows k lexemes (inl (λ no. no)) of_run.found of_run.consumed of_run.prods of_run.run in
+          (λ _. no_shift precedences g graph table p b built apart says none) (λ silent. absurd silent)
+          allows k lexemes (inl (λ silent. silent)) of_run.found of_run.consumed of_run.prods of_run.run in
           let same = same_tree token g good.tree tree (Nonterminal g.start) good.fits of_run.fits
           (good.productions_are ∙ sym of_run.productions_are) (good.leaves_are ∙ sym of_run.leaves_are) in
           subst (EachNode _) same (each_so _ _ (λ n children node. node.0 tt) good.tree good.good);
       first = λ says none each apart_from_end.
-          let good = repaired_is_good facts g table never p q r b ends begins ⊥ (Unit {0}) (λ no. absurd no) (λ _. apart.no_reduction says)
+          let good = repaired_is_good facts g table never p q r b ends begins ⊥ (Unit {0}) (λ silent. absurd silent) (λ _. apart.no_reduction says)
           allows k lexemes (inr (stops_unreduced g precedences graph table well closed built each none token lexemes apart_from_end))
           of_run.found of_run.consumed of_run.prods of_run.run in
           let same = same_tree token g good.tree tree (Nonterminal g.start) good.fits of_run.fits

@@ -4,7 +4,7 @@
 -- which the goto by B leads has `A: v B . w  {a}`, and so it calls for an action at t: a shift, a reduction or accept. Conflict
 -- resolution chooses one of those for which it calls, unless precedences choose an error. So after a reduction at t the top has an
 -- action at t; and a stack that is stuck at t has none.
-use Rattle.std.proofs.Common.{◌≡◌, ◌≢◌, ◌<◌, ◌≤◌, ◌+◌, ◌∙◌, inl, inr, refl, sym, ap, subst, arith, ℕ, List, [], ◌∷◌, ◌++◌, drop, length, Option, Some, slice_get}
+use Rattle.std.proofs.Common.{◌≡◌, ◌≢◌, ◌<◌, ◌≤◌, ◌+◌, ◌∙◌, inl, inr, refl, sym, ap, subst, arith, ℕ, List, [], ◌∷◌, ◌++◌, drop, length, None, Option, Some, slice_get}
 use Rattle.std.proofs.lemmas.Bool.{cases_eq}
 use Rattle.std.proofs.lemmas.List.Elements.{All-contains}
 use Rattle.lrpar_grammar.specs.Grammar.{Grammar, GrammarSymbol, IsWellFormed, Nonterminal, Terminal, prod_len, rule_of, start_prod, symbols_of, tokens_len}
@@ -36,10 +36,10 @@ use Rattle.lrpar_parse_precedences.proofs.ReducedLemmas.{IsCut, cut, cut_path, l
 
 -- a shift and a reduction are resolved to one of the two, unless precedences say error
 chosen_acts : (o : Option Resolution) (next p : ℕ) → o ≢ Some Error → chosen o next p ≢ Fails
-chosen_acts None next p no is = absurd (cc)
-chosen_acts (Some Shift) next p no is = absurd (cc)
-chosen_acts (Some Reduce) next p no is = absurd (cc)
-chosen_acts (Some Error) next p no is = no refl
+chosen_acts None next p other is = absurd (cc)
+chosen_acts (Some Shift) next p other is = absurd (cc)
+chosen_acts (Some Reduce) next p other is = absurd (cc)
+chosen_acts (Some Error) next p other is = other refl
 
 module _ (g : Grammar) (precedences : PrecedenceLists) (graph : Graph) (table : Table) (well : IsWellFormed g) (closed : IsClosed table)
     (built : IsBuiltBy g precedences graph table) (each : EachReachableHasTree g) (none : NoneIsError table.resolved) where
@@ -61,7 +61,7 @@ module _ (g : Grammar) (precedences : PrecedenceLists) (graph : Graph) (table : 
                   let at : ResolvedOf = record { conflict = record { token = t; prod = first.0; state = s }; by = Error } in
                   chosen_acts (resolution_of precedences first.0 t) met.0 first.0
                   (λ says. All-contains (λ (x : ResolvedOf). x.by ≢ Error) table.resolved at none
-                  ((built.resolved at).1 (in_graph s within, low, (before, first.1), says)) refl)
+                  ((built.resolved at).1 (in_graph s within, low, ((before, first.1), says))) refl)
                   (sym met.1 ∙ fails)
               | inr no_reduction ↦ let shift = acts.shifts before no_reduction in let is : ShiftTo shift.0 ≡ Fails = sym shift.1 ∙ fails in absurd (cc)
             ]
