@@ -4,7 +4,7 @@
 -- and the set has `B: . x  {b}` for each b of First(u, a). So the claim is about more: about a core `A: v . w` and symbols u that come
 -- after it, where the set has `A: v . w  {b}` for each b of First(u, a), and t is in First(w u, a). That First(u, a) isn't empty is
 -- where each reachable rule has to be productive.
-use Rattle.std.proofs.Common.{◌≡◌, ◌≤◌, ◌-◌, ◌⊎◌, ◌∙◌, inl, inr, refl, sym, ap, subst, arith, ℕ, List, [], ◌∷◌, ◌++◌, drop, length, Some, slice_get}
+use Rattle.std.proofs.Common.{◌≡◌, ◌≤◌, ◌⊎◌, ◌∙◌, inl, inr, refl, sym, ap, subst, arith, ℕ, List, [], ◌∷◌, ◌++◌, drop, length, Some, slice_get}
 use Rattle.std.proofs.lemmas.List.{append-nil, append_assoc, length-drop}
 use Rattle.lrpar_grammar.specs.Grammar.{Grammar, GrammarSymbol, IsWellFormed, Nonterminal, Terminal, prod_len, symbols_of}
 use Rattle.lrpar_grammar.specs.Tree.{forest_leaves}

@@ -1,11 +1,10 @@
 -- The trees along a stack. Let p end in its rule r, and q begin with r and then token b. A state above a node of q shifts b, since the node
 -- was made over the symbols of q, and the goto by r leads to the same state again. So if p is reduced over a node of q as its last
 -- child, the state in which p is complete shifts b. And a node of p that is followed by a leaf of b was reduced with lookahead b.
-use Rattle.std.proofs.Common.{◌≡◌, ◌≢◌, ◌<◌, ◌≤◌, ◌+◌, ◌-◌, ◌∙◌, refl, sym, ap, subst, arith, ℕ, zero, suc, List, [], ◌∷◌, ◌++◌, drop, length, take, slice_get, Some, None, Option, length-append}
-use Rattle.std.proofs.Math.Seq.{take-append_seam}
+use Rattle.std.proofs.Common.{◌≡◌, ◌≢◌, ◌<◌, ◌≤◌, ◌+◌, ◌∙◌, refl, sym, ap, subst, arith, ℕ, zero, suc, List, [], ◌∷◌, ◌++◌, drop, length, slice_get, Some, None, Option}
 use Rattle.std.proofs.lemmas.List.{append-nil, append_assoc}
 use Rattle.std.specs.Option.{option_map_or}
-use Rattle.lrpar_grammar.specs.Grammar.{Grammar, GrammarSymbol, Nonterminal, Terminal, end_token, prod_len, rule_of, symbols_of}
+use Rattle.lrpar_grammar.specs.Grammar.{Grammar, GrammarSymbol, Nonterminal, Terminal, end_token, rule_of, symbols_of}
 use Rattle.lrpar_grammar.specs.Tree.{Tree, Forest, Leaf, Branch, Nil, Cons, leaves, forest_leaves, productions, forest_productions, Fits, ForestFits}
 use Rattle.lrpar_grammar.proofs.ForestLemmas.{joined, joined_fits, joined_leaves, splits, split_leaves}
 use Rattle.lrpar_table_rows.specs.Table.{Table, ReduceBy, ShiftTo, action_of, goto_of}
@@ -14,9 +13,9 @@ use Rattle.lrpar_table_build.proofs.KeptApartLemmas.{two_first}
 use Rattle.lrpar_parse_precedences.specs.PrecedenceTrees.{BeginsWithNode, EachNode, EachNodeIn, EndsWithNode, IsNodeOf}
 use Rattle.lrpar_parse_precedences.proofs.ReducedLemmas.{cut}
 use Rattle.lrpar_table_stacks.specs.Path.{IsPath, Leads, NeverSticks}
-use Rattle.lrpar_table_stacks.specs.Reduction.{Feeds, Reduces, Settles, left_by, top_action, top_goto}
+use Rattle.lrpar_table_stacks.specs.Reduction.{Feeds, Reduces, Settles, top_action}
 use Rattle.lrpar_table_stacks.specs.Run.{Far, FarEnd, Accepted, Stopped, goes_on, accepts, stops, token_at}
-use Rattle.lrpar_table_stacks.proofs.PathLemmas.{action_at_last, as_many, goto_at_last, last_of, leads_more}
+use Rattle.lrpar_table_stacks.proofs.PathLemmas.{action_at_last, as_many, last_of, leads_more}
 
 -- one lexeme more
 next_suc : {X : Type 0} (lexemes : List X) (i : ℕ) → i < length lexemes

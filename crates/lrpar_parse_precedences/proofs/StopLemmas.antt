@@ -4,19 +4,19 @@
 -- which the goto by B leads has `A: v B . w  {a}`, and so it calls for an action at t: a shift, a reduction or accept. Conflict
 -- resolution chooses one of those for which it calls, unless precedences choose an error. So after a reduction at t the top has an
 -- action at t; and a stack that is stuck at t has none.
-use Rattle.std.proofs.Common.{◌≡◌, ◌≢◌, ◌<◌, ◌≤◌, ◌+◌, ◌∙◌, inl, inr, refl, sym, ap, subst, arith, ℕ, List, [], ◌∷◌, ◌++◌, drop, length, None, Option, Some, slice_get}
+use Rattle.std.proofs.Common.{◌≡◌, ◌≢◌, ◌<◌, ◌≤◌, ◌+◌, ◌∙◌, inl, inr, refl, sym, ap, subst, arith, ℕ, List, [], ◌∷◌, ◌++◌, drop, length, None, Option, Some}
 use Rattle.std.proofs.lemmas.Bool.{cases_eq}
 use Rattle.std.proofs.lemmas.List.Elements.{All-contains}
 use Rattle.lrpar_grammar.specs.Grammar.{Grammar, GrammarSymbol, IsWellFormed, Nonterminal, Terminal, prod_len, rule_of, start_prod, symbols_of, tokens_len}
 use Rattle.lrpar_table_precedence.specs.Precedence.{PrecedenceLists, resolution_of}
 use Rattle.lrpar_table_precedence.specs.declared.precedence.Resolution.{Resolution}
 use Rattle.lrpar_table_precedence.specs.declared.precedence.Resolution.TheVariants.{Error, Reduce, Shift}
-use Rattle.lrpar_table_rows.specs.Graph.{Graph, HasItem, ItemOf, graph_len, item_at}
+use Rattle.lrpar_table_rows.specs.Graph.{Graph, HasItem, graph_len, item_at}
 use Rattle.lrpar_table_rows.specs.Safe.{GoesBy}
 use Rattle.lrpar_table_rows.specs.Table.{Accepts, Fails, IsClosed, ReduceBy, ResolvedOf, ShiftTo, Table, action_of, states_len}
 use Rattle.lrpar_table_first.specs.First.{IsFirst}
 use Rattle.lrpar_table_items.specs.Canonical.{HasAccept, sets_of}
-use Rattle.lrpar_table_items.specs.ItemSets.{Adds, IsReachedBy, Own}
+use Rattle.lrpar_table_items.specs.ItemSets.{Adds, Own}
 use Rattle.lrpar_table_items.specs.Resolution.{chosen}
 use Rattle.lrpar_table_build.specs.Built.{IsBuiltBy}
 use Rattle.lrpar_table_build.proofs.DecidedLemmas.{before_decided, first_decided}
@@ -24,8 +24,8 @@ use Rattle.lrpar_table_build.proofs.ReachedLemmas.{before_added, comes_added, re
 use Rattle.lrpar_table_build.proofs.SafeLemmas.{advanced_from, goes_by_precedence, reduces_by_precedence}
 use Rattle.lrpar_table_sentences.specs.Reachable.{EachReachableHasTree}
 use Rattle.lrpar_table_sentences.proofs.AfterLemmas.{drop_at_get}
-use Rattle.lrpar_table_stacks.specs.Path.{IsPath, Leads, NeverSticks}
-use Rattle.lrpar_table_stacks.specs.Reduction.{Reduces, Settles, top_action}
+use Rattle.lrpar_table_stacks.specs.Path.{Leads, NeverSticks}
+use Rattle.lrpar_table_stacks.specs.Reduction.{Settles, top_action}
 use Rattle.lrpar_table_stacks.specs.Run.{IsStuck, token_at}
 use Rattle.lrpar_table_stacks.specs.RunLaws.{KeepOffEnd}
 use Rattle.lrpar_table_stacks.proofs.PathLemmas.{action_at_last, goes_within, last_of, last_within, never_sticks}
