@@ -10,8 +10,7 @@ use Rattle.lrpar_grammar.specs.Grammar.{Grammar, GrammarSymbol, IsWellFormed, No
 use Rattle.lrpar_grammar.specs.Tree.{forest_leaves}
 use Rattle.lrpar_table_rows.specs.Graph.{ItemOf, item_at}
 use Rattle.lrpar_table_first.specs.First.{Empty, IsFirst, Rule, Token}
-use Rattle.lrpar_table_items.specs.ItemSets.{IsReachedBy}
-use Rattle.lrpar_table_build.proofs.KeptApartLemmas.{added_to}
+use Rattle.lrpar_table_items.specs.ItemSets.{Added, Adds, IsReachedBy}
 use Rattle.lrpar_table_build.proofs.ReachedLemmas.{head_after, reached_items}
 use Rattle.lrpar_table_sentences.specs.Reachable.{EachReachableHasTree}
 use Rattle.lrpar_table_sentences.proofs.AfterLemmas.{have_trees, item_reached, rest_reached}
@@ -51,6 +50,11 @@ left_none {X} xs k none low =
     let many = length-drop k xs in
     let empty = ap (λ (l : List X). length l) none in omega (arith, many, empty, low)
 
+-- a set has what its items add
+reached_more : (g : Grammar) (path : List GrammarSymbol) (x y : ItemOf) → IsReachedBy g path x → Adds g x y → IsReachedBy g path y
+reached_more g [] x y has adds = Added x y has adds
+reached_more g (s ∷ path) x y has adds = Added x y has adds
+
 module _ (g : Grammar) (well : IsWellFormed g) (each : EachReachableHasTree g) (path : List GrammarSymbol) where
   calls : (a : ℕ) (w : List GrammarSymbol) (t : ℕ) → IsFirst g a w t → (p k : ℕ) (v rest : List GrammarSymbol) (c : ℕ)
       → drop k (symbols_of g p) ≡ v → k ≤ prod_len g p → w ≡ v ++ rest → IsFirst g a rest c
@@ -77,7 +81,7 @@ module _ (g : Grammar) (well : IsWellFormed g) (each : EachReachableHasTree g) (
       (ap (λ (y : List GrammarSymbol). symbols_of g q ++ y) later) begins
       (λ b front.
       let parts = first_split g a c rest some (v ++ rest) b front v refl in
-      added_to g well path (item_at p k parts.0) (item_at q 0 b) (has parts.0 parts.1)
+      reached_more g path (item_at p k parts.0) (item_at q 0 b) (has parts.0 parts.1)
       (record {
         rule = m;
         rest = v;

@@ -56,7 +56,7 @@ module _ (g : Grammar) (well : IsWellFormed g) where
       )
 
   -- what an item adds is reached with it
-  pub added_to : (path : List GrammarSymbol) (x y : ItemOf) → IsReachedBy g path x → Adds g x y → IsReachedBy g path y
+  added_to : (path : List GrammarSymbol) (x y : ItemOf) → IsReachedBy g path x → Adds g x y → IsReachedBy g path y
   added_to [] x y has adds = Added x y has adds
   added_to (s ∷ path) x y has adds = Added x y has adds
 

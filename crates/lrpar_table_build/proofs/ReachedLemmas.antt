@@ -93,7 +93,7 @@ module _ (g : Grammar) (well : IsWellFormed g) where
   no_end_token p k t is at = let listed : t < end_token g = symbol_listed p k (Terminal t) at in omega (arith, listed, is)
 
   -- an item has the rule of what it adds after its dot
-  pub before_added : (x y : ItemOf) → Adds g x y → slice_get (symbols_of g x.prod) x.dot ≡ Some (Nonterminal (rule_of g y.prod))
+  before_added : (x y : ItemOf) → Adds g x y → slice_get (symbols_of g x.prod) x.dot ≡ Some (Nonterminal (rule_of g y.prod))
   before_added x y adds =
       subst (λ (r : ℕ). slice_get (symbols_of g x.prod) x.dot ≡ Some (Nonterminal r)) (sym adds.of_rule)
       (head_after (symbols_of g x.prod) x.dot (Nonterminal adds.rule) adds.rest adds.before)
@@ -151,22 +151,16 @@ module _ (g : Grammar) (well : IsWellFormed g) where
         | inr more ↦ absurd (added_is_listed more.0 x more.2 last)
       ]
 
-  -- an item with its dot at the start, other than the start item, is added by an item of its set
-  pub comes_added : (path : List GrammarSymbol) (y : ItemOf) → IsReachedBy g path y → y.dot ≡ 0 → y.prod ≢ start_prod g
-      → (x : ItemOf) × IsReachedBy g path x × Adds g x y
-  comes_added [] y h fresh listed =
-      elim (closure_cases g (IsStartItem g) y h) [
-        | inl own ↦ absurd (listed (ap (λ x. x.prod) own))
-        | inr more ↦ more
-      ]
-  comes_added (s ∷ path) y h fresh listed =
-      elim (closure_cases g (IsAdvanced g (IsReachedBy g path) s) y h) [
-        | inl own ↦ let moved : y.dot ≡ own.0.dot + 1 = ap (λ x. x.dot) own.3 in absurd (omega (arith, moved, fresh))
-        | inr more ↦ more
-      ]
-
-  -- so that item has its rule after the dot
+  -- for an item with its dot at the start, other than the start item, an item of its set has its rule after the dot
   pub comes_with_rule : (path : List GrammarSymbol) (y : ItemOf) → IsReachedBy g path y → y.dot ≡ 0 → y.prod ≢ start_prod g
       → (x : ItemOf) × IsReachedBy g path x × (slice_get (symbols_of g x.prod) x.dot ≡ Some (Nonterminal (rule_of g y.prod)))
-  comes_with_rule path y h fresh listed =
-      let from = comes_added path y h fresh listed in (from.0, from.1, before_added from.0 y from.2)
+  comes_with_rule [] y h fresh listed =
+      elim (closure_cases g (IsStartItem g) y h) [
+        | inl own ↦ absurd (listed (ap (λ x. x.prod) own))
+        | inr more ↦ (more.0, more.1, before_added more.0 y more.2)
+      ]
+  comes_with_rule (s ∷ path) y h fresh listed =
+      elim (closure_cases g (IsAdvanced g (IsReachedBy g path) s) y h) [
+        | inl own ↦ let moved : y.dot ≡ own.0.dot + 1 = ap (λ x. x.dot) own.3 in absurd (omega (arith, moved, fresh))
+        | inr more ↦ (more.0, more.1, before_added more.0 y more.2)
+      ]

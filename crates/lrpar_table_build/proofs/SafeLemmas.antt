@@ -223,16 +223,3 @@ canonical_tables_are_safe g graph table well canonical resolved = safe g graph t
 pub tables_by_precedence_are_safe : TablesByPrecedenceAreSafe
 tables_by_precedence_are_safe g precedences graph table well canonical resolved =
     safe g graph table well canonical (justified_by g precedences graph table resolved)
-
--- and there a state goes by a symbol where its set leads
-pub goes_by_precedence : (g : Grammar) (precedences : PrecedenceLists) (graph : Graph) (table : Table) → IsWellFormed g → IsCanonical g graph
-    → IsCanonicalTableBy g precedences graph table → (s : ℕ) (x : GrammarSymbol) (next : ℕ) → s < states_len table → GoesBy table s x next
-    → LeadsTo g (sets_of graph) s x next
-goes_by_precedence g precedences graph table well canonical resolved =
-    leads_by g graph table well canonical (justified_by g precedences graph table resolved)
-
--- and each of its reductions is one that its set calls for
-pub reduces_by_precedence : (g : Grammar) (precedences : PrecedenceLists) (graph : Graph) (table : Table) → IsWellFormed g → IsCanonical g graph
-    → IsCanonicalTableBy g precedences graph table → (s t p : ℕ) → action_of table s t ≡ ReduceBy p → HasReduce g (sets_of graph) s t p
-reduces_by_precedence g precedences graph table well canonical resolved =
-    reduction_of_item g graph table well canonical (justified_by g precedences graph table resolved)
