@@ -51,7 +51,7 @@ left_none {X} xs k none low =
     let empty = ap (λ (l : List X). length l) none in omega (arith, many, empty, low)
 
 -- a set has what its items add
-reached_more : (g : Grammar) (path : List GrammarSymbol) (x y : ItemOf) → IsReachedBy g path x → Adds g x y → IsReachedBy g path y
+pub reached_more : (g : Grammar) (path : List GrammarSymbol) (x y : ItemOf) → IsReachedBy g path x → Adds g x y → IsReachedBy g path y
 reached_more g [] x y has adds = Added x y has adds
 reached_more g (s ∷ path) x y has adds = Added x y has adds
 

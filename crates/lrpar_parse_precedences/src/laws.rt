@@ -4,6 +4,7 @@ ghost use Rattle.lrpar_grammar.specs.Sentence.{LexemeFacts};
 ghost use Rattle.lrpar_table_check.specs.Checked.{Checked};
 ghost use Rattle.lrpar_parse_lexemes.specs.Views.{facts_by};
 ghost use Rattle.lrpar_parse_repair.specs.Asked.{allowed_at};
+ghost use Rattle.lrpar_parse_precedences.specs.OperatorGrammars.{RespectfulTreesAreOne, RespectfulTreesAreTaken};
 ghost use Rattle.lrpar_parse_precedences.specs.PrecedenceTrees.{RepairedTreesRespectPrecedences, TreesRespectPrecedences};
 
 use lrpar_grammar::span::StorageIndex;
@@ -29,4 +30,14 @@ pub fn repaired_trees_respect_precedences<
     R: Recoverer<StorageT, LexemeT>,
 >()
     ensures { (r : R) (d : Checked) (k : ℕ) → RepairedTreesRespectPrecedences (facts_by StorageT.index LexemeT.parts) (allowed_at (R.allows r) d k) }
+{}
+
+/// Let a grammar have one rule R, whose productions are atoms, R in brackets, and infix operators with a precedence, each token in one
+/// place alone. Over a table that is built by these precedences, each text with a tree that respects them is taken, with that tree; and it
+/// has no other such tree. This holds over lexemes of any type, and over those that contracts speak of.
+pub fn operator_texts_are_taken<LexemeT>()
+    ensures taken { RespectfulTreesAreTaken LexemeT }
+    ensures one { RespectfulTreesAreOne LexemeT }
+    ensures facts_taken { RespectfulTreesAreTaken LexemeFacts }
+    ensures facts_one { RespectfulTreesAreOne LexemeFacts }
 {}
