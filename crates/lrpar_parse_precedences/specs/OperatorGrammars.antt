@@ -1,8 +1,7 @@
 -- Operator grammars: one rule, whose productions are atoms, brackets and infix operators. Each text that has a tree which respects the
--- precedences is taken, with that tree, and it has no other one.
-use Rattle.std.specs.Prelude.{◌≡◌, ◌<◌, ℕ, List, [], ◌∷◌, Some, slice_get}
+-- precedences is taken, with that tree, and it has no other such tree.
+use Rattle.std.specs.Prelude.{◌≡◌, ◌<◌, ℕ, [], ◌∷◌, Some, slice_get}
 use Rattle.lrpar_grammar.specs.Grammar.{Grammar, IsWellFormed, Nonterminal, Terminal, rule_of, start_prod, symbols_of}
-use Rattle.lrpar_grammar.specs.Sentence.{LexemeFacts}
 use Rattle.lrpar_grammar.specs.Tree.{Tree, Fits, leaves, productions}
 use Rattle.lrpar_table_precedence.specs.Precedence.{PrecedenceLists, prod_precedence, resolution_of, token_precedence}
 use Rattle.lrpar_table_precedence.specs.declared.precedence.Precedence.{Precedence}
