@@ -1,21 +1,21 @@
 -- The trees along a stack. Let p end in its rule r, and q begin with r and then token b. A state above a node of q shifts b, since the node
 -- was made over the symbols of q, and the goto by r leads to the same state again. So if p is reduced over a node of q as its last
 -- child, the state in which p is complete shifts b. And a node of p that is followed by a leaf of b was reduced with lookahead b.
-use Rattle.std.proofs.Common.{◌≡◌, ◌≢◌, ◌<◌, ◌≤◌, ◌+◌, ◌-◌, ◌∙◌, refl, sym, ap, subst, arith, ℕ, zero, suc, List, [], ◌∷◌, ◌++◌, drop, length, take, slice_get, Some, None, Option, length-append}
-use Rattle.std.proofs.Math.Seq.{take-append_seam}
+use Rattle.std.proofs.Common.{◌≡◌, ◌≢◌, ◌<◌, ◌≤◌, ◌+◌, ◌∙◌, refl, sym, ap, subst, arith, ℕ, zero, suc, List, [], ◌∷◌, ◌++◌, drop, length, slice_get, Some, None, Option}
 use Rattle.std.proofs.lemmas.List.{append-nil, append_assoc}
 use Rattle.std.specs.Option.{option_map_or}
-use Rattle.lrpar_grammar.specs.Grammar.{Grammar, GrammarSymbol, Nonterminal, Terminal, end_token, prod_len, rule_of, symbols_of}
+use Rattle.lrpar_grammar.specs.Grammar.{Grammar, GrammarSymbol, Nonterminal, Terminal, end_token, rule_of, symbols_of}
 use Rattle.lrpar_grammar.specs.Tree.{Tree, Forest, Leaf, Branch, Nil, Cons, leaves, forest_leaves, productions, forest_productions, Fits, ForestFits}
 use Rattle.lrpar_grammar.proofs.ForestLemmas.{joined, joined_fits, joined_leaves, splits, split_leaves}
 use Rattle.lrpar_table_rows.specs.Table.{Table, ReduceBy, ShiftTo, action_of, goto_of}
 use Rattle.lrpar_table_build.specs.KeptApart.{BeginsWithItsRule, EndsInItsRule}
 use Rattle.lrpar_table_build.proofs.KeptApartLemmas.{two_first}
 use Rattle.lrpar_parse_precedences.specs.PrecedenceTrees.{BeginsWithNode, EachNode, EachNodeIn, EndsWithNode, IsNodeOf}
+use Rattle.lrpar_parse_precedences.proofs.ReducedLemmas.{cut}
 use Rattle.lrpar_table_stacks.specs.Path.{IsPath, Leads, NeverSticks}
-use Rattle.lrpar_table_stacks.specs.Reduction.{Feeds, Reduces, Settles, left_by, top_action, top_goto}
+use Rattle.lrpar_table_stacks.specs.Reduction.{Feeds, Reduces, Settles, top_action}
 use Rattle.lrpar_table_stacks.specs.Run.{Far, FarEnd, Accepted, Stopped, goes_on, accepts, stops, token_at}
-use Rattle.lrpar_table_stacks.proofs.PathLemmas.{action_at_last, as_many, goto_at_last, last_of, leads_more}
+use Rattle.lrpar_table_stacks.proofs.PathLemmas.{action_at_last, as_many, last_of, leads_more}
 
 -- one lexeme more
 next_suc : {X : Type 0} (lexemes : List X) (i : ℕ) → i < length lexemes
@@ -57,37 +57,6 @@ each_other H (Cons t ts) others each = each_other H ts others each.1
 each_joined : {X : Type 0} (H : ℕ → Forest X → Type 0) (first others : Forest X) → EachNodeIn H first → EachNodeIn H others → EachNodeIn H (joined first others)
 each_joined H Nil others each more = more
 each_joined H (Cons t ts) others each more = (each.0, each_joined H ts others each.1 more)
-
--- the states above a state, split between two lists of symbols
-record SplitsStates (table : Table) (s : ℕ) (xs ys : List GrammarSymbol) (st : List ℕ) : Type 0 where
-  pub lower : List ℕ
-  pub upper : List ℕ
-  pub both : st ≡ lower ++ upper
-  pub lower_leads : Leads table s xs lower
-  pub upper_leads : Leads table (last_of s lower) ys upper
-
-split_states : (table : Table) (s : ℕ) (xs ys : List GrammarSymbol) (st : List ℕ) → Leads table s (xs ++ ys) st → SplitsStates table s xs ys st
-split_states table s [] ys st leads = record { lower = []; upper = st; both = refl; lower_leads = tt; upper_leads = leads }
-split_states table s (x ∷ xs) ys [] leads = absurd leads
-split_states table s (x ∷ xs) ys (next ∷ st) leads =
-    let h = split_states table next xs ys st leads.1 in
-    record {
-      lower = next ∷ h.lower;
-      upper = h.upper;
-      both = ap (λ (ss : List ℕ). next ∷ ss) h.both;
-      lower_leads = (leads.0, h.lower_leads);
-      upper_leads = h.upper_leads;
-    }
-
--- the elements before the last n ones
-before_last : {A : Type 0} (xs ys : List A) (n : ℕ) → length ys ≡ n → take (length (xs ++ ys) - n) (xs ++ ys) ≡ xs
-before_last xs ys n many =
-    let e : length (xs ++ ys) - n ≡ length xs = omega (arith, length-append xs ys) in rw e (take-append_seam xs ys)
-
--- the top of two lists of states
-last_joined : (s : ℕ) (lower upper : List ℕ) → last_of s (lower ++ upper) ≡ last_of (last_of s lower) upper
-last_joined s [] upper = refl
-last_joined s (next ∷ lower) upper = last_joined next lower upper
 
 module _ {X : Type 0} (token : X → ℕ) (g : Grammar) (table : Table) (never : NeverSticks g table) (p q r b : ℕ) (ends : EndsInItsRule g p r)
     (begins : BeginsWithItsRule g q r b) where
@@ -210,30 +179,19 @@ module _ {X : Type 0} (token : X → ℕ) (g : Grammar) (table : Table) (never :
         → HasTrees after xs (ps ++ n ∷ []) t
     trees_reduced t n st after xs ps has reduces =
         let start = table.start in
-        let path : IsPath table has.symbols st = subst (IsPath table has.symbols) (sym has.stack) (refl, has.leads) in
-        let along = never.reduces has.symbols st t n path reduces.action in
+        let along = cut g table never t n has.symbols has.above st after has.stack has.leads reduces in
         let below = along.below in
-        let states = split_states table start below (symbols_of g n) has.above
-        (subst (λ (ss : List GrammarSymbol). Leads table start ss has.above) along.split has.leads) in
-        let lower = states.lower in
-        let upper = states.upper in
+        let lower = along.lower in
+        let upper = along.upper in
         let bottom = last_of start lower in
-        let left : left_by g n st ≡ start ∷ lower =
-        ap (left_by g n) (has.stack ∙ ap (λ (ss : List ℕ). start ∷ ss) states.both)
-        ∙ before_last (start ∷ lower) upper (prod_len g n) (as_many table bottom (symbols_of g n) upper states.upper_leads) in
-        let goto : goto_of table bottom (rule_of g n) ≡ Some reduces.state =
-        sym (goto_at_last table start (rule_of g n) lower) ∙ sym (ap (top_goto table (rule_of g n)) left) ∙ reduces.goto in
-        let action : action_of table (last_of start has.above) t ≡ ReduceBy n =
-        action_at_last table start t has.above (ReduceBy n) (sym (ap (top_action table t) has.stack) ∙ reduces.action) in
-        let top : last_of start has.above ≡ last_of bottom upper = ap (last_of start) states.both ∙ last_joined start lower upper in
         let fits = subst (λ (ss : List GrammarSymbol). ForestFits token g has.trees ss) along.split has.fits in
         let parts = splits token g has.trees below (symbols_of g n) fits in
         let children = parts.others in
         let node : Forest X = Cons (Branch n children) Nil in
         let good = subst (EachNodeIn IsGood) parts.both has.good in
-        let count : length lower ≡ length below = as_many table start below lower states.lower_leads in
+        let count : length lower ≡ length below = as_many table start below lower along.lower_leads in
         let shifted : AreShifted (joined parts.first children) (lower ++ upper) =
-        subst (AreShifted (joined parts.first children)) states.both (subst (λ (ts : Forest X). AreShifted ts has.above) parts.both has.shifted) in
+        subst (AreShifted (joined parts.first children)) along.both (subst (λ (ts : Forest X). AreShifted ts has.above) parts.both has.shifted) in
         let above_children = shifted_other parts.first children below lower upper parts.first_fits count shifted in
         let followed : FirstSays → AreFollowed (joined parts.first children) t = λ says.
         subst (λ (ts : Forest X). AreFollowed ts t) parts.both (has.followed says) in
@@ -241,9 +199,9 @@ module _ {X : Type 0} (token : X → ℕ) (g : Grammar) (table : Table) (never :
         let symbols_q : n ≡ q → symbols_of g n ≡ Nonterminal r ∷ Terminal b ∷ parts_q.0 = λ is. ap (symbols_of g) is ∙ parts_q.1 in
         record {
           symbols = below ++ Nonterminal (rule_of g n) ∷ [];
-          above = lower ++ reduces.state ∷ [];
-          stack = reduces.pushed ∙ ap (λ (ss : List ℕ). ss ++ reduces.state ∷ []) left;
-          leads = leads_more table start below lower (Nonterminal (rule_of g n)) reduces.state states.lower_leads goto;
+          above = lower ++ along.state ∷ [];
+          stack = along.pushed;
+          leads = leads_more table start below lower (Nonterminal (rule_of g n)) along.state along.lower_leads along.goto;
           trees = joined parts.first node;
           fits = joined_fits token g parts.first node below (Nonterminal (rule_of g n) ∷ []) parts.first_fits ((reduces.known, refl, parts.others_fit), tt);
           leaves_are = joined_leaves parts.first node
@@ -258,8 +216,7 @@ module _ {X : Type 0} (token : X → ℕ) (g : Grammar) (table : Table) (never :
               (
                 λ says is last.
                     let shift = last_shifts children upper bottom above_children last in
-                    no_shift says (last_of start has.above) t shift.0 (action ∙ ap (λ (k : ℕ). ReduceBy k) is)
-                    (ap (λ (k : ℕ). action_of table k b) top ∙ shift.1),
+                    no_shift says (last_of bottom upper) t shift.0 (along.action ∙ ap (λ (k : ℕ). ReduceBy k) is) shift.1,
                 λ says is first.
                     let reduced = first_reduced children parts_q.0 t
                     (subst (λ (ss : List GrammarSymbol). ForestFits token g children ss) (symbols_q is) parts.others_fit)
@@ -270,14 +227,14 @@ module _ {X : Type 0} (token : X → ℕ) (g : Grammar) (table : Table) (never :
             ),
             tt,
           );
-          shifted = shifted_joined parts.first node lower (reduces.state ∷ []) (shifted_first parts.first children below lower upper parts.first_fits count shifted) (
-            λ is. node_shifts bottom reduces.state parts_q.0 upper
-                (subst (λ (ss : List GrammarSymbol). Leads table bottom ss upper) (symbols_q is) states.upper_leads)
-                (ap (goto_of table bottom) (sym (ap (rule_of g) is ∙ begins.of_rule)) ∙ goto),
+          shifted = shifted_joined parts.first node lower (along.state ∷ []) (shifted_first parts.first children below lower upper parts.first_fits count shifted) (
+            λ is. node_shifts bottom along.state parts_q.0 upper
+                (subst (λ (ss : List GrammarSymbol). Leads table bottom ss upper) (symbols_q is) along.upper_leads)
+                (ap (goto_of table bottom) (sym (ap (rule_of g) is ∙ begins.of_rule)) ∙ along.goto),
             tt,
           );
           followed = λ says. followed_node parts.first children t n children
-              (λ is at. (last_of start has.above, sym (ap (λ (k : ℕ). action_of table (last_of start has.above) k) at) ∙ action ∙ ap (λ (k : ℕ). ReduceBy k) is))
+              (λ is at. (last_of bottom upper, sym (ap (λ (k : ℕ). action_of table (last_of bottom upper) k) at) ∙ along.action ∙ ap (λ (k : ℕ). ReduceBy k) is))
               (followed says);
         }
 

@@ -1,3 +1,10 @@
+pub mod CalledLemmas
 pub mod GrownLemmas
+pub mod KernelLemmas
+pub mod LevelLemmas
+pub mod OperatorLemmas
+pub mod ReducedLemmas
 pub mod RepairLemmas
 pub mod RespectLemmas
+pub mod SpineLemmas
+pub mod StopLemmas

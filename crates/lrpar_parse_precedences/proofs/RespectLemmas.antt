@@ -18,6 +18,7 @@ use Rattle.lrpar_parse_repair.specs.Sequences.{PlainStep}
 use Rattle.lrpar_parse_precedences.specs.PrecedenceTrees.{EachNode, EachNodeIn, RepairedTreesRespectPrecedences, TreesRespectPrecedences}
 use Rattle.lrpar_parse_precedences.proofs.GrownLemmas.{run_is_good}
 use Rattle.lrpar_parse_precedences.proofs.RepairLemmas.{repaired_is_good}
+use Rattle.lrpar_parse_precedences.proofs.StopLemmas.{stops_unreduced}
 use Rattle.lrpar_table_stacks.proofs.PathLemmas.{never_sticks}
 
 -- what follows for each node from what holds of it
@@ -56,13 +57,26 @@ trees_respect_precedences {X} token precedences g graph table well closed built 
       first = λ says. subst (EachNode _) same (each_so _ _ (λ n children node. node.1 says) good.tree good.good);
     }
 
+-- for each half, runs with repairs make a tree of which it holds, and that is the only one with its leaves and its productions
 pub repaired_trees_respect_precedences : {X : Type 0} (facts : X → LexemeFacts) (allows : Point X → List (List PlainStep) → Type 0)
     → RepairedTreesRespectPrecedences facts allows
-repaired_trees_respect_precedences {X} facts allows k precedences g graph table well closed built lexemes tree of_run p q r b ends begins says none =
+repaired_trees_respect_precedences {X} facts allows k precedences g graph table well closed built lexemes tree of_run p q r b ends begins =
+    let token : X → ℕ = λ x. (facts x).token in
     let apart = precedences_keep_apart precedences g graph table well built p q r b ends begins in
     let never = never_sticks g graph table closed built.safe well in
-    let good = repaired_is_good facts g table never p q r b ends begins (Unit {0})
-    (λ _. no_shift precedences g graph table p b built apart says none) allows k lexemes of_run.found of_run.consumed of_run.prods of_run.run in
-    let same = same_tree (λ (x : X). (facts x).token) g good.tree tree (Nonterminal g.start) good.fits of_run.fits
-    (good.productions_are ∙ sym of_run.productions_are) (good.leaves_are ∙ sym of_run.leaves_are) in
-    subst (EachNode _) same (each_so _ _ (λ n children node. node.0 tt) good.tree good.good)
+    record {
+      last = λ says none.
+          let good = repaired_is_good facts g table never p q r b ends begins (Unit {0}) ⊥
+          (λ _. no_shift precedences g graph table p b built apart says none) (λ silent. absurd silent)
+          allows k lexemes (inl (λ silent. silent)) of_run.found of_run.consumed of_run.prods of_run.run in
+          let same = same_tree token g good.tree tree (Nonterminal g.start) good.fits of_run.fits
+          (good.productions_are ∙ sym of_run.productions_are) (good.leaves_are ∙ sym of_run.leaves_are) in
+          subst (EachNode _) same (each_so _ _ (λ n children node. node.0 tt) good.tree good.good);
+      first = λ says none each apart_from_end.
+          let good = repaired_is_good facts g table never p q r b ends begins ⊥ (Unit {0}) (λ silent. absurd silent) (λ _. apart.no_reduction says)
+          allows k lexemes (inr (stops_unreduced g precedences graph table well closed built each none token lexemes apart_from_end))
+          of_run.found of_run.consumed of_run.prods of_run.run in
+          let same = same_tree token g good.tree tree (Nonterminal g.start) good.fits of_run.fits
+          (good.productions_are ∙ sym of_run.productions_are) (good.leaves_are ∙ sym of_run.leaves_are) in
+          subst (EachNode _) same (each_so _ _ (λ n children node. node.1 tt) good.tree good.good);
+    }

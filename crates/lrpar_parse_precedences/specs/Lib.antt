@@ -1,1 +1,2 @@
 pub mod PrecedenceTrees
+pub mod OperatorGrammars

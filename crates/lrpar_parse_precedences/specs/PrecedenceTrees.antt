@@ -1,16 +1,19 @@
 -- Trees that respect precedences.
-use Rattle.std.specs.Prelude.{◌≡◌, ℕ, List, [], ◌∷◌, Some}
+use Rattle.std.specs.Prelude.{◌≡◌, ◌≢◌, ℕ, All, List, [], ◌∷◌, Some}
 use Rattle.lrpar_grammar.specs.Grammar.{Grammar, IsWellFormed, Nonterminal}
 use Rattle.lrpar_grammar.specs.Sentence.{LexemeFacts}
 use Rattle.lrpar_grammar.specs.Tree.{Tree, Forest, Leaf, Branch, Nil, Cons, leaves, productions, Fits}
 use Rattle.lrpar_table_precedence.specs.Precedence.{PrecedenceLists, resolution_of}
+use Rattle.lrpar_table_precedence.specs.declared.precedence.Resolution.TheVariants.{Error}
 use Rattle.lrpar_table_rows.specs.Graph.{Graph}
-use Rattle.lrpar_table_rows.specs.Table.{IsClosed, Table}
+use Rattle.lrpar_table_rows.specs.Table.{IsClosed, ResolvedOf, Table}
 use Rattle.lrpar_table_build.specs.BuilderLaws.{lists_in}
 use Rattle.lrpar_table_build.specs.Built.{IsBuiltBy}
 use Rattle.lrpar_table_build.specs.KeptApart.{BeginsWithItsRule, EndsInItsRule, ReducesOrFails, ShiftsOrFails}
+use Rattle.lrpar_table_sentences.specs.Reachable.{EachReachableHasTree}
 use Rattle.lrpar_table_check.specs.CompleteRuns.{RunsTo}
 use Rattle.lrpar_table_stacks.specs.Run.{Accepted}
+use Rattle.lrpar_table_stacks.specs.RunLaws.{KeepOffEnd}
 use Rattle.lrpar_parse_repair.specs.Recovery.{Point}
 use Rattle.lrpar_parse_repair.specs.Sequences.{PlainStep}
 use Rattle.lrpar_parse_run.specs.RepairRun.{RepairRun, RepairStop}
@@ -80,11 +83,22 @@ TreesRespectPrecedences X =
     → IsBuiltBy g precedences graph table → (lexemes : List X) (tree : Tree X) → IsTreeOfRun token g table lexemes tree
     → (p q r b : ℕ) → EndsInItsRule g p r → BeginsWithItsRule g q r b → Respects precedences table p q b tree
 
--- and the trees of any runs, also of those with repairs, respect what p against b says of last children; `allows` says which answers the
--- recoverer may give at an error point
+-- no conflict was resolved to an error
+abbrev pub NoneIsError : List ResolvedOf → Type 0
+NoneIsError resolved = All (λ x. x.by ≢ Error) resolved
+
+-- What p against b says of nodes of p and q in the tree of any run, also of one with repairs: of last children the same. Of first
+-- children the same, if no conflict was resolved to an error, each reachable rule is productive, and no lexeme has the end token: then
+-- an error is found before any reduction.
+pub record RespectsRepaired {X : Type 0} (token : X → ℕ) (precedences : PrecedenceLists) (g : Grammar) (table : Table) (lexemes : List X) (p q b : ℕ) (tree : Tree X) : Type 0 where
+  pub last : ReducesOrFails (resolution_of precedences p b) → (lists_in table.conflicts).reduce_reduce ≡ [] → HasNoneLast p q tree
+  pub first : ShiftsOrFails (resolution_of precedences p b) → NoneIsError table.resolved → EachReachableHasTree g → KeepOffEnd token g lexemes
+      → HasNoneFirst p q tree
+
+-- and so do the trees of any runs; `allows` says which answers the recoverer may give at an error point
 abbrev pub RepairedTreesRespectPrecedences : {X : Type 0} → (X → LexemeFacts) → (Point X → List (List PlainStep) → Type 0) → Type 0
 RepairedTreesRespectPrecedences {X} facts allows =
     (k : ℕ) (precedences : PrecedenceLists) (g : Grammar) (graph : Graph) (table : Table) → IsWellFormed g → IsClosed table
     → IsBuiltBy g precedences graph table → (lexemes : List X) (tree : Tree X) → IsTreeOfRepairRun facts allows k g table lexemes tree
     → (p q r b : ℕ) → EndsInItsRule g p r → BeginsWithItsRule g q r b
-    → ReducesOrFails (resolution_of precedences p b) → (lists_in table.conflicts).reduce_reduce ≡ [] → HasNoneLast p q tree
+    → RespectsRepaired (λ x. (facts x).token) precedences g table lexemes p q b tree
