@@ -87,7 +87,9 @@ def add_reading(rows, number, text, is_original, file, text_fault):
     """what has to come of the file: the first fault, or the erased lines and what is declared"""
     fault = file.fault() or text_fault or file.unknown(file.tokens)
     came = [f"fault {fault}"] if fault else [*erased_lines(file.erased()), *declared_lines(file)]
-    if all(line == line.strip() for line in came):
+    # A row has no blanks at the ends of a value.
+    values = [line.partition(" ")[2] for line in came]
+    if values == [value.strip() for value in values]:
         rows.add("yacc", number, f"text {escaped(text)}", "kind original" if is_original else None, *came)
 
 
@@ -205,14 +207,15 @@ def add_expression(chance, rows, number):
     """a grammar of one rule with operators, and a parse"""
     signs = chance.sample("+ - * / < > = ^ % & ! ~".split(), chance.randint(1, 6))
     levels = [(chance.choice(("left", "left", "right", "nonassoc")), []) for _ in range(chance.randint(1, 4))]
-    for sign in [*(sign for sign in signs if chance.random() < 0.9), "LEVEL"]:
+    for sign in [*(sign for sign in [*signs, *map(partner_of, signs)] if chance.random() < 0.9), "LEVEL"]:
         chance.choice(levels)[1].append(sign)
     forms = {form: chance.choice((None, None, None, "LEVEL", *signs)) for form in any_forms(chance, signs)}
     text = expression_text(chance, levels, forms)
     level_of = {name: (level, kind) for level, (kind, names) in enumerate(levels) for name in names}
-    precedence = {(form, sign): level_of.get(named or sign) for (form, sign), named in forms.items()}
+    precedence = {(form, sign): level_of.get(named or last_of(form, sign)) for (form, sign), named in forms.items()}
     tokens = any_expression(chance, sorted(forms), chance.choice((1, 2, 4, 8)))
-    names = list(dict.fromkeys([*(sign for _, sign in forms), "(", ")", "n"]))
+    names = [symbol.name for form, sign in forms for symbol in symbols_of(form, sign) if symbol.is_token]
+    names = list(dict.fromkeys([*names, "(", ")", "n"]))
     if chance.random() < 0.2:
         tokens, _ = changed(chance, tokens, names)
     parsed = Climbing(tokens, precedence, level_of).parsed()
@@ -224,21 +227,35 @@ def add_expression(chance, rows, number):
 
 
 def any_forms(chance, signs):
-    """forms of operators, each with its sign; a sign is not both between two operands and after one"""
+    """forms of operators, each with its sign; no sign has two forms after an operand"""
     found = []
     for sign in signs:
-        found += chance.choice(([("infix", sign)],) * 4 + ([("infix", sign), ("prefix", sign)], [("prefix", sign)], [("postfix", sign)]))
+        one = chance.choice(("infix", "infix", "infix", "mixed", "prefix", "postfix"))
+        found += [(one, sign)] + ([("prefix", sign)] if one != "prefix" and chance.random() < 0.15 else [])
     return found
 
 
+def partner_of(sign):
+    """the second sign of an operator between three operands"""
+    return f"{sign}2"
+
+
+def last_of(form, sign):
+    """the last token of an operator"""
+    return partner_of(sign) if form == "mixed" else sign
+
+
 def symbols_of(form, sign):
-    operand = rule("E")
-    return {"infix": [operand, token(sign), operand], "prefix": [token(sign), operand], "postfix": [operand, token(sign)]}[form]
+    operand, sign, partner = rule("E"), token(sign), token(partner_of(sign))
+    return {
+        "infix": [operand, sign, operand], "prefix": [sign, operand], "postfix": [operand, sign],
+        "mixed": [operand, sign, operand, partner, operand],
+    }[form]  # fmt: skip
 
 
 def expression_text(chance, levels, forms):
     """the text of the grammar with these levels and forms, each with a name for its `%prec`, or None"""
-    shapes = {"infix": "E '{}' E", "prefix": "'{}' E", "postfix": "E '{}'"}
+    shapes = {"infix": "E '{0}' E", "prefix": "'{0}' E", "postfix": "E '{0}'", "mixed": f"E '{{0}}' E '{partner_of('{0}')}' E"}
     texts = []
     for (form, sign), named in forms.items():
         prec = f" %prec '{named}'" if named else ""
@@ -262,6 +279,10 @@ def any_expression(chance, forms, size):
     if form == "infix":
         left = chance.randrange(size)
         return [*any_expression(chance, forms, left), sign, *any_expression(chance, forms, size - 1 - left)]
+    if form == "mixed":
+        sizes = [chance.randrange(size) // 2 for _ in range(3)]
+        first, second, third = (any_expression(chance, forms, size) for size in sizes)
+        return [*first, sign, *second, partner_of(sign), *third]
     below = any_expression(chance, forms, size - 1)
     return [sign, *below] if form == "prefix" else [*below, sign]
 
@@ -291,12 +312,18 @@ class Climbing:
         self.at += 1
         return token(self.tokens[self.at - 1]), self.at - 1
 
+    def taken(self, name):
+        """the next token, if it has this name"""
+        if self.next() != name:
+            raise Stuck
+        return self.take()
+
     def expression(self, pending):
         """an expression, where a production with this precedence is pending, or nothing is if it is None"""
         left = self.operand()
         while True:
             sign = self.next()
-            form = next((form for form in ("infix", "postfix") if (form, sign) in self.forms), None)
+            form = next((form for form in ("infix", "mixed", "postfix") if (form, sign) in self.forms), None)
             if form is None:
                 return left
             how = decided(pending[0], self.levels.get(sign)) if pending else "shifts"
@@ -305,7 +332,9 @@ class Climbing:
             if how == "reduces":
                 return left
             below = [left, self.take()]
-            if form == "infix":
+            if form == "mixed":
+                below += [self.expression(None), self.taken(partner_of(sign))]
+            if form != "postfix":
                 below.append(self.expression((self.forms[form, sign],)))
             left = ("E", below)
 
@@ -314,10 +343,7 @@ class Climbing:
         if sign == "n":
             return "E", [self.take()]
         if sign == "(":
-            below = [self.take(), self.expression(None)]
-            if self.next() != ")":
-                raise Stuck
-            return "E", [*below, self.take()]
+            return "E", [self.take(), self.expression(None), self.taken(")")]
         if ("prefix", sign) in self.forms:
             return "E", [self.take(), self.expression((self.forms["prefix", sign],))]
         raise Stuck

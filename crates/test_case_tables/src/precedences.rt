@@ -1,7 +1,8 @@
 //! Tables by the precedences of `.y` files, and how they resolve conflicts.
+use crate::faults::of_file;
 use crate::rows::{push_conflicts, push_place};
 use crate::subject::{MAX_STATES, Tables, grammar_of, of_unbuilt, read_back};
-use lrpar_grammar::grammar::{YaccFile, YaccFileFault, YaccGrammar};
+use lrpar_grammar::grammar::{YaccFile, YaccGrammar};
 use lrpar_grammar::span::{PIdx, TIdx};
 use lrpar_table::build::parser_data_with;
 use lrpar_table::check::ParserData;
@@ -54,8 +55,7 @@ fn file_of<'a>(
 ) -> Result<YaccFile<'a, u32>, Fault> {
     match YaccGrammar::new_with_kind(alloc, kind_of(case), text) {
         Ok(file) => Ok(file),
-        Err(YaccFileFault::Memory) => Err(Fault::Memory),
-        Err(_) => Err(Fault::Line(case.number, "the text is no grammar")),
+        Err(fault) => Err(of_file(&fault, case.number, "the text is no grammar")),
     }
 }
 
