@@ -14,7 +14,7 @@ use Rattle.lrpar_table_build.specs.BuilderLaws.{lists_in}
 use Rattle.lrpar_table_sentences.specs.Moves.{MoveOf}
 use Rattle.lrpar_conflict_derivations.specs.Example.{IsExample}
 use Rattle.lrpar_conflict_derivations.specs.Derivation.{IsDerivation}
-use Rattle.lrpar_conflict_examples.specs.Conflicts.{AddsExamples, AreExamplesOf, ConflictExampleOf, ConflictOf, IsExampleOf, conflicts_in, of_reductions, of_shift}
+use Rattle.lrpar_conflict_examples.specs.Conflicts.{AddsExamples, AreAmong, AreExamplesOf, ConflictExampleOf, ConflictOf, IsExampleOf, conflicts_in, of_reductions, of_shift}
 use Rattle.lrpar_conflict_examples.specs.ExamplesFit.{ExamplesFit, DerivesFrom}
 use Rattle.lrpar_conflict_examples.specs.Fits.{IsMoveOf}
 use Rattle.lrpar_conflict_examples.proofs.KnownLemmas.{all_both}
@@ -72,12 +72,22 @@ pub adds_all : {A B : Type 0} (g : Grammar) (graph : Graph) (bound : ℕ) (f : A
     → length xs ≤ i → AddsExamples g graph bound (map own (map f (take i xs))) old new → AddsExamples g graph bound (map own (map f xs)) old new
 adds_all g graph bound f own xs i old new past adds = subst (λ l. AddsExamples g graph bound (map own (map f l)) old new) (take_all i xs past) adds
 
--- an element of a list is among the values that the list represents
-pub is_member : {A B : Type 0} (f : A → B) (xs : List A) (all : List B) (i : ℕ) (x : A) → i < length xs → x ≡ get_or xs i x → map f xs ≡ all
+-- an element of a list is among the values that it was taken from
+pub is_member : {A B : Type 0} (f : A → B) (xs : List A) (all : List B) (i : ℕ) (x : A) → i < length xs → x ≡ get_or xs i x → AreAmong (map f xs) all
     → Contains all (f x)
-is_member f xs all i x low is same =
+is_member f xs all i x low is among =
     let there : Contains xs x = subst (Contains xs) (sym is) (Contains-get_or xs i x low) in
-    subst (λ l. Contains l (f x)) same (Contains-image f xs x there)
+    among (f x) (Contains-image f xs x there)
+
+-- each list is among itself
+pub among_same : {X : Type 0} (xs all : List X) → xs ≡ all → AreAmong xs all
+among_same xs all same = λ x there. subst (λ l. Contains l x) same there
+
+-- what holds of all holds of those that are among them
+among_all : {X : Type 0} (P : X → Type 0) (xs all : List X) → AreAmong xs all → All P all → All P xs
+among_all P xs all among holds = λ k d low.
+    let there = among (get_or xs k d) (Contains-get_or xs k d low) in
+    subst P there.2 (holds there.0 (get_or xs k d) there.1)
 
 -- if there are no conflicts, there are no counterexamples
 pub no_examples : (g : Grammar) (graph : Graph) (bound : ℕ) (conflicts : Option ConflictLists) (items : List ConflictExampleOf) → conflicts ≡ None → items ≡ []
@@ -105,10 +115,12 @@ shifts_named g (x ∷ xs) all =
     let token : x.token < tokens_len g = let below : x.token < end_token g = own.token in omega (arith, below) in
     (record { token = token; first = own.prod; second = token }, shifts_named g xs (λ k d h. all (suc k) d (omega (arith, h))))
 
-conflicts_named : (g : Grammar) (lists : ConflictLists) → ConflictsFit g lists → AllByRecursion (NamesOf g) (conflicts_in lists)
-conflicts_named g lists fit =
-    all_both (NamesOf g) (map of_reductions lists.reduce_reduce) (map of_shift lists.shift_reduce)
-    (reductions_named g lists.reduce_reduce fit.reduce_reduce) (shifts_named g lists.shift_reduce fit.shift_reduce)
+conflicts_named : (g : Grammar) (lists : ConflictLists) (reductions : List ReduceReduce) (shifts : List ShiftReduce) → ConflictsFit g lists
+    → AreAmong reductions lists.reduce_reduce → AreAmong shifts lists.shift_reduce → AllByRecursion (NamesOf g) (map of_reductions reductions ++ map of_shift shifts)
+conflicts_named g lists reductions shifts fit first second =
+    all_both (NamesOf g) (map of_reductions reductions) (map of_shift shifts)
+    (reductions_named g reductions (among_all (ReductionsFit g) reductions lists.reduce_reduce first fit.reduce_reduce))
+    (shifts_named g shifts (among_all (ShiftFits g) shifts lists.shift_reduce second fit.shift_reduce))
 
 -- a derivation is that of a tree
 derives_from : (g : Grammar) (before : List ℕ) (token : ℕ) (trees : Forest ℕ) (next : MoveOf) (moves : List MoveOf) (tree : Tree ℕ)
@@ -136,18 +148,14 @@ each_fits g graph bound (x ∷ xs) named each =
       each_fits g graph bound xs named.1 each.1,
     )
 
-pub examples_fit : (g : Grammar) (graph : Graph) (bound : ℕ) (lists : ConflictLists) (xs : List ConflictExampleOf) → ConflictsFit g lists
-    → AreExamplesOf g graph bound (conflicts_in lists) xs → ExamplesFit g xs
-examples_fit g graph bound lists xs fit are =
-    each_fits g graph bound xs (subst (AllByRecursion (NamesOf g)) (sym are.conflicts_are) (conflicts_named g lists fit)) are.each
+pub examples_fit : (g : Grammar) (graph : Graph) (bound : ℕ) (lists : ConflictLists) (reductions : List ReduceReduce) (shifts : List ShiftReduce)
+    (xs : List ConflictExampleOf) → ConflictsFit g lists → AreAmong reductions lists.reduce_reduce → AreAmong shifts lists.shift_reduce
+    → AreExamplesOf g graph bound (map of_reductions reductions ++ map of_shift shifts) xs → ExamplesFit g xs
+examples_fit g graph bound lists reductions shifts xs fit first second are =
+    each_fits g graph bound xs (subst (AllByRecursion (NamesOf g)) (sym are.conflicts_are) (conflicts_named g lists reductions shifts fit first second)) are.each
 
 -- those of both lists
-pub all_listed : (g : Grammar) (graph : Graph) (bound : ℕ) (lists : ConflictLists) (reductions : List ReduceReduce) (shifts : List ShiftReduce)
-    (none middle new : List ConflictExampleOf) → none ≡ [] → reductions ≡ lists.reduce_reduce → shifts ≡ lists.shift_reduce
-    → AddsExamples g graph bound (map of_reductions reductions) none middle → AddsExamples g graph bound (map of_shift shifts) middle new
-    → AreExamplesOf g graph bound (conflicts_in lists) new
-all_listed g graph bound lists reductions shifts none middle new empty first second one other =
-    adds_first g graph bound (conflicts_in lists) none new empty
-    (subst (λ xs. AddsExamples g graph bound (map of_reductions xs ++ map of_shift lists.shift_reduce) none new) first
-    (subst (λ ys. AddsExamples g graph bound (map of_reductions reductions ++ map of_shift ys) none new) second
-    (adds_both g graph bound (map of_reductions reductions) (map of_shift shifts) none middle new one other)))
+pub all_listed : (g : Grammar) (graph : Graph) (bound : ℕ) (reductions shifts : List ConflictOf) (none middle new : List ConflictExampleOf) → none ≡ []
+    → AddsExamples g graph bound reductions none middle → AddsExamples g graph bound shifts middle new → AreExamplesOf g graph bound (reductions ++ shifts) new
+all_listed g graph bound reductions shifts none middle new empty one other =
+    adds_first g graph bound (reductions ++ shifts) none new empty (adds_both g graph bound reductions shifts none middle new one other)

@@ -1,6 +1,6 @@
 -- The conflicts of a table, and their counterexamples.
 use Rattle.std.specs.Prelude.{◌≡◌, ℕ, List, ◌++◌, map}
-use Rattle.std.specs.List.{AllByRecursion}
+use Rattle.std.specs.List.{AllByRecursion, Contains}
 use Rattle.lrpar_grammar.specs.Grammar.{Grammar}
 use Rattle.lrpar_table_rows.specs.Graph.{Graph}
 use Rattle.lrpar_table_rows.specs.Table.{ConflictLists, ReduceReduce, ShiftReduce}
@@ -21,6 +21,10 @@ of_reductions x = record { token = x.token; state = x.state; first = Makes x.fir
 -- a reduction of a production, and a shift of the token
 abbrev pub of_shift : ShiftReduce → ConflictOf
 of_shift x = record { token = x.token; state = x.state; first = Makes x.prod; second = Takes x.token }
+
+-- each of the first list is in the second
+abbrev pub AreAmong : {X : Type 0} → List X → List X → Type 0
+AreAmong {X} xs all = (x : X) → Contains xs x → Contains all x
 
 -- all conflicts, those between two reductions first
 abbrev pub conflicts_in : ConflictLists → List ConflictOf

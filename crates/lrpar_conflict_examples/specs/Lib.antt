@@ -1,6 +1,7 @@
 pub mod Conflicts
 pub mod Fits
 pub mod ExamplesFit
+pub mod Met
 pub mod Words
 pub mod Texts
 pub mod Pieces

@@ -2,5 +2,6 @@
 pub use crate::conflict::ConflictExample;
 pub use crate::listed::conflict_examples;
 pub use crate::text::format_examples;
+pub use crate::unresolved::{ConflictsLeft, UnmetConflict, conflict_examples_with};
 pub use lrpar_conflict_derivations::examples::{Example, ExampleFault, Examples};
 pub use lrpar_table_sentences::moves::Move;

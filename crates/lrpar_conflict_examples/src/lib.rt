@@ -4,6 +4,8 @@
 mod conflict;
 pub mod examples;
 mod listed;
+mod met;
 mod pieces;
 mod text;
+mod unresolved;
 mod words;

@@ -1,17 +1,17 @@
 //! Counterexamples of all conflicts of a table.
-ghost use Rattle.std.specs.Prelude.{◌≡◌, IfErr, IfOk, OnOk, map};
+ghost use Rattle.std.specs.Prelude.{◌++◌, IfErr, IfOk, OnOk, map};
 ghost use Rattle.lrpar_table_build.specs.Built.{IsBuilt};
 ghost use Rattle.lrpar_table_build.specs.BuilderLaws.{lists_in};
 ghost use Rattle.lrpar_table_rows.specs.PlainConflicts.{reduce_reduce_of, shift_reduce_of};
 ghost use Rattle.lrpar_conflict_derivations.specs.Example.{AreExamplesFor, IsExampleFault};
-ghost use Rattle.lrpar_conflict_examples.specs.Conflicts.{AddsExamples, AreExamplesOf, conflicts_in, of_reductions, of_shift};
+ghost use Rattle.lrpar_conflict_examples.specs.Conflicts.{AddsExamples, AreAmong, AreExamplesOf, conflicts_in, of_reductions, of_shift};
 ghost use Rattle.lrpar_conflict_examples.specs.ExamplesFit.{ExamplesFit};
 
 use crate::conflict::ConflictExample;
 use lrpar_conflict_derivations::examples::{ExampleFault, Examples};
 use lrpar_grammar::grammar::YaccGrammar;
 use lrpar_grammar::span::{PIdx, StIdx, StorageIndex, TIdx};
-use lrpar_table_rows::table::{Conflicts, StateGraph, StateTable};
+use lrpar_table_rows::table::{StateGraph, StateTable};
 use std::alloc::{AllocError, Global};
 
 /// A counterexample of each conflict of a table that was built of the grammar: first those of reduce/reduce conflicts, then those of
@@ -34,23 +34,34 @@ pub fn conflict_examples<StorageT: StorageIndex>(
     ensures refused { IfErr result (IsExampleFault StorageT.index grm.now) }
 {
     match stable.conflicts() {
-        Some(conflicts) => examples_of(alloc, grm, sgraph, stable, conflicts, bound),
+        Some(conflicts) => {
+            let (reductions, shifts) = (conflicts.rr_conflicts(), conflicts.sr_conflicts());
+            examples_of(alloc, grm, sgraph, stable, reductions, shifts, bound)
+        }
         None => Ok(Vec::new(alloc)),
     }
 }
 
-// A counterexample of each of the conflicts of the table.
-fn examples_of<StorageT: StorageIndex>(
+// A counterexample of each of these conflicts of the table.
+pub(crate) fn examples_of<StorageT: StorageIndex>(
     alloc: Global,
     grm: &YaccGrammar<StorageT>,
     sgraph: &StateGraph<StorageT>,
     stable: &StateTable<StorageT>,
-    conflicts: &Conflicts<StorageT>,
+    reductions: &[(
+        TIdx<StorageT>,
+        PIdx<StorageT>,
+        PIdx<StorageT>,
+        StIdx<StorageT>,
+    )],
+    shifts: &[(TIdx<StorageT>, PIdx<StorageT>, StIdx<StorageT>)],
     bound: usize,
 ) -> Result<Vec<ConflictExample<StorageT>>, ExampleFault<StorageT>>
     requires built { IsBuilt grm.now sgraph.now stable.now }
-    requires conflicts { conflicts.now ≡ lists_in stable.now.conflicts }
-    ensures examples { IfOk result (λ examples. AreExamplesOf grm.now sgraph.now bound (conflicts_in (lists_in stable.now.conflicts)) examples.items) }
+    requires reductions { AreAmong (map (reduce_reduce_of StorageT.index) reductions.now) (lists_in stable.now.conflicts).reduce_reduce }
+    requires shifts { AreAmong (map (shift_reduce_of StorageT.index) shifts.now) (lists_in stable.now.conflicts).shift_reduce }
+    ensures examples { IfOk result (λ examples. AreExamplesOf grm.now sgraph.now bound
+        (map of_reductions (map (reduce_reduce_of StorageT.index) reductions.now) ++ map of_shift (map (shift_reduce_of StorageT.index) shifts.now)) examples.items) }
     ensures fit { IfOk result (λ examples. ExamplesFit grm.now examples.items) }
     ensures refused { IfErr result (IsExampleFault StorageT.index grm.now) }
 {
@@ -62,7 +73,7 @@ fn examples_of<StorageT: StorageIndex>(
         sgraph,
         stable,
         &shared,
-        conflicts.rr_conflicts(),
+        reductions,
         bound,
         &mut examples,
     )?;
@@ -72,7 +83,7 @@ fn examples_of<StorageT: StorageIndex>(
         sgraph,
         stable,
         &shared,
-        conflicts.sr_conflicts(),
+        shifts,
         bound,
         &mut examples,
     )?;
@@ -97,7 +108,7 @@ fn push_reductions<StorageT: StorageIndex>(
 ) -> Result<(), AllocError>
     requires built { IsBuilt grm.now sgraph.now stable.now }
     requires shared { AreExamplesFor grm.now sgraph.now stable.now usize.MAX shared.now }
-    requires conflicts { map (reduce_reduce_of StorageT.index) conflicts.now ≡ (lists_in stable.now.conflicts).reduce_reduce }
+    requires conflicts { AreAmong (map (reduce_reduce_of StorageT.index) conflicts.now) (lists_in stable.now.conflicts).reduce_reduce }
     ensures { OnOk result (AddsExamples grm.now sgraph.now bound (map of_reductions (map (reduce_reduce_of StorageT.index) conflicts.now))
         examples.old.items examples.new.items) }
 {
@@ -121,7 +132,7 @@ fn push_shifts<StorageT: StorageIndex>(
 ) -> Result<(), AllocError>
     requires built { IsBuilt grm.now sgraph.now stable.now }
     requires shared { AreExamplesFor grm.now sgraph.now stable.now usize.MAX shared.now }
-    requires conflicts { map (shift_reduce_of StorageT.index) conflicts.now ≡ (lists_in stable.now.conflicts).shift_reduce }
+    requires conflicts { AreAmong (map (shift_reduce_of StorageT.index) conflicts.now) (lists_in stable.now.conflicts).shift_reduce }
     ensures { OnOk result (AddsExamples grm.now sgraph.now bound (map of_shift (map (shift_reduce_of StorageT.index) conflicts.now))
         examples.old.items examples.new.items) }
 {

@@ -1,0 +1,120 @@
+-- The states that a parse can meet if precedences resolve conflicts: those that lie on a path of shifts and gotos from the start, without
+-- the shifts that precedences take away.
+use Rattle.std.specs.Prelude.{◌≡◌, ◌<◌, ◌↔◌, ◌&&◌, ◌==◌, ℕ, Bool, true, false, Contains, IsTrue, List, [], ◌∷◌, ◌++◌, Option, Some, None, filter, length, map, not, if◌then◌else◌}
+use Rattle.std.specs.List.{flat_map, list_any, range_with_len}
+use Rattle.lrpar_grammar.specs.Grammar.{Grammar}
+use Rattle.lrpar_grammar.specs.Tokens.{has}
+use Rattle.lrpar_table_first.specs.FirstRows.{row_at}
+use Rattle.lrpar_table_precedence.specs.Precedence.{PrecedenceLists, resolution_of}
+use Rattle.lrpar_table_precedence.specs.declared.precedence.Resolution.{Resolution}
+use Rattle.lrpar_table_precedence.specs.declared.precedence.Resolution.TheVariants.{Shift, Reduce, Error}
+use Rattle.lrpar_table_rows.specs.Graph.{Graph}
+use Rattle.lrpar_table_rows.specs.Table.{ConflictLists, ShiftReduce, Table, TableAction, ShiftTo, ReduceBy, Accepts, Fails, action_of, actions_at, goto_of, gotos_at, states_len}
+use Rattle.lrpar_table_build.specs.BuilderLaws.{lists_in}
+use Rattle.lrpar_table_items.specs.Resolution.{unresolved}
+use Rattle.lrpar_table_sentences.specs.Moves.{move_of}
+use Rattle.lrpar_table_sentences.specs.Reachable.{is_marked}
+use Rattle.lrpar_conflict_examples.specs.Conflicts.{AreExamplesOf, ConflictOf, of_reductions, of_shift}
+use Rattle.lrpar_conflict_examples.specs.declared.unresolved.ConflictsLeft.{ConflictsLeft}
+use Rattle.lrpar_conflict_examples.specs.declared.unresolved.UnmetConflict.{UnmetConflict}
+
+-- how a conflict is resolved: the shift isn't made
+abbrev pub loses_shift : Option Resolution → Bool
+loses_shift None = false
+loses_shift (Some Shift) = false
+loses_shift (Some Reduce) = true
+loses_shift (Some Error) = true
+
+-- the conflict is in state s at token t, and precedences take its shift away
+abbrev pub takes_away : PrecedenceLists → ℕ → ℕ → ShiftReduce → Bool
+takes_away precedences s t x = loses_shift (resolution_of precedences x.prod x.token) && ((x.state == s) && (x.token == t))
+
+-- whether precedences take away the shift of token t in state s
+abbrev pub is_taken_away : PrecedenceLists → Table → ℕ → ℕ → Bool
+is_taken_away precedences table s t = list_any (takes_away precedences s t) (lists_in table.conflicts).shift_reduce
+
+-- a step from state s to state next: a shift that precedences leave, or a goto
+pub data IsStep (precedences : PrecedenceLists) (table : Table) (s next : ℕ) : Type 0 where
+  Shifts : (t : ℕ) → action_of table s t ≡ ShiftTo next → is_taken_away precedences table s t ≡ false → IsStep precedences table s next
+  Goes : (r : ℕ) → goto_of table s r ≡ Some next → IsStep precedences table s next
+
+-- the least set of states that has the start and, with a state, each one that a step leads to
+pub data IsMet (precedences : PrecedenceLists) (table : Table) : ℕ → Type 0 where
+  Starts : IsMet precedences table table.start
+  Steps : (s next : ℕ) → IsMet precedences table s → IsStep precedences table s next → IsMet precedences table next
+
+-- marks of a table's states: the start is marked, and only states that can be met are
+pub record AreMarks (precedences : PrecedenceLists) (table : Table) (marks : List Bool) : Type 0 where
+  pub states : length marks ≡ states_len table
+  pub start : IsTrue (is_marked marks table.start)
+  pub met : (s : ℕ) → IsTrue (is_marked marks s) → IsMet precedences table s
+
+-- the states that can be met are marked, and no others
+pub record AreMet (precedences : PrecedenceLists) (table : Table) (marks : List Bool) : Type 0 where
+  pub states : length marks ≡ states_len table
+  pub exact : (s : ℕ) → IsTrue (is_marked marks s) ↔ IsMet precedences table s
+
+-- a step whose first state is marked leads to a marked one
+abbrev pub MarksNext : List Bool → ℕ × ℕ → Type 0
+MarksNext marks edge = IsTrue (is_marked marks edge.0) → IsTrue (is_marked marks edge.1)
+
+-- for each state the tokens whose shift precedences take away
+pub record AreTakenAway (precedences : PrecedenceLists) (table : Table) (rows : List (List Bool)) : Type 0 where
+  pub states : length rows ≡ states_len table
+  pub exact : (s t : ℕ) → s < states_len table → t < table.tokens → has (row_at rows s) t ≡ is_taken_away precedences table s t
+
+-- the step by an action at a token, if it is a shift that isn't taken away
+abbrev pub shift_step : List Bool → ℕ → ℕ → TableAction → List (ℕ × ℕ)
+shift_step taken s t (ShiftTo next) = if has taken t then [] else (s, next) ∷ []
+shift_step taken s t (ReduceBy p) = []
+shift_step taken s t Accepts = []
+shift_step taken s t Fails = []
+
+-- the steps by a state's shifts, and by its gotos
+abbrev pub shift_steps : List Bool → ℕ → List (ℕ × TableAction) → List (ℕ × ℕ)
+shift_steps taken s entries = flat_map (λ entry. shift_step taken s entry.0 entry.1) entries
+
+abbrev pub goto_steps : ℕ → List (ℕ × ℕ) → List (ℕ × ℕ)
+goto_steps s entries = flat_map (λ entry. (s, entry.1) ∷ []) entries
+
+-- all steps of the states below n, state by state
+abbrev pub steps_at : Table → List (List Bool) → ℕ → List (ℕ × ℕ)
+steps_at table rows s = shift_steps (row_at rows s) s (actions_at table s) ++ goto_steps s (gotos_at table s)
+
+abbrev pub steps_below : Table → List (List Bool) → ℕ → List (ℕ × ℕ)
+steps_below table rows n = flat_map (steps_at table rows) (range_with_len 0 n)
+
+-- a step between two states of the table
+pub record IsStepOf (precedences : PrecedenceLists) (table : Table) (edge : ℕ × ℕ) : Type 0 where
+  pub from : edge.0 < states_len table
+  pub next : edge.1 < states_len table
+  pub step : IsStep precedences table edge.0 edge.1
+
+-- the steps of a table, and no others
+pub record AreSteps (precedences : PrecedenceLists) (table : Table) (edges : List (ℕ × ℕ)) : Type 0 where
+  pub sound : (edge : ℕ × ℕ) → Contains edges edge → IsStepOf precedences table edge
+  pub all : (s next : ℕ) → s < states_len table → IsStep precedences table s next → Contains edges (s, next)
+
+-- the conflicts that precedences don't resolve, those between two reductions first
+abbrev pub conflicts_left : PrecedenceLists → ConflictLists → List ConflictOf
+conflicts_left precedences lists =
+    map of_reductions lists.reduce_reduce ++ map of_shift (unresolved precedences lists.shift_reduce)
+
+-- those in states that are marked, and the others
+abbrev pub marked_ones : List Bool → List ConflictOf → List ConflictOf
+marked_ones marks conflicts = filter (λ (x : ConflictOf). is_marked marks x.state) conflicts
+
+abbrev pub other_ones : List Bool → List ConflictOf → List ConflictOf
+other_ones marks conflicts = filter (λ (x : ConflictOf). not (is_marked marks x.state)) conflicts
+
+-- a conflict that no parse meets
+abbrev pub unmet_of : {S : Type 0} → (S → ℕ) → UnmetConflict S → ConflictOf
+unmet_of index x = record { token = index x.token.0; state = index x.state.0; first = move_of index x.first; second = move_of index x.second }
+
+-- the conflicts that precedences leave: a counterexample of each in a state that can be met, and the others
+pub record AreConflictsLeft {S : Type 0} (index : S → ℕ) (g : Grammar) (precedences : PrecedenceLists) (graph : Graph) (table : Table) (bound : ℕ)
+    (left : ConflictsLeft S) : Type 0 where
+  pub marks : List Bool
+  pub met : AreMet precedences table marks
+  pub examples : AreExamplesOf g graph bound (marked_ones marks (conflicts_left precedences (lists_in table.conflicts))) left.examples.items
+  pub unmet : map (unmet_of index) left.unmet.items ≡ other_ones marks (conflicts_left precedences (lists_in table.conflicts))
