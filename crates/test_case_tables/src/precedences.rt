@@ -1,7 +1,7 @@
 //! Tables by the precedences of `.y` files, and how they resolve conflicts.
 use crate::faults::of_file;
 use crate::rows::{push_conflicts, push_place};
-use crate::subject::{MAX_STATES, Tables, grammar_of, of_unbuilt, read_back};
+use crate::subject::{MAX_STATES, Tables, of_unbuilt, read_back};
 use lrpar_grammar::grammar::{YaccFile, YaccGrammar};
 use lrpar_grammar::span::{PIdx, TIdx};
 use lrpar_table::build::parser_data_with;
@@ -15,16 +15,15 @@ use test_case_lines::names::token_name;
 use test_case_lines::printed::Printed;
 use test_case_lines::values::{cap_at, kind_of};
 
-/// The checked table of the file's text, by the precedences that it declares. Its grammar is that of the erased text.
+/// The checked table of the file's text, by the precedences that it declares.
 pub fn built_by_precedences(
     alloc: Global,
     case: Case<'_, '_>,
     text: &str,
 ) -> Result<ParserData<u32>, Fault> {
     let cap = cap_at(case, "cap")?;
-    let file = file_of(alloc, case, text)?;
-    let precedences = Precedences::declared(alloc, &file.grammar, &file.text.declarations)?;
-    let grammar = grammar_of(alloc, case, file.text.erased.as_str())?;
+    let (grammar, text) = file_of(alloc, case, text)?.into_parts();
+    let precedences = Precedences::declared(alloc, &grammar, &text.declarations)?;
     match parser_data_with(alloc, grammar, &precedences, MAX_STATES, cap) {
         Ok(data) => Ok(data),
         Err(unbuilt) => Err(of_unbuilt(&unbuilt, case.number)),
@@ -38,8 +37,7 @@ pub fn tables_by_precedences(
     text: &str,
     by_entries: ParserData<u32>,
 ) -> Result<Tables, Fault> {
-    let file = file_of(alloc, case, text)?;
-    let grammar = grammar_of(alloc, case, file.text.erased.as_str())?;
+    let (grammar, _) = file_of(alloc, case, text)?.into_parts();
     let by_rows = read_back(alloc, case, grammar, &by_entries)?;
     Ok(Tables {
         by_rows,
