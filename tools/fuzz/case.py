@@ -22,8 +22,9 @@ def expect(is_met, expected, came):
 class Case:
     """One case: its chance, its folder with files, and its runs."""
 
-    def __init__(self, chance, program, nimbleparse, folder, is_repeated):
-        self.chance, self.program, self.nimbleparse, self.folder, self.is_repeated = chance, program, nimbleparse, folder, is_repeated
+    def __init__(self, chance, programs, folder, is_repeated):
+        self.chance, self.folder, self.is_repeated = chance, folder, is_repeated
+        self.program, self.nimbleparse, self.test_cases = programs
         self.files, self.runs = {}, []
 
     def file(self, name, content):
@@ -52,8 +53,15 @@ class Case:
 
     def nimble(self, *words):
         """the answer of `nimbleparse`, within the limits"""
+        return self.run_other(self.nimbleparse, words)
+
+    def rows(self, *words):
+        """the answer of `test_cases`, within the limits"""
+        return self.run_other(self.test_cases, words)
+
+    def run_other(self, program, words):
         words = [word.encode() for word in words]
-        answer = self.nimbleparse.run(words, b"", self.folder)
+        answer = program.run(words, b"", self.folder)
         self.runs.append((words, b"", dict(self.files), answer))
         wrong = excess(answer)
         expect(wrong is None, "an answer within the limits", wrong)

@@ -5,6 +5,7 @@ from completed import completed
 from ends import ends
 from leaves import leaves, repairs
 from places import places
+from precedences import precedences
 from sentences import sentences
 
 
@@ -17,7 +18,7 @@ def same(case):
 # By name, in the order of README.md.
 PROPERTIES = {
     "ends": ends, "same": same, "leaves": leaves, "repairs": repairs, "places": places, "check": check, "sentences": sentences,
-    "completed": completed,
+    "completed": completed, "precedences": precedences,
 }
 # Which property a case has, by its number.
-PLAN = ("ends", "leaves", "repairs", "places", "check", "sentences", "ends", "repairs", "places", "sentences", "same", "ends", "completed")
+PLAN = ("ends", "leaves", "repairs", "places", "check", "sentences", "ends", "repairs", "places", "sentences", "same", "ends", "completed", "precedences")

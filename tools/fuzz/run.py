@@ -1,7 +1,7 @@
 #!/usr/bin/env python3
-"""Random use of the programs `lrpar` and `nimbleparse`: see README.md.
+"""Random use of the programs `lrpar`, `nimbleparse` and `test_cases`: see README.md.
 
-    run.py [--cases N] [--seed S] [--first NUMBER] [--only PROPERTY] [--program PATH] [--nimbleparse PATH] [--jobs J] [--keep FOLDER]
+    run.py [--cases N] [--seed S] [--first NUMBER] [--only PROPERTY] [--program PATH] [--nimbleparse PATH] [--test-cases PATH] [--jobs J] [--keep FOLDER]
 """
 import argparse
 import multiprocessing
@@ -25,6 +25,7 @@ HERE = os.path.dirname(os.path.abspath(__file__))
 CRATES = os.path.join(HERE, "..", "..", "crates")
 PROGRAM = os.path.join(CRATES, "lrpar_program", "out", "lrpar_program")
 NIMBLEPARSE = os.path.join(CRATES, "nimbleparse", "out", "nimbleparse")
+TEST_CASES = os.path.join(CRATES, "test_cases", "out", "test_cases")
 # How often the number of cases so far is printed, in seconds.
 PRINTED = 60
 
@@ -37,6 +38,7 @@ def words_of(arguments):
     words.add_argument("--only", choices=sorted(PROPERTIES))
     words.add_argument("--program", default=PROGRAM)
     words.add_argument("--nimbleparse", default=NIMBLEPARSE)
+    words.add_argument("--test-cases", default=TEST_CASES)
     words.add_argument("--jobs", type=int, default=1)
     words.add_argument("--keep", default=os.path.join(HERE, "out"))
     return words.parse_args(arguments)
@@ -54,15 +56,15 @@ def numbers(first, cases, only):
 class Worker:
     """What one process has: the programs, and a folder for the files of its case."""
 
-    def __init__(self, path, nimbleparse, seed, keep, folder):
-        self.program, self.nimbleparse, self.seed, self.keep = Program(path), Program(nimbleparse), seed, keep
+    def __init__(self, paths, seed, keep, folder):
+        self.programs, self.seed, self.keep = [Program(path) for path in paths], seed, keep
         self.folder = os.path.join(folder, str(os.getpid()))
 
     def failed(self, number):
         """makes the case, and gives what is wrong with it, if anything is; then its files are kept"""
         shutil.rmtree(self.folder, ignore_errors=True)
         os.mkdir(self.folder)
-        case = Case(random.Random(f"{self.seed}:{number}"), self.program, self.nimbleparse, self.folder, False)
+        case = Case(random.Random(f"{self.seed}:{number}"), self.programs, self.folder, False)
         name = PLAN[number % len(PLAN)]
         try:
             PROPERTIES[name](case)
@@ -126,12 +128,12 @@ def run_cases(words, shared):
 
 def main(arguments):
     words = words_of(arguments)
-    paths = [os.path.abspath(path) for path in (words.program, words.nimbleparse)]
+    paths = [os.path.abspath(path) for path in (words.program, words.nimbleparse, words.test_cases)]
     for path in paths:
         if not os.access(path, os.X_OK):
             sys.exit(f"no program at {path}")
     with tempfile.TemporaryDirectory(prefix="fuzz.") as folder:
-        failures = run_cases(words, (*paths, words.seed, words.keep, folder))
+        failures = run_cases(words, (paths, words.seed, words.keep, folder))
     print(f"{words.cases} cases, {failures} failed")
     return 1 if failures else 0
 

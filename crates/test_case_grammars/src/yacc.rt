@@ -10,6 +10,7 @@ use std::alloc::Global;
 use test_case_lines::cases::Case;
 use test_case_lines::fault::Fault;
 use test_case_lines::printed::Printed;
+use test_case_lines::values::kind_of;
 
 /// The keys that say what is done.
 pub const INPUTS: &[&str] = &["text", "kind", "show", "find"];
@@ -39,14 +40,6 @@ pub fn outcome_of_cuts(out: &mut Printed, alloc: Global, case: Case<'_, '_>) -> 
         push_cut(out, alloc, kind, text.as_str().get(..len).unwrap_or(""));
     }
     Ok(())
-}
-
-// The kind of the file.
-fn kind_of(case: Case<'_, '_>) -> YaccKind {
-    match case.value_or_nothing("kind") {
-        "original" => YaccKind::Original,
-        _ => YaccKind::Grmtools,
-    }
 }
 
 // Why there is no grammar of the file.

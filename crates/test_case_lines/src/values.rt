@@ -1,6 +1,7 @@
 //! Numbers and spans in the values of lines.
 use crate::cases::Case;
 use crate::fault::Fault;
+use lrpar_grammar::grammar::YaccKind;
 use lrpar_grammar::span::{Span, StorageIndex};
 
 /// The cap of a table whose case names none.
@@ -32,6 +33,14 @@ pub fn cap_of(number: usize, line: usize) -> Result<u16, Fault> {
     match u16::try_from(number) {
         Ok(cap) => Ok(cap),
         Err(_) => Err(Fault::Line(line, "a cap is wanted")),
+    }
+}
+
+/// The kind of the `.y` file that the line `kind` names: `original`, and otherwise `grmtools`.
+pub fn kind_of(case: Case<'_, '_>) -> YaccKind {
+    match case.value_or_nothing("kind") {
+        "original" => YaccKind::Original,
+        _ => YaccKind::Grmtools,
     }
 }
 

@@ -8,6 +8,7 @@ mod clones;
 pub mod expected;
 mod lexemes;
 pub mod parse;
+pub mod precedence;
 mod recoverer;
 mod shown;
 mod steps;

@@ -55,6 +55,16 @@ pub fn outcome(
     let Some(Subject { case: _, tables }) = subject else {
         return Err(Fault::Line(case.number, "a grammar is wanted above"));
     };
+    push_parsed(out, alloc, tables, case)
+}
+
+/// What comes of the lexemes of the case by these tables.
+pub(crate) fn push_parsed(
+    out: &mut Printed,
+    alloc: Global,
+    tables: &Tables,
+    case: Case<'_, '_>,
+) -> Result<(), Fault> {
     let given = given_of(alloc, tables.by_rows.grm(), case)?;
     let input = case.text(alloc, "input")?;
     by_lexemes(out, alloc, tables, case, &given, input.as_str())

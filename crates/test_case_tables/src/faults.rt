@@ -1,5 +1,5 @@
 //! Why a case has no table. A failed allocation stays [`Fault::Memory`].
-use lrpar_grammar::grammar::GrammarFault;
+use lrpar_grammar::grammar::{GrammarFault, YaccFault, YaccFileFault};
 use lrpar_table::check::CheckFault;
 use lrpar_table::table::TableFault;
 use test_case_lines::fault::Fault;
@@ -8,6 +8,16 @@ use test_case_lines::fault::Fault;
 pub fn of_grammar(fault: GrammarFault, line: usize, text: &'static str) -> Fault {
     match fault {
         GrammarFault::Memory => Fault::Memory,
+        _ => Fault::Line(line, text),
+    }
+}
+
+/// The same of the grammar of a `.y` file.
+pub fn of_file(fault: &YaccFileFault, line: usize, text: &'static str) -> Fault {
+    match fault {
+        YaccFileFault::Memory
+        | YaccFileFault::Text(GrammarFault::Memory)
+        | YaccFileFault::Declared(YaccFault::Memory) => Fault::Memory,
         _ => Fault::Line(line, text),
     }
 }

@@ -6,6 +6,7 @@ pub mod built;
 pub mod checks;
 pub mod faults;
 pub mod hand;
+pub mod precedences;
 pub mod refusals;
 pub mod rows;
 pub mod stack;

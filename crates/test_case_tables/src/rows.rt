@@ -210,7 +210,7 @@ fn push_reductions<S: StorageIndex>(
     conflicts: &Conflicts<S>,
 ) {
     for (token, kept, other, state) in conflicts.rr_conflicts() {
-        push_place(out, grm, *state, *token);
+        push_place(out, "conflict", grm, *state, *token);
         out.number(": reduce ", usize::from(*kept));
         out.line(" or ", &usize::from(*other));
     }
@@ -219,18 +219,20 @@ fn push_reductions<S: StorageIndex>(
 // The conflicts between a shift and a reduction.
 fn push_shifts<S: StorageIndex>(out: &mut Printed, grm: &YaccGrammar<S>, conflicts: &Conflicts<S>) {
     for (token, prod, state) in conflicts.sr_conflicts() {
-        push_place(out, grm, *state, *token);
+        push_place(out, "conflict", grm, *state, *token);
         out.line(": shift or reduce ", &usize::from(*prod));
     }
 }
 
-// In which state and at which token a conflict is.
-fn push_place<S: StorageIndex>(
+/// Adds this key, and in which state and at which token a conflict is.
+pub(crate) fn push_place<S: StorageIndex>(
     out: &mut Printed,
+    key: &str,
     grm: &YaccGrammar<S>,
     state: StIdx<S>,
     token: TIdx<S>,
 ) {
-    out.number("conflict state ", usize::from(state));
+    out.texts(key, " state ");
+    out.show(&usize::from(state));
     out.texts(", ", token_name(grm, token));
 }

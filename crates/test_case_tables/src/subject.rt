@@ -12,7 +12,7 @@ use test_case_lines::fault::Fault;
 use test_case_lines::values::cap_at;
 
 /// How many states a table may have.
-const MAX_STATES: usize = 10_000;
+pub(crate) const MAX_STATES: usize = 10_000;
 
 const UNBUILT: &str = "the grammar has no checked table";
 
@@ -56,7 +56,7 @@ fn tables_of_text(
     cap: u16,
 ) -> Result<Tables, Fault> {
     let by_entries = built(alloc, case, text, cap)?;
-    let by_rows = read_back(alloc, case, text, &by_entries);
+    let by_rows = read_back(alloc, case, grammar_of(alloc, case, text)?, &by_entries);
     tables_made(by_rows, Ok(by_entries))
 }
 
@@ -97,8 +97,8 @@ fn built(
     }
 }
 
-// Why no checked table is built.
-fn of_unbuilt(unbuilt: &Unbuilt<u32>, line: usize) -> Fault {
+/// Why no checked table is built.
+pub(crate) fn of_unbuilt(unbuilt: &Unbuilt<u32>, line: usize) -> Fault {
     match unbuilt {
         Unbuilt::Table(BuildFault::Memory, _) => Fault::Memory,
         Unbuilt::Table(..) => Fault::Line(line, UNBUILT),
@@ -106,14 +106,13 @@ fn of_unbuilt(unbuilt: &Unbuilt<u32>, line: usize) -> Fault {
     }
 }
 
-// The same table, of its rows.
-fn read_back(
+/// The same table, of its rows and of this grammar, which is its own.
+pub(crate) fn read_back(
     alloc: Global,
     case: Case<'_, '_>,
-    text: &str,
+    grm: YaccGrammar<u32>,
     data: &ParserData<u32>,
 ) -> Result<ParserData<u32>, Fault> {
-    let grm = grammar_of(alloc, case, text)?;
     let sgraph = graph_of(alloc, case, data.sgraph())?;
     let stable = table_of(alloc, case, data.stable())?;
     checked(alloc, case, grm, sgraph, stable, data.cap())

@@ -7,7 +7,7 @@ use test_case_grammars::{examples, grammars, parts, reports, spelled, underlines
 use test_case_lines::cases::Case;
 use test_case_lines::fault::Fault;
 use test_case_lines::printed::Printed;
-use test_case_parses::{chain, expected, parse};
+use test_case_parses::{chain, expected, parse, precedence};
 use test_case_tables::subject::Subject;
 use test_case_tables::{built, checks, refusals, rows, stacks};
 
@@ -26,6 +26,7 @@ pub(crate) fn inputs_of(kind: &str) -> &'static [&'static str] {
         "stack" => stacks::INPUTS,
         "expected" => expected::INPUTS,
         "chain" => chain::INPUTS,
+        "precedence" => precedence::INPUTS,
         "full" | "stored" | "sets" => refusals::INPUTS,
         "underlines" => underlines::INPUTS,
         "report" => reports::INPUTS,
@@ -59,6 +60,7 @@ pub(crate) fn outcome<R: Files>(
         "stack" => stacks::outcome(out, alloc, subject, case),
         "expected" => expected::outcome(out, alloc, subject, case),
         "chain" => chain::outcome(out, alloc, subject, case),
+        "precedence" => precedence::outcome(out, rt, alloc, case),
         "full" => refusals::outcome_of_rows(out, alloc, case),
         "stored" => refusals::outcome_of_entries(out, alloc, case),
         "sets" => refusals::outcome_of_sets(out, alloc, case),
