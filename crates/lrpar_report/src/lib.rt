@@ -33,5 +33,5 @@ pub use near::nearest;
 pub use placed::{placed_error, placed_grammar_fault, placed_rules_fault};
 pub use repairs::push_repairs;
 pub use tables::{build_report, chain_report};
-pub use warnings::{rule_warnings, token_warnings};
+pub use warnings::{rule_warnings, rule_warnings_but, token_warnings};
 pub use yacc::yacc_report;

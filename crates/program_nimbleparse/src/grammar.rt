@@ -10,7 +10,7 @@ use crate::source::{Source, source_of};
 use crate::states::push_states;
 use lrpar_grammar::grammar::{Declarations, YaccGrammar};
 use lrpar_grammar::span::TIdx;
-use lrpar_report::{Reporter, build_report, chain_report, rule_warnings};
+use lrpar_report::{Report, Reporter, build_report, chain_report, rule_warnings_but};
 use lrpar_table::build::{BuildFault, from_yacc, from_yacc_with};
 use lrpar_table::check::{CheckFault, ParserData, Refused};
 use lrpar_table::precedences::Precedences;
@@ -173,7 +173,7 @@ fn built_notes(
     requires { IsBuilt grm.now sgraph.now stable.now }
 {
     let mut notes = String::new(alloc);
-    push_reports(&mut notes, alloc, reporter, &rule_warnings(alloc, grm)?)?;
+    push_reports(&mut notes, alloc, reporter, &unused_rules(alloc, grm, declared)?)?;
     if !has_expected(declared, stable) {
         push_conflicts(&mut notes, alloc, reporter, grm, sgraph, stable)?;
     }
@@ -189,11 +189,26 @@ fn resolved_notes(
     stable: &StateTable<u32>,
 ) -> Result<String, AllocError> {
     let mut notes = String::new(alloc);
-    push_reports(&mut notes, alloc, reporter, &rule_warnings(alloc, grm)?)?;
+    push_reports(&mut notes, alloc, reporter, &unused_rules(alloc, grm, declared)?)?;
     if !has_expected(declared, stable) {
         push_unresolved(&mut notes, alloc, reporter, grm, stable)?;
     }
     Ok(notes)
+}
+
+// Warnings of rules that are of no use, but for those that the file says are unused.
+fn unused_rules(
+    alloc: Global,
+    grm: &YaccGrammar<u32>,
+    declared: Option<&Declarations<'_>>,
+) -> Result<Vec<Report>, AllocError> {
+    let mut names = Vec::new(alloc);
+    if let Some(declared) = declared {
+        for word in &declared.unused {
+            names.push(word.name)?;
+        }
+    }
+    rule_warnings_but(alloc, grm, &names)
 }
 
 // Writes the notes, and the states of the table if they are asked for.
