@@ -66,9 +66,9 @@ pub fn table_of<O: Write, E: Write>(
     out: &mut O,
     err: &mut E,
 ) -> Result<GrammarTable, Fault> {
-    let Source { grammar, file } = source_of(alloc, reporter, text, asked.kind)?;
-    let declared = match &file {
-        Some(file) => Some(&file.text.declarations),
+    let Source { grammar, text } = source_of(alloc, reporter, text, asked.kind)?;
+    let declared = match &text {
+        Some(text) => Some(&text.declarations),
         None => None,
     };
     let avoided = avoided_tokens(alloc, &grammar, declared)?;

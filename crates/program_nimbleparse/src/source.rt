@@ -2,17 +2,17 @@
 use crate::header::{Named, named_kind};
 use crate::kind::{GrammarKind, kind_by_look};
 use crate::show::fault_of_report;
-use lrpar_grammar::grammar::{GrammarFault, YaccFile, YaccGrammar, YaccKind};
+use lrpar_grammar::grammar::{GrammarFault, YaccGrammar, YaccKind, YaccText};
 use lrpar_grammar::span::Span;
 use lrpar_report::{Report, Reporter, grammar_report, push_quoted, yacc_report};
 use program_files::fault::Fault;
 use std::alloc::{AllocError, Global};
 
-/// The grammar of a file; and if that is a `.y` file, the file, which has what it declares beside the grammar.
+/// The grammar of a file; and if that is a `.y` file, its text, with what it declares beside the grammar.
 #[derive(Drop)]
 pub(crate) struct Source<'a> {
     pub(crate) grammar: YaccGrammar<u32>,
-    pub(crate) file: Option<YaccFile<'a, u32>>,
+    pub(crate) text: Option<YaccText<'a>>,
 }
 
 /// The grammar of a file of this kind. If no kind is named, it is the one that the file's header names; otherwise the file is a grammar text
@@ -72,7 +72,7 @@ fn by_look<'a>(
 fn plain<'a>(grammar: YaccGrammar<u32>) -> Source<'a> {
     Source {
         grammar,
-        file: None,
+        text: None,
     }
 }
 
@@ -89,10 +89,13 @@ fn by_yacc<'a>(
     kind: YaccKind,
 ) -> Result<Source<'a>, Fault> {
     match YaccGrammar::new_with_kind(alloc, kind, text) {
-        Ok(file) => Ok(Source {
-            grammar: YaccGrammar::new_with_storaget(alloc, file.text.erased.as_str())?,
-            file: Some(file),
-        }),
+        Ok(file) => {
+            let (grammar, text) = file.into_parts();
+            Ok(Source {
+                grammar,
+                text: Some(text),
+            })
+        }
         Err(fault) => {
             let report = yacc_report(alloc, kind, text, &fault);
             Err(fault_of_report(alloc, reporter, report))
