@@ -111,7 +111,10 @@ fn unknown_token(alloc: Global, text: &str, span: Span) -> Result<Report, AllocE
 }
 
 /// The declarations and rules of the text, if it has that shape.
-pub(crate) fn outline_of(alloc: Global, text: &str) -> Result<Result<Outline<'_>, OutlineFault>, AllocError> {
+pub(crate) fn outline_of(
+    alloc: Global,
+    text: &str,
+) -> Result<Result<Outline<'_>, OutlineFault>, AllocError> {
     match Outline::read(alloc, text) {
         Err(OutlineFault::Memory) => Err(AllocError),
         read => Ok(read),

@@ -27,9 +27,13 @@ const FLAGS: [&str; 7] = [
 
 // What would be right in place of a line, or of the end of one.
 const DECLARES: &str = "expected %x NAMES, %s NAMES or %%";
+
 const RULE: &str = "expected PATTERN NAME for a token, or PATTERN ; for what is skipped";
+
 const NAMED: &str = "expected the name of a token, or ;";
+
 const QUOTED: &str = "a name in quotes ends with the same quote, and has no blanks";
+
 const REPEATED: &str = "an earlier line has it, or it is INITIAL, which is always there";
 
 /// The report of the fault in a `.l` file of lrlex: the cause, and where it is, and a flag, a start state or a token with a similar name.
@@ -48,15 +52,35 @@ pub fn lrlex_report(
 {
     match fault {
         LrlexFault::Header(span) => {
-            labelled(alloc, "%grmtools without its '{' and '}'", header_of(*span), "")
+            labelled(
+                alloc,
+                "%grmtools without its '{' and '}'",
+                header_of(*span),
+                "",
+            )
         }
         LrlexFault::Flag(span) => bad_flag(alloc, text, *span),
-        LrlexFault::Declaration(span) => labelled(alloc, "this line declares nothing", *span, DECLARES),
+        LrlexFault::Declaration(span) => labelled(
+            alloc,
+            "this line declares nothing",
+            *span,
+            DECLARES,
+        ),
         LrlexFault::StateName(span) => bad_name(alloc, text, *span),
         LrlexFault::RepeatedState(span) => {
-            named(alloc, text, *span, "start state", "is declared twice", REPEATED)
+            named(
+                alloc,
+                text,
+                *span,
+                "start state",
+                "is declared twice",
+                REPEATED,
+            )
         }
-        LrlexFault::NoRules => Report::error(alloc, "no rules: a lexer needs a line %% before them"),
+        LrlexFault::NoRules => Report::error(
+            alloc,
+            "no rules: a lexer needs a line %% before them",
+        ),
         LrlexFault::OpenState(span) => labelled(alloc, "'<' without its '>'", *span, ""),
         LrlexFault::NoPattern(span) => labelled(alloc, "this line is no rule", *span, RULE),
         LrlexFault::OpenQuote(span) => labelled(alloc, "quote that isn't closed", *span, QUOTED),
@@ -116,7 +140,14 @@ fn unknown_state(alloc: Global, text: &str, span: Span) -> Result<Report, AllocE
     if label.is_empty() {
         label.push_str("declare it by %x or %s")?;
     }
-    named(alloc, text, span, "start state", "isn't declared", label.as_str())
+    named(
+        alloc,
+        text,
+        span,
+        "start state",
+        "isn't declared",
+        label.as_str(),
+    )
 }
 
 // The start states that the lines before `%%` declare.
@@ -160,5 +191,10 @@ fn bad_pattern(alloc: Global, span: Span, error: &regex::Error) -> Result<Report
 {
     let mut message = String::from_str(alloc, "bad pattern: ")?;
     push_refusal(&mut message, error)?;
-    labelled(alloc, message.as_str(), span, "patterns are those of the crate `regex`")
+    labelled(
+        alloc,
+        message.as_str(),
+        span,
+        "patterns are those of the crate `regex`",
+    )
 }

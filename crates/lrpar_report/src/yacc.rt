@@ -228,10 +228,7 @@ fn push_words<'a>(words: &mut Vec<Word<'a>>, others: &[Word<'a>]) -> Result<(), 
 }
 
 // Adds those of these words that are in quotes.
-fn push_quoted_words<'a>(
-    words: &mut Vec<Word<'a>>,
-    others: &[Word<'a>],
-) -> Result<(), AllocError> {
+fn push_quoted_words<'a>(words: &mut Vec<Word<'a>>, others: &[Word<'a>]) -> Result<(), AllocError> {
     for word in others {
         if matches!(word.kind, WordKind::Quoted) {
             words.push(*word)?;

@@ -86,7 +86,10 @@ fn push_with_examples(
 }
 
 // Adds to the first warnings that there are examples: to as many as there are different conflicts among these examples.
-fn name_examples(reports: &mut [Report], examples: &[ConflictExample<u32>]) -> Result<(), AllocError> {
+fn name_examples(
+    reports: &mut [Report],
+    examples: &[ConflictExample<u32>],
+) -> Result<(), AllocError> {
     for report in reports.iter_mut().take(distinct(examples)) {
         if let Some(label) = report.labels.first_mut() {
             label.text.push_str("; an example is below")?;

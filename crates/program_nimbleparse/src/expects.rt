@@ -64,8 +64,20 @@ pub(crate) fn expect(
         shift_reduce,
         reduce_reduce,
     } = counts;
-    expect_number(alloc, reporter, "shift/reduce", &declarations.expected, shift_reduce)?;
-    expect_number(alloc, reporter, "reduce/reduce", &declarations.expected_rr, reduce_reduce)
+    expect_number(
+        alloc,
+        reporter,
+        "shift/reduce",
+        &declarations.expected,
+        shift_reduce,
+    )?;
+    expect_number(
+        alloc,
+        reporter,
+        "reduce/reduce",
+        &declarations.expected_rr,
+        reduce_reduce,
+    )
 }
 
 // Refuses another number of conflicts of a kind than the last of these, if there is one.

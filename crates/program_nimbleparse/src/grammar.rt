@@ -173,7 +173,12 @@ fn built_notes(
     requires { IsBuilt grm.now sgraph.now stable.now }
 {
     let mut notes = String::new(alloc);
-    push_reports(&mut notes, alloc, reporter, &unused_rules(alloc, grm, declared)?)?;
+    push_reports(
+        &mut notes,
+        alloc,
+        reporter,
+        &unused_rules(alloc, grm, declared)?,
+    )?;
     if !has_expected(declared, stable) {
         push_conflicts(&mut notes, alloc, reporter, grm, sgraph, stable)?;
     }
@@ -189,7 +194,12 @@ fn resolved_notes(
     stable: &StateTable<u32>,
 ) -> Result<String, AllocError> {
     let mut notes = String::new(alloc);
-    push_reports(&mut notes, alloc, reporter, &unused_rules(alloc, grm, declared)?)?;
+    push_reports(
+        &mut notes,
+        alloc,
+        reporter,
+        &unused_rules(alloc, grm, declared)?,
+    )?;
     if !has_expected(declared, stable) {
         push_unresolved(&mut notes, alloc, reporter, grm, stable)?;
     }

@@ -77,7 +77,10 @@ fn is_original(word: &str) -> bool {
     let Some(inner) = word.strip_prefix("original(") else {
         return false;
     };
-    let actions = without(inner.strip_suffix(')').unwrap_or(""), "yaccoriginalactionkind::");
+    let actions = without(
+        inner.strip_suffix(')').unwrap_or(""),
+        "yaccoriginalactionkind::",
+    );
     matches!(actions, "noaction" | "useraction" | "genericparsetree")
 }
 

@@ -53,11 +53,7 @@ fn by_kind<'a>(
 }
 
 // The grammar of a file of the kind that it looks like.
-fn by_look<'a>(
-    alloc: Global,
-    reporter: &Reporter<'_>,
-    text: &'a str,
-) -> Result<Source<'a>, Fault> {
+fn by_look<'a>(alloc: Global, reporter: &Reporter<'_>, text: &'a str) -> Result<Source<'a>, Fault> {
     match YaccGrammar::new_with_storaget(alloc, text) {
         Ok(grammar) => Ok(plain(grammar)),
         Err(GrammarFault::Memory) => Err(Fault::Memory),
@@ -106,7 +102,11 @@ fn by_yacc<'a>(
 // The report of a kind that isn't known.
 fn unknown_kind(alloc: Global, text: &str, span: Span) -> Result<Report, AllocError> {
     let mut message = String::from_str(alloc, "unknown yacckind ")?;
-    push_quoted(&mut message, text.get(span.start()..span.end()).unwrap_or(""))?;
-    let label = "expected Grmtools, or Original with NoAction, UserAction or GenericParseTree in brackets";
+    push_quoted(
+        &mut message,
+        text.get(span.start()..span.end()).unwrap_or(""),
+    )?;
+    let label =
+        "expected Grmtools, or Original with NoAction, UserAction or GenericParseTree in brackets";
     Report::error(alloc, message.as_str())?.label(span, label)
 }

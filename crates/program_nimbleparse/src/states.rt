@@ -105,11 +105,7 @@ fn push_symbol(
 }
 
 // Adds a rule by its name.
-fn push_rule(
-    out: &mut String,
-    grm: &YaccGrammar<u32>,
-    rule: RIdx<u32>,
-) -> Result<(), AllocError> {
+fn push_rule(out: &mut String, grm: &YaccGrammar<u32>, rule: RIdx<u32>) -> Result<(), AllocError> {
     if usize::from(rule) < grm.rules_len() {
         out.push_str(grm.rule_name_str(rule))
     } else {
