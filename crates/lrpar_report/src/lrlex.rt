@@ -1,6 +1,6 @@
 //! Reports of faults in `.l` files of lrlex.
 ghost use Rattle.std.specs.Prelude.{◌≡◌, ◌∷◌, [], IfOk};
-ghost use Rattle.lrpar_report.specs.FaultPlaces.{AreLrlexSpans, IsStartOf};
+ghost use Rattle.lrpar_report.specs.FaultPlaces.{AreLrlexSpans, IsOne, IsStartOf};
 ghost use Rattle.lrpar_report_lines.specs.Labels.{label_spans};
 ghost use Rattle.lrpar_report_lines.specs.declared.levels.Level.TheVariants.{Error};
 
@@ -34,8 +34,6 @@ const NAMED: &str = "expected the name of a token, or ;";
 
 const QUOTED: &str = "a name in quotes ends with the same quote, and has no blanks";
 
-const REPEATED: &str = "an earlier line has it, or it is INITIAL, which is always there";
-
 /// The report of the fault in a `.l` file of lrlex: the cause, and where it is, and a flag, a start state or a token with a similar name.
 /// `text` should be the text that has the fault, and `grm` its grammar; else the places in the report mean nothing.
 ///
@@ -51,36 +49,12 @@ pub fn lrlex_report(
     ensures spans { IfOk result (λ report. AreLrlexSpans fault.now (label_spans report)) }
 {
     match fault {
-        LrlexFault::Header(span) => {
-            labelled(
-                alloc,
-                "%grmtools without its '{' and '}'",
-                header_of(*span),
-                "",
-            )
-        }
+        LrlexFault::Header(span) => open_header(alloc, *span),
         LrlexFault::Flag(span) => bad_flag(alloc, text, *span),
-        LrlexFault::Declaration(span) => labelled(
-            alloc,
-            "this line declares nothing",
-            *span,
-            DECLARES,
-        ),
+        LrlexFault::Declaration(span) => labelled(alloc, "unknown declaration", *span, DECLARES),
         LrlexFault::StateName(span) => bad_name(alloc, text, *span),
-        LrlexFault::RepeatedState(span) => {
-            named(
-                alloc,
-                text,
-                *span,
-                "start state",
-                "is declared twice",
-                REPEATED,
-            )
-        }
-        LrlexFault::NoRules => Report::error(
-            alloc,
-            "no rules: a lexer needs a line %% before them",
-        ),
+        LrlexFault::RepeatedState(span) => repeated_state(alloc, text, *span),
+        LrlexFault::NoRules => Report::error(alloc, "no rules, as there is no line %%"),
         LrlexFault::OpenState(span) => labelled(alloc, "'<' without its '>'", *span, ""),
         LrlexFault::NoPattern(span) => labelled(alloc, "this line is no rule", *span, RULE),
         LrlexFault::OpenQuote(span) => labelled(alloc, "quote that isn't closed", *span, QUOTED),
@@ -100,8 +74,17 @@ fn labelled(alloc: Global, message: &str, span: Span, label: &str) -> Result<Rep
     Report::error(alloc, message)?.label(span, label)
 }
 
+// The report of `%grmtools` without its braces, which goes to the end of the text.
+fn open_header(alloc: Global, span: Span) -> Result<Report, AllocError>
+    ensures level { IfOk result (λ report. report.level ≡ Error) }
+    ensures span { IfOk result (λ report. IsOne (IsStartOf span) (label_spans report)) }
+{
+    let sign = sign_of(span);
+    labelled(alloc, "%grmtools without its '{' and '}'", sign, "")
+}
+
 // The `%grmtools` with which a part begins.
-fn header_of(span: Span) -> Span
+fn sign_of(span: Span) -> Span
     ensures { IsStartOf span result }
 {
     let end = span.start().saturating_add(9).min(span.end());
@@ -127,6 +110,15 @@ fn bad_name(alloc: Global, text: &str, span: Span) -> Result<Report, AllocError>
     let what = "can't be that of a start state";
     let label = "expected ASCII letters, digits, '_' and '.', and a letter first";
     named(alloc, text, span, "name", what, label)
+}
+
+// The report of a start state that is declared already.
+fn repeated_state(alloc: Global, text: &str, span: Span) -> Result<Report, AllocError>
+    ensures level { IfOk result (λ report. report.level ≡ Error) }
+    ensures span { IfOk result (λ report. label_spans report ≡ span ∷ []) }
+{
+    let label = "an earlier line has it, or it is INITIAL, which is always there";
+    named(alloc, text, span, "start state", "is declared twice", label)
 }
 
 // The report of a start state that isn't declared.
