@@ -1,5 +1,6 @@
 //! The conflicts of a table, with a counterexample of each.
 ghost use Rattle.lrpar_conflict_examples.specs.ExamplesFit.{ExamplesFit};
+ghost use Rattle.lrpar_grammar.specs.Grammar.{Grammar};
 ghost use Rattle.lrpar_table_build.specs.Built.{IsBuilt};
 
 use crate::show::push_reports;
@@ -77,12 +78,22 @@ fn push_with_examples(
     requires { ExamplesFit grm.now examples.now }
 {
     let mut reports = conflict_reports(alloc, grm, stable)?;
-    let first = examples.get(..MOST).unwrap_or(examples);
+    let first = first_of(examples);
     name_examples(&mut reports, first)?;
     let shown = reports.get(..MOST).unwrap_or(&reports);
     push_reports(out, alloc, reporter, shown)?;
     out.push_str(format_examples(alloc, grm, first)?.as_str())?;
     push_more(out, alloc, reporter, reports.len(), examples.len())
+}
+
+// The counterexamples that are shown: the first ones.
+fn first_of(examples: &[ConflictExample<u32>]) -> &[ConflictExample<u32>]
+    ensures { (g : Grammar) → ExamplesFit g examples.now → ExamplesFit g result.now }
+{
+    match examples.get(..MOST) {
+        Some(first) => first,
+        None => examples,
+    }
 }
 
 // Adds to the first warnings that there are examples: to as many as there are different conflicts among these examples.
