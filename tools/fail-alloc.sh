@@ -187,6 +187,11 @@ printf '%s\n' 'delete' "insert 'INT'" >"$work/calc.repairs"
 printf '(nn' >"$work/text"
 printf '(n)' >"$work/whole"
 printf '%s' '%% E: F;' >"$work/wrong.y"
+printf '%s' "%left '+' %expect 0 %avoid_insert '+' %% E -> u8: E '+' E { 1 } | 'N' { 2 };" >"$work/levels.y"
+printf '%s\n' '%x SUM' '%%' "\\( <SUM>;" "<SUM>n 'N'" "<SUM>\\+ '+'" "<SUM>\\) <INITIAL>;" >"$work/levels.l"
+printf '(n+n+n)' >"$work/sum"
+printf '%s' "%left 'N' %% E: 'N' %prec 'M';" >"$work/unknown.y"
+printf '%s\n' '%%' 'n "M"' >"$work/unknown.l"
 printf '%s\n' '2 + + 3' '' '(2 + 3) * 4' >"$work/input"
 
 refuse_each_call 0 'E
@@ -256,6 +261,18 @@ refuse_each_call_of_nimbleparse 2 '' "$work/wrong.y:1:7: error: name 'F' is neit
 1| %% E: F;
          ^ did you mean 'E'?
 " "$work/brackets.lex" "$work/wrong.y"
+refuse_each_call_of_nimbleparse 0 'E[ E[ E[ N "n" ] "+" E[ N "n" ] ] "+" E[ N "n" ] ]
+' "$work/levels.y: note: rules 2, productions 3, tokens 3, states 5, least cap 1, conflicts resolved by precedences 1
+$work/levels.y: note: an error may have no repair, as precedences resolve conflicts of the grammar
+" "$work/levels.l" "$work/levels.y" "$work/sum"
+refuse_each_call_of_nimbleparse 2 '' "$work/unknown.y:1:28: error: name 'M' is no token
+1| %left 'N' %% E: 'N' %prec 'M';
+                              ^ did you mean 'N'?
+" "$work/unknown.l" "$work/unknown.y"
+refuse_each_call_of_nimbleparse 2 '' "$work/unknown.l:2:4: error: the grammar has no token 'M'
+2| n \"M\"
+      ^ did you mean 'N'?
+" -q "$work/unknown.l" "$work/brackets.y"
 
 refuse_calls_in_both_ways "$most_calls" "$most_calls" "$here/fail-alloc.cases"
 if [[ -e $here/fail-alloc-from.cases ]]; then

@@ -26,3 +26,12 @@ impl<StorageT: Drop> Drop for LrlexRules<StorageT> {
         drop(starts);
     }
 }
+
+impl<StorageT> LrlexRules<StorageT> {
+    /// The patterns and tokens of the rules, in the order of the file.
+    pub fn rules(&self) -> &[LexRule<StorageT>]
+        ensures { result.now ≡ self.now.rules.items }
+    {
+        &self.rules
+    }
+}

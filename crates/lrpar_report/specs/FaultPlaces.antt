@@ -5,8 +5,16 @@ use Rattle.lrpar_grammar_places.specs.Lines.{line_of}
 use Rattle.lrpar_grammar_places.specs.Span.{Extent}
 use Rattle.lrpar_grammar_reader.specs.declared.parts.GrammarFault.{GrammarFault}
 use Rattle.lrpar_grammar_reader.specs.declared.parts.GrammarFault.TheVariants.{BadStart, BadSymbol, Memory, NoRules, RepeatedEpp, RepeatedStart, StorageTooSmall, Syntax, TokenIsRule, UnknownRule, UnknownToken}
+use Rattle.lrpar_grammar.specs.declared.grammar.yacc.YaccFileFault.{YaccFileFault}
+use Rattle.lrpar_grammar.specs.declared.grammar.yacc.YaccFileFault.TheVariants.{Declared, Memory as FileMemory, Text, UnknownToken as UnknownName}
+use Rattle.lrpar_grammar_yacc.specs.declared.faults.YaccFault.{YaccFault}
+use Rattle.lrpar_grammar_yacc.specs.declared.faults.YaccFault.TheVariants.{BadNumber, Memory as YaccMemory, MidRuleAction, RepeatedPrec, RepeatedPrecedence}
+use Rattle.lrpar_grammar_yacc.specs.declared.parts.YaccKind.{YaccKind}
+use Rattle.lrpar_grammar_yacc.specs.Erasure.{erasure}
 use Rattle.lrpar_lexer.specs.RuleTexts.{NamesLine}
 use Rattle.lrpar_lexer.specs.declared.rules.RulesFault.{RulesFault}
+use Rattle.lrpar_lexer_lrlex.specs.declared.fault.LrlexFault.{LrlexFault}
+use Rattle.lrpar_lexer_lrlex.specs.declared.fault.LrlexFault.TheVariants.{Declaration, Flag, Header, Memory as LrlexMemory, NoName, NoPattern, NoRules as NoRulesSign, OpenQuote, OpenState, Pattern, RepeatedState, StateName, UnknownState, UnknownToken as UnknownNameOfToken}
 use Rattle.lrpar_parse_errors.specs.declared.errors.LexParseError.{LexParseError}
 use Rattle.lrpar_parse_errors.specs.declared.errors.LexParseError.TheVariants.{LexError, ParseError}
 use Rattle.lrpar_report_lines.specs.Places.{IsFirstPlace, IsNextBoundary}
@@ -33,6 +41,45 @@ AreGrammarSpans text BadStart spans = spans ≡ []
 AreGrammarSpans text NoRules spans = spans ≡ []
 AreGrammarSpans text StorageTooSmall spans = spans ≡ []
 AreGrammarSpans text Memory spans = spans ≡ []
+
+-- a span that starts where another one does, and ends in it
+pub record IsStartOf (whole : Extent) (span : Extent) : Type 0 where
+  pub start : span.start ≡ whole.start
+  pub end : span.end ≤ whole.end
+
+-- the spans of a fault of what a grammar text doesn't have: that of the name or number in question, or the start of an action
+abbrev pub AreDeclaredSpans : YaccFault → List Extent → Type 0
+AreDeclaredSpans (RepeatedPrec span) spans = spans ≡ span ∷ []
+AreDeclaredSpans (RepeatedPrecedence span) spans = spans ≡ span ∷ []
+AreDeclaredSpans (MidRuleAction span) spans = IsOne (IsStartOf span) spans
+AreDeclaredSpans (BadNumber span) spans = spans ≡ span ∷ []
+AreDeclaredSpans YaccMemory spans = spans ≡ []
+
+-- The spans of a fault in a `.y` file: those of a fault of what a grammar text doesn't have, or of a fault of the erased file; or that of
+-- the name in question.
+abbrev pub AreYaccSpans : YaccKind → List ℕ → YaccFileFault → List Extent → Type 0
+AreYaccSpans kind text (Declared fault) spans = AreDeclaredSpans fault spans
+AreYaccSpans kind text (Text fault) spans = AreGrammarSpans (erasure kind text) fault spans
+AreYaccSpans kind text (UnknownName span) spans = spans ≡ span ∷ []
+AreYaccSpans kind text FileMemory spans = spans ≡ []
+
+-- The spans of a fault in a `.l` file: its place, if it has one. Of `%grmtools` that isn't closed, whose place goes to the end of the text,
+-- it is the start.
+abbrev pub AreLrlexSpans : LrlexFault → List Extent → Type 0
+AreLrlexSpans (Header span) spans = IsOne (IsStartOf span) spans
+AreLrlexSpans (Flag span) spans = spans ≡ span ∷ []
+AreLrlexSpans (Declaration span) spans = spans ≡ span ∷ []
+AreLrlexSpans (StateName span) spans = spans ≡ span ∷ []
+AreLrlexSpans (RepeatedState span) spans = spans ≡ span ∷ []
+AreLrlexSpans (OpenState span) spans = spans ≡ span ∷ []
+AreLrlexSpans (NoPattern span) spans = spans ≡ span ∷ []
+AreLrlexSpans (OpenQuote span) spans = spans ≡ span ∷ []
+AreLrlexSpans (NoName span) spans = spans ≡ span ∷ []
+AreLrlexSpans (UnknownState span) spans = spans ≡ span ∷ []
+AreLrlexSpans (UnknownNameOfToken span) spans = spans ≡ span ∷ []
+AreLrlexSpans (Pattern span error) spans = spans ≡ span ∷ []
+AreLrlexSpans NoRulesSign spans = spans ≡ []
+AreLrlexSpans LrlexMemory spans = spans ≡ []
 
 -- the text has a line of this number, counted from 1
 abbrev pub HasLine : List ℕ → ℕ → Type 0

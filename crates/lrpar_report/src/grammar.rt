@@ -53,8 +53,8 @@ pub fn grammar_report(alloc: Global, text: &str, fault: &GrammarFault) -> Result
     }
 }
 
-// A report about a name: `KIND 'NAME' WHAT`.
-fn named(
+/// A report about a name: `KIND 'NAME' WHAT`.
+pub(crate) fn named(
     alloc: Global,
     text: &str,
     span: Span,
@@ -73,8 +73,8 @@ fn named(
     Report::error(alloc, message.as_str())?.label(span, label)
 }
 
-// The part of the text at this place, or an empty one if the text has no such place.
-fn part(text: &str, span: Span) -> &str {
+/// The part of the text at this place, or an empty one if the text has no such place.
+pub(crate) fn part(text: &str, span: Span) -> &str {
     text.get(span.start()..span.end()).unwrap_or("")
 }
 
@@ -110,8 +110,11 @@ fn unknown_token(alloc: Global, text: &str, span: Span) -> Result<Report, AllocE
     named(alloc, text, span, "name", "is no token", label.as_str())
 }
 
-// The declarations and rules of the text, if it has that shape.
-fn outline_of(alloc: Global, text: &str) -> Result<Result<Outline<'_>, OutlineFault>, AllocError> {
+/// The declarations and rules of the text, if it has that shape.
+pub(crate) fn outline_of(
+    alloc: Global,
+    text: &str,
+) -> Result<Result<Outline<'_>, OutlineFault>, AllocError> {
     match Outline::read(alloc, text) {
         Err(OutlineFault::Memory) => Err(AllocError),
         read => Ok(read),
@@ -129,8 +132,8 @@ fn names_of<'a>(alloc: Global, lists: &[&Vec<Word<'a>>]) -> Result<Vec<&'a str>,
     Ok(names)
 }
 
-// Adds the name of these lists that somebody may have meant, if one is near.
-fn push_near(
+/// Adds the name of these lists that somebody may have meant, if one is near.
+pub(crate) fn push_near(
     label: &mut String,
     alloc: Global,
     name: &str,

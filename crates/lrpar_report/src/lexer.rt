@@ -117,8 +117,8 @@ fn unnamed(
     Report::error(alloc, text.as_str())?.label(span, label.as_str())
 }
 
-// Adds the token that somebody may have meant, if one is near.
-fn push_near_token(
+/// Adds the token that somebody may have meant, if one is near.
+pub(crate) fn push_near_token(
     label: &mut String,
     alloc: Global,
     grm: &YaccGrammar<u32>,
@@ -146,8 +146,8 @@ fn refused(alloc: Global, error: &regex::Error, core: Span) -> Result<Report, Al
     Report::error(alloc, text.as_str())?.label(refused_part(error, core), label)
 }
 
-// Adds why a pattern is refused.
-fn push_refusal(text: &mut String, error: &regex::Error) -> Result<(), AllocError> {
+/// Adds why a pattern is refused.
+pub(crate) fn push_refusal(text: &mut String, error: &regex::Error) -> Result<(), AllocError> {
     match error {
         regex::Error::Syntax(error) => text.push_str(error.kind.message()),
         error => write!(text, "{error}"),

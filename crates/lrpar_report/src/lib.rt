@@ -10,12 +10,14 @@ mod file;
 mod grammar;
 mod lexer;
 mod loops;
+mod lrlex;
 mod near;
 mod placed;
 mod repairs;
 mod shape;
 mod tables;
 mod warnings;
+mod yacc;
 
 pub use choices::{push_choices, push_quoted, push_token};
 pub use conflicts::conflict_reports;
@@ -23,6 +25,7 @@ pub use errors::{error_report, lexing_report, parse_report, unexpected_report};
 pub use file::{file_message, text_of};
 pub use grammar::grammar_report;
 pub use lexer::rules_report;
+pub use lrlex::lrlex_report;
 pub use lrpar_report_lines::{
     Label, Level, Look, PlacedFault, Report, Reporter, next_boundary, part_of,
 };
@@ -30,4 +33,5 @@ pub use near::nearest;
 pub use placed::{placed_error, placed_grammar_fault, placed_rules_fault};
 pub use repairs::push_repairs;
 pub use tables::{build_report, chain_report};
-pub use warnings::{rule_warnings, token_warnings};
+pub use warnings::{rule_warnings, rule_warnings_but, token_warnings};
+pub use yacc::yacc_report;

@@ -15,17 +15,43 @@ pub fn rule_warnings<StorageT: StorageIndex>(
     alloc: Global,
     grm: &YaccGrammar<StorageT>,
 ) -> Result<Vec<Report>, AllocError> {
+    rule_warnings_but(alloc, grm, &[])
+}
+
+/// The same, but no warning of a rule that isn't reachable and has one of these names, as those after `%expect-unused`.
+///
+/// Takes the time of [`rule_warnings`], and that of a comparison with each name for each rule that isn't reachable. `Err`: out of memory.
+pub fn rule_warnings_but<StorageT: StorageIndex>(
+    alloc: Global,
+    grm: &YaccGrammar<StorageT>,
+    names: &[&str],
+) -> Result<Vec<Report>, AllocError> {
     let reached = Reachable::new(alloc, grm)?;
     let shortest = Shortest::new(alloc, grm)?;
     let mut reports = Vec::new(alloc);
     for rule in grm.iter_rules() {
         if !reached.is_reachable(rule) {
-            push_unreachable(&mut reports, alloc, grm, rule)?;
+            if !has_name(grm, rule, names) {
+                push_unreachable(&mut reports, alloc, grm, rule)?;
+            }
         } else if !shortest.derives_text(rule) {
             push_unproductive(&mut reports, alloc, grm, rule)?;
         }
     }
     Ok(reports)
+}
+
+// Whether the rule has one of these names.
+fn has_name<StorageT: StorageIndex>(
+    grm: &YaccGrammar<StorageT>,
+    rule: RIdx<StorageT>,
+    names: &[&str],
+) -> bool {
+    if usize::from(rule) >= grm.rules_len() {
+        return false;
+    }
+    let own = grm.rule_name_str(rule);
+    names.iter().any(|name| *name == own)
 }
 
 // Adds the warning of a rule that isn't reachable.

@@ -20,6 +20,8 @@ pub enum Misuse {
     NotUtf8,
     #[error("unknown option")]
     UnknownOption,
+    #[error("-y needs grmtools, original or profile")]
+    Kind,
     #[error("-r needs none, cpctplus or complete")]
     Recovery,
     #[error("--limit needs a number")]

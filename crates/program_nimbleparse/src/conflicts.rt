@@ -1,18 +1,25 @@
 //! The conflicts of a table, with a counterexample of each.
+ghost use Rattle.lrpar_conflict_examples.specs.ExamplesFit.{ExamplesFit};
+ghost use Rattle.lrpar_grammar.specs.Grammar.{Grammar};
 ghost use Rattle.lrpar_table_build.specs.Built.{IsBuilt};
 
 use crate::show::push_reports;
-use lrpar_conflict_examples::examples::{ExampleFault, conflict_examples, format_examples};
+use lrpar_conflict_examples::examples::{
+    ConflictExample, ExampleFault, conflict_examples, format_examples,
+};
 use lrpar_grammar::grammar::YaccGrammar;
-use lrpar_report::{Report, Reporter, conflict_reports};
+use lrpar_report::{Level, Report, Reporter, conflict_reports};
 use lrpar_table::table::{StateGraph, StateTable};
 use std::alloc::{AllocError, Global};
 
 /// The bound of the search for a unifying counterexample of a conflict.
 const BOUND: usize = 1_000;
 
-/// Adds a warning for each conflict of the grammar, and then a counterexample of each conflict of the table. If a reachable rule derives
-/// no text, there are no counterexamples, and one warning says so.
+/// How many conflicts of a grammar are shown at most, and how many counterexamples.
+const MOST: usize = 10;
+
+/// Adds a warning for each of the first conflicts of the grammar, and then the first counterexamples of conflicts of the table. If a
+/// reachable rule derives no text, there are no counterexamples, and one warning says so.
 pub(crate) fn push_conflicts(
     out: &mut String,
     alloc: Global,
@@ -24,13 +31,24 @@ pub(crate) fn push_conflicts(
     requires { IsBuilt grm.now sgraph.now stable.now }
 {
     match conflict_examples(alloc, grm, sgraph, stable, BOUND) {
-        Ok(examples) => {
-            push_warnings(out, alloc, reporter, grm, stable)?;
-            out.push_str(format_examples(alloc, grm, &examples)?.as_str())
-        }
+        Ok(examples) => push_with_examples(out, alloc, reporter, grm, stable, &examples),
         Err(ExampleFault::Memory) => Err(AllocError),
         Err(_) => push_count(out, alloc, reporter, stable),
     }
+}
+
+/// Adds a warning for each of the first conflicts of a grammar with precedences, without counterexamples.
+pub(crate) fn push_unresolved(
+    out: &mut String,
+    alloc: Global,
+    reporter: &Reporter<'_>,
+    grm: &YaccGrammar<u32>,
+    stable: &StateTable<u32>,
+) -> Result<(), AllocError> {
+    let reports = conflict_reports(alloc, grm, stable)?;
+    let shown = reports.get(..MOST).unwrap_or(&reports);
+    push_reports(out, alloc, reporter, shown)?;
+    push_more(out, alloc, reporter, reports.len(), 0)
 }
 
 // Adds how many conflicts there are, if none has a counterexample.
@@ -48,19 +66,83 @@ fn push_count(
     reporter.push(out, alloc, &Report::warning(alloc, text.as_str())?)
 }
 
-// Adds a warning for each conflict of the grammar, which says that there are examples.
-fn push_warnings(
+// Adds the first warnings, the first counterexamples, and how many more there are.
+fn push_with_examples(
     out: &mut String,
     alloc: Global,
     reporter: &Reporter<'_>,
     grm: &YaccGrammar<u32>,
     stable: &StateTable<u32>,
-) -> Result<(), AllocError> {
+    examples: &[ConflictExample<u32>],
+) -> Result<(), AllocError>
+    requires { ExamplesFit grm.now examples.now }
+{
     let mut reports = conflict_reports(alloc, grm, stable)?;
-    for report in reports.iter_mut() {
+    let first = first_of(examples);
+    name_examples(&mut reports, first)?;
+    let shown = reports.get(..MOST).unwrap_or(&reports);
+    push_reports(out, alloc, reporter, shown)?;
+    out.push_str(format_examples(alloc, grm, first)?.as_str())?;
+    push_more(out, alloc, reporter, reports.len(), examples.len())
+}
+
+// The counterexamples that are shown: the first ones.
+fn first_of(examples: &[ConflictExample<u32>]) -> &[ConflictExample<u32>]
+    ensures { (g : Grammar) → ExamplesFit g examples.now → ExamplesFit g result.now }
+{
+    match examples.get(..MOST) {
+        Some(first) => first,
+        None => examples,
+    }
+}
+
+// Adds to the first warnings that there are examples: to as many as there are different conflicts among these examples.
+fn name_examples(
+    reports: &mut [Report],
+    examples: &[ConflictExample<u32>],
+) -> Result<(), AllocError> {
+    for report in reports.iter_mut().take(distinct(examples)) {
         if let Some(label) = report.labels.first_mut() {
             label.text.push_str("; an example is below")?;
         }
     }
-    push_reports(out, alloc, reporter, &reports)
+    Ok(())
+}
+
+// How many of these conflicts differ in more than their states.
+fn distinct(examples: &[ConflictExample<u32>]) -> usize {
+    let mut count = 0usize;
+    for (place, example) in examples.iter().enumerate() {
+        let before = examples.get(..place).unwrap_or(&[]);
+        if !before.iter().any(|other| are_alike(example, other)) {
+            count = count.saturating_add(1);
+        }
+    }
+    count
+}
+
+// Whether two conflicts differ in their states at most.
+fn are_alike(one: &ConflictExample<u32>, other: &ConflictExample<u32>) -> bool {
+    one.token() == other.token() && one.first() == other.first() && one.second() == other.second()
+}
+
+// Adds a note of how many conflicts and counterexamples aren't shown, if there are any.
+fn push_more(
+    out: &mut String,
+    alloc: Global,
+    reporter: &Reporter<'_>,
+    conflicts: usize,
+    examples: usize,
+) -> Result<(), AllocError> {
+    let conflicts = conflicts.saturating_sub(MOST);
+    let examples = examples.saturating_sub(MOST);
+    let text = match (conflicts, examples) {
+        (0, 0) => return Ok(()),
+        (_, 0) => format!(in alloc; "conflicts that aren't shown: {conflicts}")?,
+        (0, _) => format!(in alloc; "examples that aren't shown: {examples}")?,
+        (_, _) => format!(in alloc;
+            "conflicts that aren't shown: {conflicts}, and examples: {examples}"
+        )?,
+    };
+    reporter.push(out, alloc, &Report::new(alloc, Level::Note, text.as_str())?)
 }

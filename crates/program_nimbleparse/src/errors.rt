@@ -5,6 +5,7 @@ use lrpar_grammar::grammar::YaccGrammar;
 use lrpar_grammar::span::TIdx;
 use lrpar_lexer::{NoToken, Token};
 use lrpar_parse_errors::errors::ParseError;
+use lrpar_parse_lexemes::lex_api::LexError;
 use lrpar_report::{Reporter, lexing_report, push_repairs, unexpected_report};
 use std::alloc::{AllocError, Global};
 
@@ -32,8 +33,17 @@ pub(crate) fn push_lexing_error(
     error: &NoToken,
 ) -> Result<(), AllocError> {
     let report = lexing_report(alloc, input, error)?;
-    let report = with_label_text(report, "no line of LEXER matches here")?;
+    let report = with_label_text(report, cause_of(error))?;
     reporter.push(out, alloc, &report)
+}
+
+// Why there is a lexing error. One with a match pops the last start state.
+fn cause_of(error: &NoToken) -> &'static str {
+    if error.span().is_empty() {
+        "no line of LEXER matches here"
+    } else {
+        "the match that begins here pops the last start state"
+    }
 }
 
 /// Adds the message of a parse error: what wasn't expected, what was, and the repairs that were found.

@@ -1,74 +1,241 @@
-//! The grammar of a text and its table, or why there is none.
+//! The grammar of a file and its table, or why there is none.
 ghost use Rattle.lrpar_table_build.specs.Built.{IsBuilt};
 ghost use Rattle.lrpar_table_rows.specs.Safe.{IsSafe};
 
-use crate::conflicts::push_conflicts;
+use crate::conflicts::{push_conflicts, push_unresolved};
+use crate::expects::{expect, has_expected};
+use crate::kind::GrammarKind;
 use crate::show::{fault_of_report, push_reports, write_messages};
-use lrpar_grammar::grammar::YaccGrammar;
-use lrpar_report::{Reporter, build_report, chain_report, grammar_report, rule_warnings};
-use lrpar_table::build::{BuildFault, from_yacc};
+use crate::source::{Source, source_of};
+use crate::states::push_states;
+use lrpar_grammar::grammar::{Declarations, YaccGrammar};
+use lrpar_grammar::span::TIdx;
+use lrpar_report::{Report, Reporter, build_report, chain_report, rule_warnings_but};
+use lrpar_table::build::{BuildFault, from_yacc, from_yacc_with};
 use lrpar_table::check::{CheckFault, ParserData, Refused};
+use lrpar_table::precedences::Precedences;
 use lrpar_table::table::{StateGraph, StateTable};
 use program_files::fault::Fault;
 use program_files::tables::MAX_STATES;
-use std::alloc::Global;
+use std::alloc::{AllocError, Global};
 use std::io::Write;
 
 /// The cap with which tables are checked. It's the largest one, so a table that is refused with it passes with no cap.
 const MOST: u16 = u16::MAX;
 
-/// The checked table of a grammar's text. Warns of rules that are of no use, and of conflicts, unless the program is to be quiet.
-pub fn data_of<O: Write, E: Write>(
+/// What is asked of a grammar file.
+#[derive(Clone, Copy)]
+pub struct Asked {
+    /// The kind of the file; if it isn't named, it is found.
+    pub kind: Option<GrammarKind>,
+    /// Whether errors alone are printed.
+    pub is_quiet: bool,
+    /// Whether the states of the table are printed.
+    pub shows_states: bool,
+}
+
+/// The checked table of a grammar, and what its file says of repairs and precedences.
+pub struct GrammarTable {
+    pub data: ParserData<u32>,
+    /// The tokens that repairs are to avoid.
+    pub avoided: Vec<TIdx<u32>>,
+    /// Whether the file declares precedences.
+    pub has_precedences: bool,
+}
+
+// Hand-written, so that code that drops one needs the proof of one call only.
+impl Drop for GrammarTable {
+    fn drop(self) {
+        let GrammarTable {
+            data,
+            avoided,
+            has_precedences: _,
+        } = self;
+        drop(data);
+        drop(avoided);
+    }
+}
+
+/// The checked table of a grammar file. Warns of rules that are of no use, and of conflicts, unless the program is to be quiet. A table
+/// with another number of conflicts than the file expects is refused.
+pub fn table_of<O: Write, E: Write>(
     alloc: Global,
     reporter: &Reporter<'_>,
     text: &str,
-    is_quiet: bool,
+    asked: Asked,
+    out: &mut O,
+    err: &mut E,
+) -> Result<GrammarTable, Fault> {
+    let Source { grammar, text } = source_of(alloc, reporter, text, asked.kind)?;
+    let declared = match &text {
+        Some(text) => Some(&text.declarations),
+        None => None,
+    };
+    let avoided = avoided_tokens(alloc, &grammar, declared)?;
+    let has_precedences = matches!(declared, Some(declared) if !declared.levels.is_empty());
+    let data = if has_precedences {
+        resolved_data(alloc, reporter, grammar, declared, asked, out, err)?
+    } else {
+        built_data(alloc, reporter, grammar, declared, asked, out, err)?
+    };
+    Ok(GrammarTable {
+        data,
+        avoided,
+        has_precedences,
+    })
+}
+
+// The tokens that repairs are to avoid.
+fn avoided_tokens(
+    alloc: Global,
+    grm: &YaccGrammar<u32>,
+    declared: Option<&Declarations<'_>>,
+) -> Result<Vec<TIdx<u32>>, AllocError> {
+    let mut tokens = Vec::new(alloc);
+    if let Some(declared) = declared {
+        for word in &declared.avoided {
+            if let Some(token) = grm.token_idx(word.name) {
+                tokens.push(token)?;
+            }
+        }
+    }
+    Ok(tokens)
+}
+
+// The checked table of a grammar without precedences.
+fn built_data<O: Write, E: Write>(
+    alloc: Global,
+    reporter: &Reporter<'_>,
+    grm: YaccGrammar<u32>,
+    declared: Option<&Declarations<'_>>,
+    asked: Asked,
     out: &mut O,
     err: &mut E,
 ) -> Result<ParserData<u32>, Fault> {
-    let grm = grammar_of(alloc, reporter, text)?;
     match from_yacc(alloc, &grm, MAX_STATES) {
         Ok((sgraph, stable)) => {
-            if !is_quiet {
-                write_notes(alloc, reporter, &grm, &sgraph, &stable, out, err)?;
+            if !asked.is_quiet {
+                let notes = built_notes(alloc, reporter, &grm, declared, &sgraph, &stable)?;
+                write_notes(asked, notes, &grm, &sgraph, &stable, out, err)?;
             }
+            expect(alloc, reporter, declared, &stable)?;
             checked(alloc, reporter, grm, sgraph, stable)
         }
         Err(fault) => Err(unbuilt(alloc, reporter, &grm, fault)),
     }
 }
 
-// Warns of rules that are of no use, and of conflicts.
-fn write_notes<O: Write, E: Write>(
+// The checked table of a grammar whose conflicts are resolved by the precedences that its file declares.
+fn resolved_data<O: Write, E: Write>(
     alloc: Global,
     reporter: &Reporter<'_>,
+    grm: YaccGrammar<u32>,
+    declared: Option<&Declarations<'_>>,
+    asked: Asked,
+    out: &mut O,
+    err: &mut E,
+) -> Result<ParserData<u32>, Fault> {
+    let precedences = precedences_of(alloc, &grm, declared)?;
+    match from_yacc_with(alloc, &grm, &precedences, MAX_STATES) {
+        Ok((sgraph, stable)) => {
+            if !asked.is_quiet {
+                let notes = resolved_notes(alloc, reporter, &grm, declared, &stable)?;
+                write_notes(asked, notes, &grm, &sgraph, &stable, out, err)?;
+            }
+            expect(alloc, reporter, declared, &stable)?;
+            checked(alloc, reporter, grm, sgraph, stable)
+        }
+        Err(fault) => Err(unbuilt(alloc, reporter, &grm, fault)),
+    }
+}
+
+// The precedences that a file declares.
+fn precedences_of(
+    alloc: Global,
+    grm: &YaccGrammar<u32>,
+    declared: Option<&Declarations<'_>>,
+) -> Result<Precedences, AllocError> {
+    match declared {
+        Some(declared) => Precedences::declared(alloc, grm, declared),
+        None => Ok(Precedences::none(alloc)),
+    }
+}
+
+// Warnings of rules that are of no use, and of conflicts, unless these are what the file expects.
+fn built_notes(
+    alloc: Global,
+    reporter: &Reporter<'_>,
+    grm: &YaccGrammar<u32>,
+    declared: Option<&Declarations<'_>>,
+    sgraph: &StateGraph<u32>,
+    stable: &StateTable<u32>,
+) -> Result<String, AllocError>
+    requires { IsBuilt grm.now sgraph.now stable.now }
+{
+    let mut notes = String::new(alloc);
+    push_reports(
+        &mut notes,
+        alloc,
+        reporter,
+        &unused_rules(alloc, grm, declared)?,
+    )?;
+    if !has_expected(declared, stable) {
+        push_conflicts(&mut notes, alloc, reporter, grm, sgraph, stable)?;
+    }
+    Ok(notes)
+}
+
+// The same of a grammar whose conflicts are resolved by precedences.
+fn resolved_notes(
+    alloc: Global,
+    reporter: &Reporter<'_>,
+    grm: &YaccGrammar<u32>,
+    declared: Option<&Declarations<'_>>,
+    stable: &StateTable<u32>,
+) -> Result<String, AllocError> {
+    let mut notes = String::new(alloc);
+    push_reports(
+        &mut notes,
+        alloc,
+        reporter,
+        &unused_rules(alloc, grm, declared)?,
+    )?;
+    if !has_expected(declared, stable) {
+        push_unresolved(&mut notes, alloc, reporter, grm, stable)?;
+    }
+    Ok(notes)
+}
+
+// Warnings of rules that are of no use, but for those that the file says are unused.
+fn unused_rules(
+    alloc: Global,
+    grm: &YaccGrammar<u32>,
+    declared: Option<&Declarations<'_>>,
+) -> Result<Vec<Report>, AllocError> {
+    let mut names = Vec::new(alloc);
+    if let Some(declared) = declared {
+        for word in &declared.unused {
+            names.push(word.name)?;
+        }
+    }
+    rule_warnings_but(alloc, grm, &names)
+}
+
+// Writes the notes, and the states of the table if they are asked for.
+fn write_notes<O: Write, E: Write>(
+    asked: Asked,
+    notes: String,
     grm: &YaccGrammar<u32>,
     sgraph: &StateGraph<u32>,
     stable: &StateTable<u32>,
     out: &mut O,
     err: &mut E,
-) -> Result<(), Fault>
-    requires { IsBuilt grm.now sgraph.now stable.now }
-{
-    let mut notes = String::new(alloc);
-    push_reports(&mut notes, alloc, reporter, &rule_warnings(alloc, grm)?)?;
-    push_conflicts(&mut notes, alloc, reporter, grm, sgraph, stable)?;
-    write_messages(out, err, notes.as_str())
-}
-
-// The grammar of a text.
-fn grammar_of(
-    alloc: Global,
-    reporter: &Reporter<'_>,
-    text: &str,
-) -> Result<YaccGrammar<u32>, Fault> {
-    match YaccGrammar::new_with_storaget(alloc, text) {
-        Ok(grm) => Ok(grm),
-        Err(fault) => {
-            let report = grammar_report(alloc, text, &fault);
-            Err(fault_of_report(alloc, reporter, report))
-        }
+) -> Result<(), Fault> {
+    let mut text = notes;
+    if asked.shows_states {
+        push_states(&mut text, grm, sgraph, stable)?;
     }
+    write_messages(out, err, text.as_str())
 }
 
 // The table, after its chains of reductions are checked.

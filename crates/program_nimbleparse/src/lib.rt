@@ -3,15 +3,20 @@
 
 mod conflicts;
 mod errors;
+mod expects;
 mod fault_line;
 pub mod grammar;
+mod header;
 mod inputs;
+pub mod kind;
 mod options;
 pub mod parse;
 pub mod plan;
 mod program;
 pub mod rules;
 pub mod show;
+mod source;
+mod states;
 
 pub use lrpar_report::Look;
 pub use program::{Terminal, run, run_of_process};

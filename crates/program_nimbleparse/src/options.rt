@@ -1,5 +1,7 @@
 //! The words after the program's name as options and paths.
+use crate::kind::GrammarKind;
 use crate::plan::{Format, Recovery};
+use lrpar_grammar::grammar::YaccKind;
 use program_files::fault::{Fault, Misuse};
 use std::alloc::Global;
 
@@ -8,6 +10,10 @@ use std::alloc::Global;
 pub(crate) struct Options<'a> {
     /// Whether errors alone are printed.
     pub(crate) is_quiet: bool,
+    /// Whether the states of the table are printed.
+    pub(crate) shows_states: bool,
+    /// The kind of the grammar file, if the words name it.
+    pub(crate) kind: Option<GrammarKind>,
     pub(crate) recovery: Recovery,
     /// How many lexemes have to follow a repair, if the words say so.
     pub(crate) shifts: Option<usize>,
@@ -26,8 +32,15 @@ const LIMIT: usize = 20_000;
 pub(crate) const HELP: &str = "
 
 Reads the rules of a lexer and a grammar, and parses each input: standard input for none, or for `-`.
+A LEXER with a line %% is a .l file of lrlex. A GRAMMAR is a grammar text, or a .y file of yacc or of grmtools.
 
   -q           print errors alone: no trees, no warnings, no notes
+  -d           print the states of the table
+  -y grmtools  GRAMMAR is a .y file whose rules have types
+  -y original  GRAMMAR is a .y file of yacc
+  -y profile   GRAMMAR is a grammar text: declarations, rules, and nothing else
+               Without -y it is what the yacckind of its %grmtools{..} says; else a grammar text, if it can be read as one;
+               else of the kind grmtools, if a rule has a type, and original, if it has something else of .y files
   -r none      search for no repairs: the first error of an input is the last
   -r cpctplus  search for the cheapest repairs at each error, and go on with the first of them
   -r complete  the same; where none is found, insert and delete what leads to the nearest place to go on (the default)
@@ -44,6 +57,8 @@ Status 0: each input has a tree and no error; 1: an input has errors; 2: there i
 #[derive(Drop)]
 struct Said<'a> {
     is_quiet: bool,
+    shows_states: bool,
+    kind: Option<GrammarKind>,
     search: Search,
     limit: Option<usize>,
     shifts: Option<usize>,
@@ -54,6 +69,7 @@ struct Said<'a> {
 // An option with a word that belongs to it.
 #[derive(Clone, Copy)]
 enum Valued {
+    Kind,
     Recovery,
     Limit,
     Shifts,
@@ -80,6 +96,8 @@ pub(crate) fn asks_for_help(args: &[String]) -> bool {
 pub(crate) fn options_of(alloc: Global, args: &[String]) -> Result<Options<'_>, Fault> {
     let mut said = Said {
         is_quiet: false,
+        shows_states: false,
+        kind: None,
         search: Search::Complete,
         limit: None,
         shifts: None,
@@ -109,6 +127,7 @@ fn taken<'a>(
     }
     match word {
         "-q" => said.is_quiet = true,
+        "-d" => said.shows_states = true,
         "--" => {
             for path in others {
                 said.paths.push(path.as_str())?;
@@ -126,6 +145,7 @@ fn taken<'a>(
 // The option of that name, if it is one with a word of its own.
 fn option_named(word: &str) -> Option<Valued> {
     match word {
+        "-y" => Some(Valued::Kind),
         "-r" => Some(Valued::Recovery),
         "--limit" => Some(Valued::Limit),
         "--shifts" => Some(Valued::Shifts),
@@ -145,6 +165,7 @@ fn value<'a>(option: Valued, words: &'a [String]) -> Result<(&'a str, &'a [Strin
 // What is wrong if an option hasn't the word that it needs.
 fn needs(option: Valued) -> Misuse {
     match option {
+        Valued::Kind => Misuse::Kind,
         Valued::Recovery => Misuse::Recovery,
         Valued::Limit => Misuse::Limit,
         Valued::Shifts => Misuse::Shifts,
@@ -155,12 +176,23 @@ fn needs(option: Valued) -> Misuse {
 // Takes an option with the word that belongs to it.
 fn take_value(said: &mut Said<'_>, option: Valued, value: &str) -> Result<(), Fault> {
     match option {
+        Valued::Kind => said.kind = Some(kind_of(value)?),
         Valued::Recovery => said.search = search_of(value)?,
         Valued::Limit => said.limit = Some(number_of(option, value)?),
         Valued::Shifts => said.shifts = Some(shifts_of(value)?),
         Valued::Format => said.format = format_of(value)?,
     }
     Ok(())
+}
+
+// The kind of grammar files of that name.
+fn kind_of(name: &str) -> Result<GrammarKind, Fault> {
+    match name {
+        "grmtools" => Ok(GrammarKind::Yacc(YaccKind::Grmtools)),
+        "original" => Ok(GrammarKind::Yacc(YaccKind::Original)),
+        "profile" => Ok(GrammarKind::Profile),
+        _ => Err(Fault::Usage(needs(Valued::Kind))),
+    }
 }
 
 // The search of that name.
@@ -209,6 +241,8 @@ fn options_said(said: Said<'_>) -> Result<Options<'_>, Fault> {
     let recovery = recovery_of(said.search, said.limit)?;
     let Said {
         is_quiet,
+        shows_states,
+        kind,
         search: _,
         limit: _,
         shifts,
@@ -225,6 +259,8 @@ fn options_said(said: Said<'_>) -> Result<Options<'_>, Fault> {
     }
     Ok(Options {
         is_quiet,
+        shows_states,
+        kind,
         recovery,
         shifts,
         format,

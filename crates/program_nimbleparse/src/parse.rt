@@ -1,11 +1,14 @@
 //! The parse of one input, and what is printed of it.
 use crate::errors::{Subject, push_lexing_error, push_parse_error};
 use crate::plan::{Format, Plan, Recovery};
+use crate::rules::LexerRules;
 use crate::show::write_messages;
 use lrpar_grammar::span::TIdx;
 use lrpar_lexer::{RuleLexer, Token, TokenTypes};
+use lrpar_lexer_lrlex::StateLexer;
 use lrpar_parse::RTParserBuilder;
 use lrpar_parse_errors::errors::LexParseError;
+use lrpar_parse_lexemes::lex_api::NonStreamingLexer;
 use lrpar_parse_repair::repair::Recoverer;
 use lrpar_parse_trees::{Form, write_graph, write_nested};
 use lrpar_report::Reporter;
@@ -26,17 +29,45 @@ pub fn parse<R: Recoverer<u32, Token<u32>> + Drop, O: Write, E: Write>(
     out: &mut O,
     err: &mut E,
 ) -> Result<bool, Fault> {
-    let lexer = RuleLexer::new(alloc, plan.rules, input)?;
-    let (tree, errors) = parser.parse_generictree(alloc, &lexer)?;
+    match plan.rules {
+        LexerRules::Lines(rules) => {
+            let lexer = RuleLexer::new(alloc, rules, input)?;
+            parsed(alloc, parser, plan, &lexer, path, input, out, err)
+        }
+        LexerRules::States(rules) => {
+            let lexer = StateLexer::new(alloc, rules, input)?;
+            parsed(alloc, parser, plan, &lexer, path, input, out, err)
+        }
+    }
+}
+
+// The same by the lexer of the input.
+fn parsed<
+    'input,
+    R: Recoverer<u32, Token<u32>> + Drop,
+    L: NonStreamingLexer<'input, TokenTypes>,
+    O: Write,
+    E: Write,
+>(
+    alloc: Global,
+    parser: &RTParserBuilder<'_, u32, TokenTypes, R>,
+    plan: &Plan<'_>,
+    lexer: &L,
+    path: &str,
+    input: &str,
+    out: &mut O,
+    err: &mut E,
+) -> Result<bool, Fault> {
+    let (tree, errors) = parser.parse_generictree(alloc, lexer)?;
     let tree = tree.as_ref();
-    printed(alloc, plan, &lexer, path, input, tree, &errors, out, err)
+    printed(alloc, plan, lexer, path, input, tree, &errors, out, err)
 }
 
 // Writes messages of the errors, and prints the tree. Returns whether there is a tree, and no error.
-fn printed<O: Write, E: Write>(
+fn printed<'input, L: NonStreamingLexer<'input, TokenTypes>, O: Write, E: Write>(
     alloc: Global,
     plan: &Plan<'_>,
-    lexer: &RuleLexer<'_, '_>,
+    lexer: &L,
     path: &str,
     input: &str,
     tree: Option<&Tree>,
@@ -57,10 +88,10 @@ fn printed<O: Write, E: Write>(
 }
 
 // Writes messages of the errors.
-fn write_errors<O: Write, E: Write>(
+fn write_errors<'input, L: NonStreamingLexer<'input, TokenTypes>, O: Write, E: Write>(
     alloc: Global,
     plan: &Plan<'_>,
-    lexer: &RuleLexer<'_, '_>,
+    lexer: &L,
     path: &str,
     input: &str,
     errors: &[TextError],
@@ -95,10 +126,10 @@ fn errors_text(
 }
 
 // The tokens that can be fed at the first error, if it is one of the parse.
-fn expected_tokens(
+fn expected_tokens<'input, L: NonStreamingLexer<'input, TokenTypes>>(
     alloc: Global,
     plan: &Plan<'_>,
-    lexer: &RuleLexer<'_, '_>,
+    lexer: &L,
     errors: &[TextError],
 ) -> Result<Vec<TIdx<u32>>, Fault> {
     match errors.first() {

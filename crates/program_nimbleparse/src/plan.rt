@@ -1,5 +1,5 @@
 //! What inputs are parsed by, and how trees are printed.
-use lrpar_lexer::LexRule;
+use crate::rules::LexerRules;
 use lrpar_report::Look;
 use lrpar_table::check::ParserData;
 
@@ -37,7 +37,7 @@ pub enum Recovery {
 #[derive(Clone, Copy)]
 pub struct Plan<'a> {
     pub data: &'a ParserData<u32>,
-    pub rules: &'a [LexRule],
+    pub rules: &'a LexerRules,
     pub recovery: Recovery,
     pub format: Format,
     /// Whether errors alone are printed.

@@ -3,21 +3,23 @@
 ghost use Rattle.std.specs.Prelude.{◌≤◌};
 
 use crate::fault_line::{FaultLine, USAGE};
-use crate::grammar::data_of;
+use crate::grammar::{Asked, GrammarTable, table_of};
 use crate::inputs::{STANDARD_INPUT, file_text, input_text};
 use crate::options::{HELP, Options, asks_for_help, options_of};
 use crate::parse::parse;
 use crate::plan::{Plan, Recovery};
-use crate::rules::lexer_rules;
+use crate::rules::{LexerRules, lexer_rules};
 use crate::show::{with_label_text, write_messages};
 use lrpar_grammar::grammar::YaccGrammar;
-use lrpar_lexer::{LexRule, Token, TokenTypes};
+use lrpar_grammar::span::TIdx;
+use lrpar_lexer::{Token, TokenTypes};
 use lrpar_parse::RTParserBuilder;
 use lrpar_parse_completion::{Completion, NoCompletion};
 use lrpar_parse_cpctplus::CpctPlus;
 use lrpar_parse_repair::repair::Recoverer;
 use lrpar_report::{Level, Look, Report, Reporter, token_warnings};
 use lrpar_table::check::ParserData;
+use lrpar_table::table::StateTable;
 use program_files::fault::{Fault, Misuse};
 use program_files::parsing::with_shifts;
 use program_files::streams::{Status, ended, finished, words};
@@ -183,8 +185,17 @@ impl<'a> Work<'a> {
         )
     }
 
+    // What is asked of the grammar's file.
+    fn asked(self) -> Asked {
+        Asked {
+            kind: self.options.kind,
+            is_quiet: self.options.is_quiet,
+            shows_states: self.options.shows_states,
+        }
+    }
+
     // How inputs are parsed and trees are printed.
-    fn plan(self, data: &'a ParserData<u32>, rules: &'a [LexRule]) -> Plan<'a> {
+    fn plan(self, data: &'a ParserData<u32>, rules: &'a LexerRules) -> Plan<'a> {
         Plan {
             data,
             rules,
@@ -206,8 +217,8 @@ fn printed_by_texts<R: Files, I: Read + Drop, O: Write, E: Write>(
     out: &mut O,
     err: &mut E,
 ) -> Result<Status, Fault> {
-    let data = grammar_data(alloc, work, out, err)?;
-    printed_by_table(rt, alloc, work, &data, input, out, err)
+    let table = grammar_table(alloc, work, out, err)?;
+    printed_by_table(rt, alloc, work, &table, input, out, err)
 }
 
 // The same by the checked table of the grammar.
@@ -215,29 +226,29 @@ fn printed_by_table<R: Files, I: Read + Drop, O: Write, E: Write>(
     rt: &R,
     alloc: Global,
     work: Work<'_>,
-    data: &ParserData<u32>,
+    table: &GrammarTable,
     input: I,
     out: &mut O,
     err: &mut E,
 ) -> Result<Status, Fault> {
-    let rules = rules_of_lexer(alloc, work, data)?;
-    warn(alloc, work, data, &rules, out, err)?;
-    parse_inputs(rt, alloc, work, data, &rules, input, out, err)
+    let rules = rules_of_lexer(alloc, work, &table.data)?;
+    warn(alloc, work, table, &rules, out, err)?;
+    parse_inputs(rt, alloc, work, table, &rules, input, out, err)
 }
 
 // The checked table of the grammar.
-fn grammar_data<O: Write, E: Write>(
+fn grammar_table<O: Write, E: Write>(
     alloc: Global,
     work: Work<'_>,
     out: &mut O,
     err: &mut E,
-) -> Result<ParserData<u32>, Fault> {
-    let is_quiet = work.options.is_quiet;
-    if work.terminal.shows_progress && !is_quiet {
+) -> Result<GrammarTable, Fault> {
+    let asked = work.asked();
+    if work.terminal.shows_progress && !asked.is_quiet {
         write_messages(out, err, "nimbleparse: building the table ..\n")?;
     }
     let reporter = work.grammar_reporter(alloc)?;
-    data_of(alloc, &reporter, work.grammar, is_quiet, out, err)
+    table_of(alloc, &reporter, work.grammar, asked, out, err)
 }
 
 // The rules of the lexer.
@@ -245,7 +256,7 @@ fn rules_of_lexer(
     alloc: Global,
     work: Work<'_>,
     data: &ParserData<u32>,
-) -> Result<Vec<LexRule>, Fault> {
+) -> Result<LexerRules, Fault> {
     let path = work.options.lexer;
     let reporter = Reporter::new(alloc, work.lexer, path, work.terminal.look)?;
     lexer_rules(alloc, &reporter, data.grm(), work.lexer)
@@ -255,15 +266,15 @@ fn rules_of_lexer(
 fn warn<O: Write, E: Write>(
     alloc: Global,
     work: Work<'_>,
-    data: &ParserData<u32>,
-    rules: &[LexRule],
+    table: &GrammarTable,
+    rules: &LexerRules,
     out: &mut O,
     err: &mut E,
 ) -> Result<(), Fault> {
     if work.options.is_quiet {
         return Ok(());
     }
-    let text = warnings(alloc, work, data, rules)?;
+    let text = warnings(alloc, work, table, rules)?;
     write_messages(out, err, text.as_str())
 }
 
@@ -271,13 +282,13 @@ fn warn<O: Write, E: Write>(
 fn warnings(
     alloc: Global,
     work: Work<'_>,
-    data: &ParserData<u32>,
-    rules: &[LexRule],
+    table: &GrammarTable,
+    rules: &LexerRules,
 ) -> Result<String, AllocError> {
     let reporter = work.grammar_reporter(alloc)?;
     let mut text = String::new(alloc);
-    push_token_warnings(&mut text, alloc, &reporter, data.grm(), rules)?;
-    push_sizes(&mut text, alloc, &reporter, data)?;
+    push_token_warnings(&mut text, alloc, &reporter, table.data.grm(), rules)?;
+    push_sizes(&mut text, alloc, &reporter, table)?;
     Ok(text)
 }
 
@@ -287,30 +298,36 @@ fn push_token_warnings(
     alloc: Global,
     reporter: &Reporter<'_>,
     grm: &YaccGrammar<u32>,
-    rules: &[LexRule],
+    rules: &LexerRules,
 ) -> Result<(), AllocError> {
-    for report in token_warnings(alloc, grm, rules)? {
+    for report in token_warnings(alloc, grm, rules.rules())? {
         let report = with_label_text(report, "no line of LEXER names this token")?;
         reporter.push(out, alloc, &report)?;
     }
     Ok(())
 }
 
-// Adds a note of how large the grammar and its table are, and of the least cap.
+// Adds a note of how large the grammar and its table are, of the least cap, and of how many conflicts precedences resolved, if the file
+// declares any.
 fn push_sizes(
     out: &mut String,
     alloc: Global,
     reporter: &Reporter<'_>,
-    data: &ParserData<u32>,
+    table: &GrammarTable,
 ) -> Result<(), AllocError> {
+    let data = &table.data;
     let states = data.stable().states_len();
     let rules = data.grm().rules_len();
     let prods = data.grm().prods_len();
     let tokens = data.grm().tokens_len();
     let cap = data.least_cap();
-    let text = format!(in alloc;
+    let mut text = format!(in alloc;
         "rules {rules}, productions {prods}, tokens {tokens}, states {states}, least cap {cap}"
     )?;
+    if table.has_precedences {
+        let resolved = data.stable().resolved().len();
+        write!(text, ", conflicts resolved by precedences {resolved}")?;
+    }
     reporter.push(out, alloc, &Report::new(alloc, Level::Note, text.as_str())?)
 }
 
@@ -319,30 +336,41 @@ fn parse_inputs<R: Files, I: Read + Drop, O: Write, E: Write>(
     rt: &R,
     alloc: Global,
     work: Work<'_>,
-    data: &ParserData<u32>,
-    rules: &[LexRule],
+    table: &GrammarTable,
+    rules: &LexerRules,
     input: I,
     out: &mut O,
     err: &mut E,
 ) -> Result<Status, Fault> {
+    let GrammarTable { data, avoided, .. } = table;
     let plan = work.plan(data, rules);
     let parser = RTParserBuilder::new(data);
     match plan.recovery {
         Recovery::Nothing => parse_by(rt, alloc, work, &plan, parser, input, out, err),
         Recovery::Cheapest { limit } => {
-            let parser = parser.recoverer(CpctPlus::new(limit));
+            let parser = parser.recoverer(cheapest(alloc, limit, avoided)?);
             parse_by(rt, alloc, work, &plan, parser, input, out, err)
         }
         Recovery::Complete { limit } => match completion(alloc, work, data, out, err)? {
             Some(completion) => {
-                let parser = parser.recoverer(CpctPlus::new(limit).or(completion));
+                let parser = parser.recoverer(cheapest(alloc, limit, avoided)?.or(completion));
                 parse_by(rt, alloc, work, &plan, parser, input, out, err)
             }
             None => {
-                let parser = parser.recoverer(CpctPlus::new(limit));
+                let parser = parser.recoverer(cheapest(alloc, limit, avoided)?);
                 parse_by(rt, alloc, work, &plan, parser, input, out, err)
             }
         },
+    }
+}
+
+// What searches for the cheapest repairs with this limit, those last that insert one of these tokens.
+fn cheapest(alloc: Global, limit: usize, avoided: &[TIdx<u32>]) -> Result<CpctPlus, AllocError> {
+    let recoverer = CpctPlus::new(limit);
+    if avoided.is_empty() {
+        Ok(recoverer)
+    } else {
+        recoverer.avoid_insert(alloc, avoided)
     }
 }
 
@@ -359,7 +387,7 @@ fn completion<'a, O: Write, E: Write>(
         Err(NoCompletion::Memory) => Err(Fault::Memory),
         Err(refusal) => {
             if !work.options.is_quiet {
-                let text = no_completion(alloc, work, data.grm(), refusal)?;
+                let text = no_completion(alloc, work, data, refusal)?;
                 write_messages(out, err, text.as_str())?;
             }
             Ok(None)
@@ -371,9 +399,10 @@ fn completion<'a, O: Write, E: Write>(
 fn no_completion(
     alloc: Global,
     work: Work<'_>,
-    grm: &YaccGrammar<u32>,
+    data: &ParserData<u32>,
     refusal: NoCompletion<u32>,
 ) -> Result<String, AllocError> {
+    let grm = data.grm();
     let mut why = String::from_str(alloc, "an error may have no repair, as ")?;
     match refusal {
         NoCompletion::Unproductive(rule) => {
@@ -384,7 +413,7 @@ fn no_completion(
             why.push_str("' derives no text")?;
         }
         NoCompletion::Incomplete(_, _) | NoCompletion::Memory => {
-            why.push_str("the grammar has conflicts")?;
+            why.push_str(incomplete(data.stable()))?;
         }
     }
     let mut text = String::new(alloc);
@@ -395,6 +424,14 @@ fn no_completion(
         &Report::new(alloc, Level::Note, why.as_str())?,
     )?;
     Ok(text)
+}
+
+// Why a table isn't complete.
+fn incomplete(stable: &StateTable<u32>) -> &'static str {
+    match stable.conflicts() {
+        Some(_) => "the grammar has conflicts",
+        None => "precedences resolve conflicts of the grammar",
+    }
 }
 
 // Parses the inputs by a parser, with the number of lexemes that have to follow a repair, if the words say one. It's a success if each
