@@ -5,11 +5,15 @@ ghost use Rattle.lrpar_table_build.specs.Built.{IsBuilt};
 
 use crate::show::push_reports;
 use lrpar_conflict_examples::examples::{
-    ConflictExample, ExampleFault, conflict_examples, format_examples,
+    ConflictExample, ConflictsLeft, ExampleFault, UnmetConflict, conflict_examples,
+    conflict_examples_with, format_examples,
 };
 use lrpar_grammar::grammar::YaccGrammar;
-use lrpar_report::{Level, Report, Reporter, conflict_reports};
+use lrpar_report::{Level, Report, Reporter, conflict_reports, push_token};
+use lrpar_table::build::{BuildFault, from_yacc};
+use lrpar_table::precedences::Precedences;
 use lrpar_table::table::{StateGraph, StateTable};
+use program_files::tables::MAX_STATES;
 use std::alloc::{AllocError, Global};
 
 /// The bound of the search for a unifying counterexample of a conflict.
@@ -37,18 +41,78 @@ pub(crate) fn push_conflicts(
     }
 }
 
-/// Adds a warning for each of the first conflicts of a grammar with precedences, without counterexamples.
+/// The same for a grammar with precedences and their table: warnings and counterexamples of the conflicts that they leave, and a note of each
+/// of the first that no parse meets.
 pub(crate) fn push_unresolved(
     out: &mut String,
     alloc: Global,
     reporter: &Reporter<'_>,
     grm: &YaccGrammar<u32>,
+    precedences: &Precedences,
     stable: &StateTable<u32>,
 ) -> Result<(), AllocError> {
+    if stable.conflicts().is_none() {
+        return Ok(());
+    }
+    match from_yacc(alloc, grm, MAX_STATES) {
+        Ok((sgraph, plain)) => {
+            match conflict_examples_with(alloc, grm, precedences, &sgraph, &plain, BOUND) {
+                Ok(left) => push_left(out, alloc, reporter, grm, stable, &left),
+                Err(ExampleFault::Memory) => Err(AllocError),
+                Err(_) => push_count(out, alloc, reporter, stable),
+            }
+        }
+        Err(BuildFault::Memory) => Err(AllocError),
+        Err(_) => push_count(out, alloc, reporter, stable),
+    }
+}
+
+// Adds warnings and counterexamples of conflicts. If no parse meets some of them, the warnings don't say that there are examples, and notes
+// say which.
+fn push_left(
+    out: &mut String,
+    alloc: Global,
+    reporter: &Reporter<'_>,
+    grm: &YaccGrammar<u32>,
+    stable: &StateTable<u32>,
+    left: &ConflictsLeft<u32>,
+) -> Result<(), AllocError>
+    requires { ExamplesFit grm.now left.now.examples.items }
+{
+    if left.unmet.is_empty() {
+        return push_with_examples(out, alloc, reporter, grm, stable, &left.examples);
+    }
     let reports = conflict_reports(alloc, grm, stable)?;
     let shown = reports.get(..MOST).unwrap_or(&reports);
     push_reports(out, alloc, reporter, shown)?;
-    push_more(out, alloc, reporter, reports.len(), 0)
+    let first = first_of(&left.examples);
+    out.push_str(format_examples(alloc, grm, first)?.as_str())?;
+    for conflict in left.unmet.iter().take(MOST) {
+        push_unmet(out, alloc, reporter, grm, conflict)?;
+    }
+    push_more(out, alloc, reporter, reports.len(), left.examples.len())
+}
+
+// Adds a note of a conflict that no parse meets.
+fn push_unmet(
+    out: &mut String,
+    alloc: Global,
+    reporter: &Reporter<'_>,
+    grm: &YaccGrammar<u32>,
+    conflict: &UnmetConflict<u32>,
+) -> Result<(), AllocError> {
+    let mut message = String::from_str(alloc, "no parse meets the conflict at ")?;
+    push_token(&mut message, grm, conflict.token)?;
+    let state = usize::from(conflict.state);
+    write!(
+        message,
+        " in state {state}: precedences take away each way there"
+    )?;
+    reporter.push(
+        out,
+        alloc,
+        &Report::new(alloc, Level::Note, message.as_str())?,
+    )
 }
 
 // Adds how many conflicts there are, if none has a counterexample.

@@ -1,6 +1,7 @@
 //! The numbers of conflicts that a file expects.
 use crate::show::fault_of_report;
 use lrpar_grammar::grammar::{Declarations, Number};
+use lrpar_grammar::span::Span;
 use lrpar_report::{Report, Reporter};
 use lrpar_table::table::StateTable;
 use program_files::fault::Fault;
@@ -48,8 +49,8 @@ fn number_in(numbers: &[Number]) -> usize {
     }
 }
 
-/// Refuses a table with another number of conflicts than its file expects. Of several numbers the last one counts; without one, any number
-/// of conflicts of that kind is right.
+/// Refuses a table with another number of conflicts than its file expects. Of several numbers the last one counts. A file that expects
+/// conflicts of one kind alone expects none of the other kind; if it says nothing, any number of conflicts is right.
 pub(crate) fn expect(
     alloc: Global,
     reporter: &Reporter<'_>,
@@ -60,51 +61,62 @@ pub(crate) fn expect(
         return Ok(());
     };
     let counts = counts_of(stable);
-    let Counts {
-        shift_reduce,
-        reduce_reduce,
-    } = counts;
+    let (shifts, reductions) = (
+        declarations.expected.last(),
+        declarations.expected_rr.last(),
+    );
     expect_number(
         alloc,
         reporter,
         "shift/reduce",
-        &declarations.expected,
-        shift_reduce,
+        shifts,
+        reductions,
+        counts.shift_reduce,
     )?;
     expect_number(
         alloc,
         reporter,
         "reduce/reduce",
-        &declarations.expected_rr,
-        reduce_reduce,
+        reductions,
+        shifts,
+        counts.reduce_reduce,
     )
 }
 
-// Refuses another number of conflicts of a kind than the last of these, if there is one.
+// Refuses another number of conflicts of a kind than the expected one; or any, if a number of the other kind alone is expected.
 fn expect_number(
     alloc: Global,
     reporter: &Reporter<'_>,
     kind: &str,
-    expected: &[Number],
+    expected: Option<&Number>,
+    other: Option<&Number>,
     count: usize,
 ) -> Result<(), Fault> {
-    match expected.last() {
-        Some(number) if number.number != count => {
-            let report = count_report(alloc, kind, *number, count);
-            Err(fault_of_report(alloc, reporter, report))
-        }
-        _ => Ok(()),
+    let (number, span, label) = match (expected, other) {
+        (Some(expected), _) => (expected.number, expected.span, "this number is expected"),
+        (None, Some(other)) => (
+            0,
+            other.span,
+            "conflicts of the other kind alone are expected",
+        ),
+        (None, None) => return Ok(()),
+    };
+    if number == count {
+        return Ok(());
     }
+    let report = count_report(alloc, kind, number, count, span, label);
+    Err(fault_of_report(alloc, reporter, report))
 }
 
 // The report of another number of conflicts than the expected one.
 fn count_report(
     alloc: Global,
     kind: &str,
-    expected: Number,
+    number: usize,
     count: usize,
+    span: Span,
+    label: &str,
 ) -> Result<Report, AllocError> {
-    let number = expected.number;
     let message = format!(in alloc; "the number of {kind} conflicts is {count}, not {number}")?;
-    Report::error(alloc, message.as_str())?.label(expected.span, "this number is expected")
+    Report::error(alloc, message.as_str())?.label(span, label)
 }

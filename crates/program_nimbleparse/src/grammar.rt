@@ -139,7 +139,7 @@ fn resolved_data<O: Write, E: Write>(
     match from_yacc_with(alloc, &grm, &precedences, MAX_STATES) {
         Ok((sgraph, stable)) => {
             if !asked.is_quiet {
-                let notes = resolved_notes(alloc, reporter, &grm, declared, &stable)?;
+                let notes = resolved_notes(alloc, reporter, &grm, declared, &precedences, &stable)?;
                 write_notes(asked, notes, &grm, &sgraph, &stable, out, err)?;
             }
             expect(alloc, reporter, declared, &stable)?;
@@ -191,6 +191,7 @@ fn resolved_notes(
     reporter: &Reporter<'_>,
     grm: &YaccGrammar<u32>,
     declared: Option<&Declarations<'_>>,
+    precedences: &Precedences,
     stable: &StateTable<u32>,
 ) -> Result<String, AllocError> {
     let mut notes = String::new(alloc);
@@ -201,7 +202,7 @@ fn resolved_notes(
         &unused_rules(alloc, grm, declared)?,
     )?;
     if !has_expected(declared, stable) {
-        push_unresolved(&mut notes, alloc, reporter, grm, stable)?;
+        push_unresolved(&mut notes, alloc, reporter, grm, precedences, stable)?;
     }
     Ok(notes)
 }
