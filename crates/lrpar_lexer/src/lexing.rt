@@ -43,8 +43,9 @@ pub(crate) fn token_of<StorageT: StorageIndex>(
     rules[rule].token
 }
 
-// Appends the lexeme of the token, with `len` bytes from byte `at` on; nothing if there is no token.
-pub(crate) fn push_lexeme<StorageT: StorageIndex>(
+/// Appends the lexeme of the token, with `len` bytes from byte `at` on; nothing if there is no token. If memory runs out, the list is as
+/// before.
+pub fn push_lexeme<StorageT: StorageIndex>(
     answers: &mut Vec<Result<Token<StorageT>, NoToken>>,
     token: Option<TIdx<StorageT>>,
     at: usize,

@@ -44,7 +44,7 @@ returns-then-not-goes g c =
     (subst (λ e. LexesIn rules text 0 0 [] (plain_answers index c.places.answers.items ++ Err e ∷ [])) (sym c.nothing_below.ensures)
     (leads_to_fall rules text c.places.at top below c.in-Some.rule c.in-Some.len (plain_answers index c.places.answers.items) c.places-test.true
     c.in-Some.ensures.found
-    (ap (λ t. moved t top below) (sym c.target_of-target.ensures) ∙ c.in_ok-goes.ensures ∙ cond-false c.in_ok-goes.goes _ _ c.if-not-goes.true)
+    (ap (λ t. moved t top below) (sym c.target_of-target.ensures) ∙ c.in_ok-goes.ensures.moved ∙ cond-false c.in_ok-goes.goes _ _ c.if-not-goes.true)
     c.places.invariant.leads))
 
 pub places-preserved : goal.places-preserved
@@ -63,7 +63,7 @@ places-preserved g c =
       leads = subst (LeadsTo rules text (at + c.in-Some.len) _ _)
           (sym (c.in_ok-push_lexeme.ensures ∙ ap (λ t. so_far ++ lexemes_of t at c.in-Some.len) c.token_of.ensures))
           (leads_on rules text at top below c.in-Some.rule c.in-Some.len _ _ so_far c.places-test.true c.in-Some.ensures.found
-          (ap (λ t. moved t top below) (sym c.target_of-target.ensures) ∙ c.in_ok-goes.ensures ∙ cond-true c.in_ok-goes.goes _ _ c.if-not-goes.false)
+          (ap (λ t. moved t top below) (sym c.target_of-target.ensures) ∙ c.in_ok-goes.ensures.moved ∙ cond-true c.in_ok-goes.goes _ _ c.if-not-goes.false)
           c.places.invariant.leads);
     }
 
