@@ -1,7 +1,8 @@
 -- The lexemes of a text by rules with start states, if unmatched characters are lexemes, too, step by step.
-use Rattle.std.proofs.Common.{◌≡◌, ℕ, ◌+◌, ◌<◌, ◌≤◌, List, [], ◌++◌, length, map, drop, Option, Result, sym, subst, refl, append_assoc}
+use Rattle.std.proofs.Common.{◌≡◌, ℕ, ◌+◌, ◌<◌, ◌≤◌, List, [], ◌++◌, length, map, drop, Option, Some, None, Result, sym, subst, ◌∙◌, ap, refl, append_assoc}
 use Rattle.std.specs.List.{All, AllZip}
 use Rattle.std.proofs.lemmas.List.{append-nil}
+use Rattle.std.proofs.lemmas.Option.{same_Some}
 use Rattle.regex.specs.Patterns.{Re}
 use Rattle.regex_meta.specs.declared.program.Program.{Program}
 use Rattle.lrpar_lexer.specs.Anchored.{FindsAtStart}
@@ -13,9 +14,10 @@ use Rattle.lrpar_lexer.specs.declared.token.NoToken.{NoToken}
 use Rattle.lrpar_lexer.proofs.LexingLemmas.{patterns_same}
 use Rattle.lrpar_lexer.proofs.WinnerLemmas.{rules_find}
 use Rattle.lrpar_lexer_lrlex.specs.declared.rules.LrlexRules.{LrlexRules}
-use Rattle.lrpar_lexer_lrlex.specs.LexingIn.{patterns_in}
-use Rattle.lrpar_lexer_lrlex.specs.LexingAllIn.{IsNextIn, LexesAllIn, all_read, comes}
-use Rattle.lrpar_lexer_lrlex.specs.StateRules.{StateRules, active, plain_state_rules}
+use Rattle.lrpar_lexer_lrlex.specs.LexingIn.{ReadsIn, patterns_in}
+use Rattle.lrpar_lexer_lrlex.specs.LexingAllIn.{IsNextIn, LexesAllIn, all_read, comes, goes, keeps}
+use Rattle.lrpar_lexer_lrlex.specs.StateRules.{StateRules, active, moved, plain_state_rules, target_at, token_at}
+use Rattle.lrpar_lexer_lrlex.specs.States.{Target}
 use Rattle.lrpar_lexer_lrlex.proofs.LexingInLemmas.{active_have_patterns}
 
 -- the lexemes so far, and then those from byte `at` on with that stack, are the lexemes of the whole text
@@ -58,3 +60,23 @@ run_in index rules state programs chosen text at n same is_active none run =
     (run patterns (subst (λ ps. AllZip FindsAtStart ps patterns) (sym same) (rules_find rules.rules.items))
     (subst (All (λ i. i < length patterns)) (sym is_active) (active_have_patterns index rules state))
     (subst (λ ps. NoneMatches ps (drop at text)) (sym plain) none))
+
+module _ (rules : StateRules) (unmatched : ℕ) (text : List ℕ) (at top : ℕ) (below : List ℕ) (rule n : ℕ) (read : ReadsIn rules text top at rule n) where
+  -- a match comes, and its target moves the stack
+  pub goes_in : (token : Option ℕ) (next : ℕ) (under : List ℕ) → token ≡ token_at rules rule
+      → moved (target_at rules rule) top below ≡ Some (next, under) → IsNextIn rules unmatched text at top below token n next under
+  goes_in token next under is on =
+      subst (λ t. IsNextIn rules unmatched text at top below t n next under) (sym is) (goes rule n next under read on)
+
+  -- or it would pop the last state, and the stack stays
+  pub keeps_in : (next : ℕ) (under : List ℕ) → moved (target_at rules rule) top below ≡ None → (next ≡ top) × (under ≡ below)
+      → IsNextIn rules unmatched text at top below (Some unmatched) n next under
+  keeps_in next under out same =
+      subst (λ t. IsNextIn rules unmatched text at top below (Some unmatched) n t under) (sym same.0)
+      (subst (λ b. IsNextIn rules unmatched text at top below (Some unmatched) n top b) (sym same.1) (keeps rule n read out))
+
+-- without a target the state on top stays
+pub top_stays : (target : Option Target) (top next : ℕ) (below under : List ℕ) → moved target top below ≡ Some (next, under) → target ≡ None
+    → next ≡ top
+top_stays target top next below under on none =
+    ap (λ (s : ℕ × List ℕ). s.0) (same_Some (next, under) (top, below) (sym on ∙ ap (λ t. moved t top below) none))
