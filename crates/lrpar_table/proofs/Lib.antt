@@ -1,2 +1,3 @@
 pub mod CompleteLemmas
 pub mod ResolvedLemmas
+pub mod DataLemmas

@@ -1,5 +1,5 @@
 -- Slots that are filled from entries, one by one.
-use Rattle.std.proofs.Common.{◌≡◌, ◌≢◌, ◌<◌, ◌≤◌, ◌+◌, ◌++◌, ◌∷◌, ◌==◌, ◌∙◌, ℕ, suc, true, false, cond, nat_eq, List, [], Option, Some, None, refl, sym, ap, subst, arith, inl, inr, length, set, add-zero, zero-add, take, drop, slice_index_or}
+use Rattle.std.proofs.Common.{◌≡◌, ◌≢◌, ◌<◌, ◌≤◌, ◌+◌, ◌++◌, ◌∷◌, ◌==◌, ◌∙◌, ℕ, suc, Bool, true, false, cond, nat_eq, List, [], Option, Some, None, refl, sym, ap, subst, arith, inl, inr, length, set, add-zero, zero-add, take, drop, slice_index_or}
 use Rattle.std.specs.Map.{keys_of, lookup}
 use Rattle.std.specs.Option.{is_some, option_or}
 use Rattle.std.proofs.Math.Seq.{drop-cons}
@@ -11,19 +11,18 @@ use Rattle.lrpar_table_precedence.specs.declared.precedence.Precedence.{Preceden
 use Rattle.lrpar_table_precedence.specs.Filled.{AreFilled, slot_at}
 use Rattle.lrpar_table_precedence.specs.Levels.{times_listed}
 
--- a number in entries, and in one more
-lookup_push : (n : ℕ) (es : List (ℕ × Precedence)) (e : ℕ × Precedence)
-    → lookup (nat_eq n) (es ++ e ∷ []) ≡ option_or (lookup (nat_eq n) es) (cond (nat_eq n e.0) (Some e.1) None)
-lookup_push n [] e = refl
-lookup_push n (d ∷ es) e =
-    elim (nat_eq n d.0) as (λ b. cond b (Some d.1) (lookup (nat_eq n) (es ++ e ∷ []))
-    ≡ option_or (cond b (Some d.1) (lookup (nat_eq n) es)) (cond (nat_eq n e.0) (Some e.1) None)) [
+-- a key in entries, and in one more
+pub lookup_push : {K : Type 0} (test : K → Bool) (es : List (K × Precedence)) (e : K × Precedence)
+    → lookup test (es ++ e ∷ []) ≡ option_or (lookup test es) (cond (test e.0) (Some e.1) None)
+lookup_push test [] e = refl
+lookup_push test (d ∷ es) e =
+    elim (test d.0) as (λ b. cond b (Some d.1) (lookup test (es ++ e ∷ [])) ≡ option_or (cond b (Some d.1) (lookup test es)) (cond (test e.0) (Some e.1) None)) [
       | true ↦ refl
-      | false ↦ lookup_push n es e
+      | false ↦ lookup_push test es e
     ]
 
 -- nothing more
-or_none : (o : Option Precedence) → option_or o None ≡ o
+pub or_none : (o : Option Precedence) → option_or o None ≡ o
 or_none None = refl
 or_none (Some x) = refl
 
@@ -58,10 +57,10 @@ fill_more es k x slots within empty filled = record {
         | inl same ↦
             let none : lookup (nat_eq n) es ≡ None = sym (filled.found n) ∙ ap (slot_at slots) same ∙ empty in
             get_or-set_at slots k n (Some x) None same within
-            ∙ sym (lookup_push n es (k, x) ∙ ap (λ o. option_or o (cond (nat_eq n k) (Some x) None)) none ∙ ap (λ b. cond b (Some x) None) (eq-eqb n k same))
+            ∙ sym (lookup_push (nat_eq n) es (k, x) ∙ ap (λ o. option_or o (cond (nat_eq n k) (Some x) None)) none ∙ ap (λ b. cond b (Some x) None) (eq-eqb n k same))
         | inr other ↦
             get_or-set_other slots k n (Some x) None other ∙ filled.found n
-            ∙ sym (lookup_push n es (k, x) ∙ ap (λ b. option_or (lookup (nat_eq n) es) (cond b (Some x) None)) (ne_eqb n k other)
+            ∙ sym (lookup_push (nat_eq n) es (k, x) ∙ ap (λ b. option_or (lookup (nat_eq n) es) (cond b (Some x) None)) (ne_eqb n k other)
             ∙ or_none (lookup (nat_eq n) es))
       ];
   once = λ n.
@@ -79,7 +78,7 @@ fill_more es k x slots within empty filled = record {
 }
 
 -- nothing is in an empty slot
-empty_from_test : (o : Option Precedence) → is_some o ≡ false → o ≡ None
+pub empty_from_test : (o : Option Precedence) → is_some o ≡ false → o ≡ None
 empty_from_test None is = refl
 empty_from_test (Some x) is = absurd (cc)
 

@@ -57,7 +57,7 @@ last_more_rule (Nonterminal q ∷ w) r = last_more_rule w r
 last_more_rule (Terminal s ∷ w) r = ap (λ o. Some (unwrap_or o s)) (last_more_rule w r)
 
 -- the lists of each number below an end, joined, with one more number
-flat_more : {Y : Type 0} (f : ℕ → List Y) (n : ℕ) → flat_map f (range_with_len 0 (n + 1)) ≡ flat_map f (range_with_len 0 n) ++ f n
+pub flat_more : {Y : Type 0} (f : ℕ → List Y) (n : ℕ) → flat_map f (range_with_len 0 (n + 1)) ≡ flat_map f (range_with_len 0 n) ++ f n
 flat_more f n =
     let last : 0 + n ≡ n = omega arith in
     ap (flat_map f) (sym (range_more 0 n)) ∙ flat_map-append f (range_with_len 0 n) ((0 + n) ∷ [])
@@ -177,7 +177,7 @@ within_as entries others n len same is all =
     subst (λ es. All (λ (entry : ℕ × Precedence). entry.0 < len) es) (sym same) (subst (λ k. All (λ (entry : ℕ × Precedence). entry.0 < k) others) (sym is) all)
 
 -- what a value leads to
-and_then_same : (f h : ℕ → Option Precedence) → ((n : ℕ) → f n ≡ h n) → (o : Option ℕ) → option_and_then f o ≡ option_and_then h o
+pub and_then_same : (f h : ℕ → Option Precedence) → ((n : ℕ) → f n ≡ h n) → (o : Option ℕ) → option_and_then f o ≡ option_and_then h o
 and_then_same f h same None = refl
 and_then_same f h same (Some n) = same n
 

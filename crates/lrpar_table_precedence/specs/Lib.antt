@@ -1,4 +1,4 @@
 pub mod Precedence
 pub mod Levels
-pub mod Declared
+pub mod ByName
 pub mod Filled

@@ -189,7 +189,7 @@ fn prod_slots<StorageT: StorageIndex>(
 }
 
 // Gives each production that has no precedence yet that of its last token.
-fn add_last_tokens<StorageT: StorageIndex>(
+pub(crate) fn add_last_tokens<StorageT: StorageIndex>(
     grm: &YaccGrammar<StorageT>,
     tokens: &[Option<Precedence>],
     prods: &mut [Option<Precedence>],
@@ -206,7 +206,7 @@ fn add_last_tokens<StorageT: StorageIndex>(
 }
 
 // The precedence of the last token among the symbols, if there is one and it has one.
-pub(crate) fn last_precedence<StorageT: StorageIndex>(
+fn last_precedence<StorageT: StorageIndex>(
     tokens: &[Option<Precedence>],
     symbols: &[Symbol<StorageT>],
 ) -> Option<Precedence>

@@ -35,6 +35,17 @@ impl<'a, StorageT: StorageIndex> Drop for YaccFile<'a, StorageT> {
     }
 }
 
+impl<'a, StorageT: StorageIndex> YaccFile<'a, StorageT> {
+    /// The grammar, and the erased file with what it declares beside the grammar.
+    pub fn into_parts(self) -> (YaccGrammar<StorageT>, YaccText<'a>)
+        ensures grammar { result.0 ≡ self.grammar }
+        ensures text { result.1 ≡ self.text }
+    {
+        let YaccFile { grammar, text } = self;
+        (grammar, text)
+    }
+}
+
 /// Why there is no grammar of a `.y` file.
 #[derive(Clone, Debug, Drop, PartialEq, Eq, Error)]
 pub enum YaccFileFault {

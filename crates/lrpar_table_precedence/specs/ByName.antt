@@ -1,6 +1,10 @@
 -- The precedences that a `.y` file declares for its grammar, by names. A token has that of its name. A production has that of the
 -- name after its `%prec`; without `%prec`, that of its last token.
-use Rattle.std.specs.Prelude.{◌==◌, ℕ, List, [], Option, None, bytes_eq, length, map, option_map, slice_get, slice_index_or}
+use Rattle.std.specs.Prelude.{◌≡◌, ◌==◌, ℕ, List, [], Option, bytes_eq, length, map, slice_get, slice_index_or}
+use Rattle.std.specs.BTreeMap.{BTreeMap, get_by}
+use Rattle.std.specs.Borrow.{Bor}
+use Rattle.std.specs.Cmp.Lexicographic.{slice_cmp}
+use Rattle.std.specs.Ordering.{nat_cmp}
 use Rattle.std.specs.List.{find, flat_map, range_with_len}
 use Rattle.std.specs.Map.{lookup}
 use Rattle.std.specs.Option.{option_and_then, option_map_or}
@@ -39,3 +43,11 @@ abbrev pub prod_by_name : Grammar → TextDeclarations → ℕ → Option Preced
 prod_by_name g d p =
     option_map_or (λ x. precedence_of_name d.levels x.name.name) (prec_of_prod d.precs p)
     (option_and_then (token_by_name g d.levels) (last_token (symbols_of g p)))
+
+-- the precedence of a name in a map
+abbrev pub precedence_in : BTreeMap (Bor (List ℕ)) Precedence → List ℕ → Option Precedence
+precedence_in names name = get_by (λ k. slice_cmp nat_cmp name k.now) names
+
+-- the map has the precedences of these entries
+abbrev pub HasPrecedences : BTreeMap (Bor (List ℕ)) Precedence → List (List ℕ × Precedence) → Type 0
+HasPrecedences names entries = (name : List ℕ) → precedence_in names name ≡ lookup (bytes_eq name) entries
