@@ -43,8 +43,7 @@ pub(crate) fn token_of<StorageT: StorageIndex>(
     rules[rule].token
 }
 
-/// Appends the lexeme of the token, with `len` bytes from byte `at` on; nothing if there is no token. If memory runs out, the list is as
-/// before.
+/// Appends the lexeme of the token, with `len` bytes from byte `at` on; nothing if there is no token. `Err`: out of memory.
 pub fn push_lexeme<StorageT: StorageIndex>(
     answers: &mut Vec<Result<Token<StorageT>, NoToken>>,
     token: Option<TIdx<StorageT>>,

@@ -7,7 +7,7 @@ use Rattle.std.proofs.lemmas.List.Elements.{All-head, All-tail}
 use Rattle.std.proofs.lemmas.Option.{none-some, same_Some, slice_get-get_or, slice_get_within}
 use Rattle.regex.specs.Patterns.{Re, empty}
 use Rattle.lrpar_lexer.specs.Lexing.{Lexes, Reads, ends, lexemes_of, reads, stops}
-use Rattle.lrpar_lexer.specs.LexingAll as all
+use Rattle.lrpar_lexer.specs.LexingAll as plain
 use Rattle.lrpar_lexer.specs.LexingAll.{IsNext, LexesAll}
 use Rattle.lrpar_lexer.specs.Matching.{IsUnmatched, NoneMatches, Wins, chosen_of}
 use Rattle.lrpar_lexer.specs.Rules.{Rule}
@@ -151,10 +151,10 @@ module _ (rules : StateRules) (text : List ℕ) (same : length rules.starts ≡ 
 
     all_as_rules : (at top : ℕ) (below : List ℕ) (answers : List (Result (Token ℕ) NoToken)) → LexesAllIn rules unmatched text at top below answers
         → top ≡ 0 → LexesAll rules.rules unmatched text at answers
-    all_as_rules _ _ _ _ (all_read at top below past) zero_top = all.finishes at past
+    all_as_rules _ _ _ _ (all_read at top below past) zero_top = plain.finishes at past
     all_as_rules _ _ _ _ (comes at top below token n next under answers within one rest) zero_top =
-        let plain = next_as_rules at top below token n next under one zero_top in
-        all.goes_on at n token answers within plain.0 (all_as_rules (at + n) next under answers rest plain.1)
+        let next_one = next_as_rules at top below token n next under one zero_top in
+        plain.goes_on at n token answers within next_one.0 (all_as_rules (at + n) next under answers rest next_one.1)
 
     next_as_states : (at n : ℕ) (token : Option ℕ) → IsNext rules.rules unmatched text at token n → IsNextIn rules unmatched text at 0 [] token n 0 []
     next_as_states at n token (inl read) =
@@ -166,8 +166,8 @@ module _ (rules : StateRules) (text : List ℕ) (same : length rules.starts ≡ 
 
     all_as_states : (at : ℕ) (answers : List (Result (Token ℕ) NoToken)) → LexesAll rules.rules unmatched text at answers
         → LexesAllIn rules unmatched text at 0 [] answers
-    all_as_states _ _ (all.finishes at past) = all_read at 0 [] past
-    all_as_states _ _ (all.goes_on at n token answers within one rest) =
+    all_as_states _ _ (plain.finishes at past) = all_read at 0 [] past
+    all_as_states _ _ (plain.goes_on at n token answers within one rest) =
         comes at 0 [] token n 0 [] answers within (next_as_states at n token one) (all_as_states (at + n) answers rest)
 
 pub lexes_as_rules : LexesAsRules

@@ -1,5 +1,5 @@
 //! Rules of `.l` files: why there are none, or the lexemes and errors that they give for an input.
-use lrpar_grammar::grammar::YaccGrammar;
+use lrpar_grammar::grammar::{GrammarFault, YaccGrammar};
 use lrpar_grammar::span::{Span, TIdx};
 use lrpar_lexer::{NoToken, Token};
 use lrpar_lexer_lrlex::{LrlexFault, LrlexRules, StateLexer, rules_of_lrlex};
@@ -49,6 +49,7 @@ fn grammar_of(alloc: Global, case: Case<'_, '_>) -> Result<YaccGrammar<u8>, Faul
     let text = case.text(alloc, "grammar")?;
     match YaccGrammar::new_with_storaget(alloc, text.as_str()) {
         Ok(grm) => Ok(grm),
+        Err(GrammarFault::Memory) => Err(Fault::Memory),
         Err(_) => Err(Fault::Line(case.number, "a grammar is wanted")),
     }
 }
@@ -63,10 +64,12 @@ fn push_lexed(
 ) -> Result<(), Fault> {
     let input = case.text(alloc, "input")?;
     let lexer = lexer_of(alloc, case, grm, rules, input.as_str())?;
-    let mut again = Printed::new(alloc);
-    push_answers(out, grm, &lexer.iter(alloc)?);
-    push_answers(&mut again, grm, &lexer.lexed(alloc)?.iter(alloc)?);
-    if !out.so_far().ends_with(again.so_far()) {
+    let mut first = Printed::new(alloc);
+    let mut second = Printed::new(alloc);
+    push_answers(&mut first, grm, &lexer.iter(alloc)?);
+    push_answers(&mut second, grm, &lexer.lexed(alloc)?.iter(alloc)?);
+    out.append(&first);
+    if !out.agree(&first, &second) {
         out.text("lexed differs\n");
     }
     Ok(())
