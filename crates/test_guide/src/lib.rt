@@ -12,6 +12,8 @@ mod example;
 #[cfg(test)]
 mod guide;
 #[cfg(test)]
+mod lrpar_files;
+#[cfg(test)]
 mod placed;
 #[cfg(test)]
 mod tables;

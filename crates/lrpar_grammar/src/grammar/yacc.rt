@@ -38,8 +38,8 @@ impl<'a, StorageT: StorageIndex> Drop for YaccFile<'a, StorageT> {
 impl<'a, StorageT: StorageIndex> YaccFile<'a, StorageT> {
     /// The grammar, and the erased file with what it declares beside the grammar.
     pub fn into_parts(self) -> (YaccGrammar<StorageT>, YaccText<'a>)
-        ensures grammar { result.0 ≡ self.grammar }
-        ensures text { result.1 ≡ self.text }
+        ensures grammar { result.0 ≡ self.entry.grammar }
+        ensures text { result.1 ≡ self.entry.text }
     {
         let YaccFile { grammar, text } = self;
         (grammar, text)

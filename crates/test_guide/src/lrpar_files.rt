@@ -1,0 +1,96 @@
+//! A tree by the files of an lrpar project, as a user writes it.
+use lrpar::RTParserBuilder;
+use lrpar::build::{Unbuilt, parser_data_with};
+use lrpar::grammar::{YaccFileFault, YaccGrammar, YaccKind};
+use lrpar::parser::ParseFault;
+use lrpar::precedences::Precedences;
+use lrpar_lexer_lrlex::{LrlexFault, StateLexer, rules_of_lrlex};
+use std::alloc::{AllocError, Global};
+use std::process::Abort;
+use std::test::Fail;
+use thiserror::Error;
+
+/// A grammar with actions and precedences.
+const GRAMMAR: &str = "%start Expr
+%left '+' '-'
+%left '*'
+%right '^'
+%%
+Expr -> Result<u64, ()>:
+      Expr '+' Expr { Ok($1? + $3?) }
+    | Expr '-' Expr { Ok($1? - $3?) }
+    | Expr '*' Expr { Ok($1? * $3?) }
+    | Expr '^' Expr { Ok($1?.pow($3?)) }
+    | 'INT' { $lexer.span_str($1.unwrap().span()).parse() }
+    ;
+";
+
+/// Rules with a start state for comments.
+const RULES: &str = r#"%x COMMENT
+%%
+/\* <+COMMENT>;
+<COMMENT>\*/ <-COMMENT>;
+<COMMENT>.|\n ;
+[0-9]+ "INT"
+\+ "+"
+- "-"
+\* "*"
+\^ "^"
+[ \n] ;
+"#;
+
+/// Why there is no tree.
+#[derive(Debug, Drop, Error)]
+enum Failed {
+    #[error("grammar: {0}")]
+    Grammar(#[from] YaccFileFault),
+    #[error("table: {0}")]
+    Table(#[from] Unbuilt<u32>),
+    #[error("rules: {0}")]
+    Rules(#[from] LrlexFault),
+    #[error("parse: {0}")]
+    Parse(#[from] ParseFault),
+    #[error("out of memory")]
+    Memory(#[from] AllocError),
+}
+
+// The tree of the input, by the texts of a `.y` file and of a `.l` file.
+fn tree_by_files(alloc: Global, grammar: &str, rules: &str, input: &str) -> Result<String, Failed> {
+    let file = YaccGrammar::<u32>::new_with_kind(alloc, YaccKind::Grmtools, grammar)?;
+    let (grammar, text) = file.into_parts();
+    let precedences = Precedences::declared(alloc, &grammar, &text.declarations)?;
+    let data = parser_data_with(alloc, grammar, &precedences, 10_000, 1_000)?;
+    let rules = rules_of_lrlex(alloc, data.grm(), rules)?;
+    let lexer = StateLexer::new(alloc, &rules, input)?;
+    let (tree, _) = RTParserBuilder::new(&data).parse_generictree(alloc, &lexer)?;
+    match tree {
+        Some(tree) if tree.fits(data.grm(), input) => Ok(tree.pp(alloc, data.grm(), input)?),
+        _ => Ok(String::new(alloc)),
+    }
+}
+
+/// The tree of `1 - 2 - 3 * 4`.
+const TREE: &str = "Expr
+ Expr
+  Expr
+   INT 1
+  - -
+  Expr
+   INT 2
+ - -
+ Expr
+  Expr
+   INT 3
+  * *
+  Expr
+   INT 4
+";
+
+#[test]
+fn tree_by_precedences(rt: HostRuntime) -> Result<(), Fail> {
+    let tree = tree_by_files(rt.alloc(), GRAMMAR, RULES, "1 - 2 /* * */ - 3 * 4").expect(
+        &rt, "a tree",
+    );
+    assert_eq!(rt; tree.as_str(), TREE);
+    Ok(())
+}
