@@ -111,9 +111,9 @@ module _ (rules : StateRules) (text : List ℕ) (same : length rules.starts ≡ 
   as_rules _ _ _ _ (finishes at top below past) zero_top = ends at past
   as_rules _ _ _ _ (fails at top below within none) zero_top =
       stops at within (subst (λ ps. NoneMatches ps (drop at text)) (ap (patterns_in rules) zero_top ∙ patterns_are) none)
-  as_rules _ _ _ _ (falls at top below rule n within read goes) zero_top = absurd (none-some (top, below) (sym goes ∙ stays rule top below))
-  as_rules _ _ _ _ (moves_on at top below rule n next under answers within read goes rest) zero_top =
-      let same_stack : (top, below) ≡ (next, under) = same_Some (top, below) (next, under) (sym (stays rule top below) ∙ goes) in
+  as_rules _ _ _ _ (falls at top below rule n within read on) zero_top = absurd (none-some (top, below) (sym on ∙ stays rule top below))
+  as_rules _ _ _ _ (moves_on at top below rule n next under answers within read on rest) zero_top =
+      let same_stack : (top, below) ≡ (next, under) = same_Some (top, below) (next, under) (sym (stays rule top below) ∙ on) in
       let next_zero : next ≡ 0 = sym (ap (λ (s : ℕ × List ℕ). s.0) same_stack) ∙ zero_top in
       reads at n (token_at rules rule) answers within (read_rule at rule n (subst (λ t. ReadsIn rules text t at rule n) zero_top read))
       (as_rules (at + n) next under answers rest next_zero)
