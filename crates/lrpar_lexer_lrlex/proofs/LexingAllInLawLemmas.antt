@@ -24,7 +24,7 @@ use Rattle.lrpar_lexer_lrlex.proofs.OneWayLemmas.{one_read, read_not_none}
 module _ (rules : StateRules) (unmatched : ℕ) (text : List ℕ) (at top : ℕ) (below : List ℕ) where
   -- a match moves the stack in one way
   one_stack : (rule other next next' : ℕ) (under under' : List ℕ) → rule ≡ other → moved (target_at rules rule) top below ≡ Some (next, under)
-      → moved (target_at rules other) top below ≡ Some (next', under') → (next, under) ≡ (next', under')
+      → moved (target_at rules other) top below ≡ Some (next', under') → ◌≡◌ {A = ℕ × List ℕ} (next, under) (next', under')
   one_stack rule other next next' under under' same on on' =
       same_Some (next, under) (next', under') (sym on ∙ ap (λ r. moved (target_at rules r) top below) same ∙ on')
 
@@ -36,7 +36,7 @@ module _ (rules : StateRules) (unmatched : ℕ) (text : List ℕ) (at top : ℕ)
 
   -- at a place one thing comes
   one_next : (s t : Option ℕ) (n m next next' : ℕ) (under under' : List ℕ) → IsNextIn rules unmatched text at top below s n next under
-      → IsNextIn rules unmatched text at top below t m next' under' → (s ≡ t) × (n ≡ m) × ((next, under) ≡ (next', under'))
+      → IsNextIn rules unmatched text at top below t m next' under' → (s ≡ t) × (n ≡ m) × (◌≡◌ {A = ℕ × List ℕ} (next, under) (next', under'))
   one_next _ _ _ _ _ _ _ _ (goes rule n next under read on) (goes other m next' under' read' on') =
       let same = one_read rules text at top rule other n m read read' in
       (ap (token_at rules) same.0, same.1, one_stack rule other next next' under under' same.0 on on')

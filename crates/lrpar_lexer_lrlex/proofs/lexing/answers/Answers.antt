@@ -28,8 +28,8 @@ returns-in_default g c =
     let index = g.StorageT.StorageIndex.index in
     let rules = plain_state_rules index c.args.rules.now in
     let text = c.args.text.now in
-    subst (LexesIn rules text 0 0 []) (sym (plain_push_error index c.places.answers.items c.push.new.self.items c.nothing_at.result c.in_ok-push.ensures.items))
-    (subst (λ e. LexesIn rules text 0 0 [] (plain_answers index c.places.answers.items ++ Err e ∷ [])) (sym c.nothing_at.ensures)
+    subst (LexesIn rules text 0 0 []) (sym (plain_push_error index c.places.answers.items c.push.new.self.items c.at.result c.in_ok-push.ensures.items))
+    (subst (λ e. LexesIn rules text 0 0 [] (plain_answers index c.places.answers.items ++ Err e ∷ [])) (sym c.at.ensures)
     (leads_to_error rules text c.places.at c.places.stack.top c.places.stack.below.items (plain_answers index c.places.answers.items) c.places-test.true
     c.in_default.ensures.found c.places.invariant.leads))
 

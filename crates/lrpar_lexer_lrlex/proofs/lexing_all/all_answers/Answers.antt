@@ -30,7 +30,7 @@ places-preserved g c =
     let at = c.places.at in
     let len = c.in_ok-token.len in
     record {
-      programs = c.next_lexeme-token.ensures.same ∙ c.places.invariant.programs;
+      programs = c.next_lexeme.ensures.same ∙ c.places.invariant.programs;
       boundary = c.in_ok-token.ensures.boundary;
       active = c.in_ok-next.ensures;
       leads = subst (LeadsToAll rules unmatched text (at + len) _ _) (sym c.in_ok-push_lexeme.ensures)
