@@ -1,11 +1,10 @@
 -- By rules with start states each text has exactly one list of lexemes, if unmatched characters are lexemes, too.
-use Rattle.std.proofs.Common.{◌≡◌, ℕ, ◌+◌, ◌<◌, ◌≤◌, ◌⊎◌, List, [], ◌++◌, length, map, drop, get_or, Option, Some, None, Result, Err, IsOk, inl, inr, sym, subst, ◌∙◌, ap, ap₂, refl, arith, zero, suc, slice_get}
-use Rattle.std.specs.List.{All}
+use Rattle.std.proofs.Common.{◌≡◌, ℕ, ◌+◌, ◌<◌, ◌≤◌, List, [], ◌++◌, length, map, drop, get_or, Option, Some, None, Result, Err, IsOk, inl, inr, sym, subst, ◌∙◌, ap, ap₂, refl, arith, zero, suc}
 use Rattle.std.proofs.lemmas.Bool.{cases_lt, false≢true}
 use Rattle.std.proofs.lemmas.List.{length-map}
 use Rattle.std.proofs.lemmas.List.Elements.{All-append, All-head, All-nil}
 use Rattle.std.proofs.lemmas.Option.{none-some, same_Some, slice_get-get_or, slice_get_within}
-use Rattle.regex.specs.Patterns.{Re, empty}
+use Rattle.regex.specs.Patterns.{empty}
 use Rattle.regex_hir.proofs.OptionLemmas.{option_cases}
 use Rattle.lrpar_lexer.specs.Lexing.{lexemes_of, nothing_at}
 use Rattle.lrpar_lexer.specs.Matching.{Wins}

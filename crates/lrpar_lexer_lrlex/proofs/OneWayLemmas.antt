@@ -1,5 +1,5 @@
 -- Rules with start states give a text one list of lexemes and errors.
-use Rattle.std.proofs.Common.{◌≡◌, ℕ, ◌+◌, ◌<◌, ◌≤◌, List, drop, Some, Err, [], ◌∷◌, ◌++◌, sym, subst, ◌∙◌, ap, ap₂, refl, arith, slice_get}
+use Rattle.std.proofs.Common.{◌≡◌, ℕ, ◌+◌, List, drop, Some, Err, [], ◌∷◌, ◌++◌, sym, subst, ◌∙◌, ap, ap₂, refl, arith, slice_get}
 use Rattle.std.proofs.lemmas.Option.{none-some, same_Some}
 use Rattle.lrpar_lexer.specs.Lexing.{lexemes_of}
 use Rattle.lrpar_lexer.specs.Matching.{NoneMatches}
