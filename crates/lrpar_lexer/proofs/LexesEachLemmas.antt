@@ -10,7 +10,7 @@ use Rattle.regex_hir.proofs.OptionLemmas.{option_cases}
 use Rattle.lrpar_lexer.specs.declared.matching.Winner.{Winner}
 use Rattle.lrpar_lexer.specs.declared.token.Token.{Token}
 use Rattle.lrpar_lexer.specs.declared.token.NoToken.{NoToken}
-use Rattle.lrpar_lexer.specs.Matching.{HasNoMatch, IsMatchLen, IsUnmatched, IsWinner, NoneMatches, better}
+use Rattle.lrpar_lexer.specs.Matching.{HasNoMatch, IsMatchLen, IsUnmatched, IsWinner, NoneMatches, Wins, better}
 use Rattle.lrpar_lexer.specs.Rules.{Rule}
 use Rattle.lrpar_lexer.specs.Lexing.{Reads, lexemes_of}
 use Rattle.lrpar_lexer.specs.LexingAll.{IsNext, LexesAll, finishes, goes_on}
@@ -81,45 +81,36 @@ winner_of patterns rest (suc i) within =
           (same_Some (get_or patterns i empty) pattern (sym (slice_get-get_or patterns i empty inside) ∙ is)) there.1)),
     )
 
-module _ (rules : List Rule) (text : List ℕ) where
-  abbrev patterns : List Re
-  patterns = map (λ (r : Rule). r.pattern) rules
+-- all patterns have a winner, or none of them matches
+winner_or_none_of : (patterns : List Re) (rest : List ℕ) (winner : Option Winner) → IsWinner patterns rest winner
+    → ((w : Winner) × Wins patterns rest w.rule w.len) ⊎ NoneMatches patterns rest
+winner_or_none_of patterns rest None none = inr none
+winner_or_none_of patterns rest (Some w) wins = inl (w, wins)
 
-  -- the winner is read, and if there is none, no rule matches
-  read_of_winner : (at : ℕ) (winner : Option Winner) → IsWinner patterns (drop at text) winner
-      → ((token : Option ℕ) × (n : ℕ) × Reads rules text at token n) ⊎ NoneMatches patterns (drop at text)
-  read_of_winner at None none = inr none
-  read_of_winner at (Some w) wins =
-      let tokens = map (λ (r : Rule). r.token) rules in
-      let within : w.rule < length tokens =
-      omega (arith, slice_get_within patterns w.rule wins.pattern wins.is, length-map rules (λ (r : Rule). r.pattern), length-map rules (λ (r : Rule). r.token)) in
-      inl (get_or tokens w.rule None, w.len, record { rule = w.rule; wins = wins; is = slice_get-get_or tokens w.rule None within })
+pub winner_or_none : (patterns : List Re) (rest : List ℕ) → ((w : Winner) × Wins patterns rest w.rule w.len) ⊎ NoneMatches patterns rest
+winner_or_none patterns rest =
+    let winner = winner_of patterns rest (length patterns) (omega arith) in
+    winner_or_none_of patterns rest winner.0 (subst (λ ps. IsWinner ps rest winner.0) (take_all (length patterns) patterns (omega arith)) winner.1)
 
-  -- at each place a rule wins, or none matches
-  read_or_none : (at : ℕ) → ((token : Option ℕ) × (n : ℕ) × Reads rules text at token n) ⊎ NoneMatches patterns (drop at text)
-  read_or_none at =
-      let winner = winner_of patterns (drop at text) (length patterns) (omega arith) in
-      read_of_winner at winner.0 (subst (λ ps. IsWinner ps (drop at text) winner.0) (take_all (length patterns) patterns (omega arith)) winner.1)
-
+module _ (patterns : List Re) (text : List ℕ) (at : ℕ) (none : NoneMatches patterns (drop at text)) where
   -- a run of n bytes so far ends somewhere
-  run_of : (at : ℕ) → NoneMatches patterns (drop at text) → (left n : ℕ) → 0 < n → at + n + left ≡ length text → NoneLater patterns text at n
-      → (m : ℕ) × IsUnmatched patterns text at m
-  run_of at none zero n some end later = (n, run_to_end patterns text at n some (omega arith) none later)
-  run_of at none (suc left) n some end later = elim (boundary_or_not text (at + n)) [
-    | inl boundary ↦ elim (read_or_none (at + n)) [
-      | inl read ↦ (
+  run_from : (left n : ℕ) → 0 < n → at + n + left ≡ length text → NoneLater patterns text at n → (m : ℕ) × IsUnmatched patterns text at m
+  run_from zero n some end later = (n, run_to_end patterns text at n some (omega arith) none later)
+  run_from (suc left) n some end later = elim (boundary_or_not text (at + n)) [
+    | inl boundary ↦ elim (winner_or_none patterns (drop (at + n) text)) [
+      | inl won ↦ (
         n,
         record {
           some = some;
           boundary = boundary;
           none = none;
           later = later;
-          ends = λ _ here. wins_not_none patterns (drop (at + n) text) read.2.rule read.1 read.2.wins here;
+          ends = λ _ here. wins_not_none patterns (drop (at + n) text) won.0.rule won.0.len won.1 here;
         },
       )
-      | inr here ↦ run_of at none left (n + 1) (omega arith) (omega arith) (more (λ _. here))
+      | inr here ↦ run_from left (n + 1) (omega arith) (omega arith) (more (λ _. here))
     ]
-    | inr not ↦ run_of at none left (n + 1) (omega arith) (omega arith) (more (λ boundary. absurd (not boundary)))
+    | inr not ↦ run_from left (n + 1) (omega arith) (omega arith) (more (λ boundary. absurd (not boundary)))
   ]
     where
       more : (IsCharBoundary text (at + n) → NoneMatches patterns (drop (at + n) text)) → NoneLater patterns text at (n + 1)
@@ -130,12 +121,30 @@ module _ (rules : List Rule) (text : List ℕ) where
             subst (λ k. NoneMatches patterns (drop k text)) same (here (subst (IsCharBoundary text) (sym same) boundary))
       ]
 
+  -- so there is a run
+  pub run_of : at < length text → (m : ℕ) × IsUnmatched patterns text at m
+  run_of within = run_from (length text - (at + 1)) 1 (omega arith) (omega arith) (none_later_first patterns text at)
+
+module _ (rules : List Rule) (text : List ℕ) where
+  abbrev patterns : List Re
+  patterns = map (λ (r : Rule). r.pattern) rules
+
+  -- the winner is read
+  read_of_winner : (at : ℕ) (w : Winner) → Wins patterns (drop at text) w.rule w.len → (token : Option ℕ) × (n : ℕ) × Reads rules text at token n
+  read_of_winner at w wins =
+      let tokens = map (λ (r : Rule). r.token) rules in
+      let within : w.rule < length tokens =
+      omega (arith, slice_get_within patterns w.rule wins.pattern wins.is, length-map rules (λ (r : Rule). r.pattern), length-map rules (λ (r : Rule). r.token)) in
+      (get_or tokens w.rule None, w.len, record { rule = w.rule; wins = wins; is = slice_get-get_or tokens w.rule None within })
+
   -- so at each place something comes
   next_of : (unmatched at : ℕ) → at < length text → (token : Option ℕ) × (n : ℕ) × (0 < n) × IsNext rules unmatched text at token n
-  next_of unmatched at within = elim (read_or_none at) [
-    | inl read ↦ (read.0, read.1, read.2.wins.matches.some, inl read.2)
+  next_of unmatched at within = elim (winner_or_none patterns (drop at text)) [
+    | inl won ↦
+        let read = read_of_winner at won.0 won.1 in
+        (read.0, read.1, read.2.wins.matches.some, inl read.2)
     | inr none ↦
-        let run = run_of at none (length text - (at + 1)) 1 (omega arith) (omega arith) (none_later_first patterns text at) in
+        let run = run_of patterns text at none within in
         (Some unmatched, run.0, run.1.some, inr (run.1, refl))
   ]
 

@@ -34,11 +34,12 @@ lexes_all_one_way rules u text _ _ _ (goes_on at n token more within next rest) 
     let head : lexemes_of token at n ≡ lexemes_of other at m = ap₂ (λ t k. lexemes_of t at k) same.0 same.1 in
     ap₂ (λ xs ys. xs ++ ys) head tail
 
-abbrev AllOk : List (Result (Token ℕ) NoToken) → Type 0
+-- none is an error
+abbrev pub AllOk : List (Result (Token ℕ) NoToken) → Type 0
 AllOk answers = All (λ answer. IsOk answer) answers
 
 -- a match gives no error
-lexemes_all_ok : (token : Option ℕ) (at n : ℕ) → AllOk (lexemes_of token at n)
+pub lexemes_all_ok : (token : Option ℕ) (at n : ℕ) → AllOk (lexemes_of token at n)
 lexemes_all_ok None at n = All-nil (λ answer. IsOk answer)
 lexemes_all_ok (Some token) at n = All-cons (λ answer. IsOk answer) (Ok (lexeme_of token at n)) [] refl (All-nil (λ answer. IsOk answer))
 
@@ -48,7 +49,7 @@ lexes_all_as_lexemes rules u text _ _ (goes_on at n token more within next rest)
     All-append (λ answer. IsOk answer) (lexemes_of token at n) more (lexemes_all_ok token at n) (lexes_all_as_lexemes rules u text (at + n) more rest)
 
 -- if no lexeme of a match and of what follows is an error, none of what follows is
-ok_after : (token : Option ℕ) (at n : ℕ) (more : List (Result (Token ℕ) NoToken)) → AllOk (lexemes_of token at n ++ more) → AllOk more
+pub ok_after : (token : Option ℕ) (at n : ℕ) (more : List (Result (Token ℕ) NoToken)) → AllOk (lexemes_of token at n ++ more) → AllOk more
 ok_after None at n more ok = ok
 ok_after (Some token) at n more ok = All-tail (λ answer. IsOk answer) (Ok (lexeme_of token at n)) more ok
 

@@ -38,7 +38,7 @@ module _ (patterns : List Re) (rest : List ℕ) where
       absurd (omega arith)
 
   -- so there is one
-  one_winner : (i n j m : ℕ) → Wins patterns rest i n → Wins patterns rest j m → (i ≡ j) × (n ≡ m)
+  pub one_winner : (i n j m : ℕ) → Wins patterns rest i n → Wins patterns rest j m → (i ≡ j) × (n ≡ m)
   one_winner i n j m one other =
       let there : n ≤ m = no_longer i n j m one other in
       let back : m ≤ n = no_longer j m i n other one in (

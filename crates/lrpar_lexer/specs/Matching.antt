@@ -1,5 +1,5 @@
 -- Which of several patterns wins at the start of a text. What a pattern finds is what `regex` finds.
-use Rattle.std.specs.Prelude.{◌≡◌, ℕ, ◌+◌, ◌<◌, ◌≤◌, List, length, map, get_or, Option, Some, None, if◌then◌else◌, nat_le, option_map, MatchOption, take, drop, slice_get}
+use Rattle.std.specs.Prelude.{◌≡◌, ℕ, ◌+◌, ◌<◌, ◌≤◌, List, length, map, get_or, Option, Some, None, if◌then◌else◌, nat_le, option_map, MatchOption, take, drop, slice_get, ⊤}
 use Rattle.std.specs.List.{All}
 use Rattle.std.specs.Str.{IsCharBoundary}
 use Rattle.regex.specs.Patterns.{Re, empty, find_str, span}
@@ -55,6 +55,16 @@ IsWinner patterns rest winner = MatchOption winner (NoneMatches patterns rest) (
 -- the patterns with these indices
 abbrev pub chosen_of : List Re → List ℕ → List Re
 chosen_of patterns indices = map (λ i. get_or patterns i empty) indices
+
+-- the patterns that are tried: those with these indices, or all
+abbrev pub tried_of : List Re → Option (List ℕ) → List Re
+tried_of patterns None = patterns
+tried_of patterns (Some indices) = chosen_of patterns indices
+
+-- the indices, if there are any, are of patterns
+abbrev pub AreIndices : List Re → Option (List ℕ) → Type 0
+AreIndices patterns None = ⊤
+AreIndices patterns (Some indices) = All (λ i. i < length patterns) indices
 
 -- the better of two winners: pattern i with its match only if that is longer
 abbrev pub better : Option Winner → ℕ → Option ℕ → Option Winner

@@ -43,8 +43,8 @@ pub(crate) fn token_of<StorageT: StorageIndex>(
     rules[rule].token
 }
 
-// Appends the lexeme of the token, with `len` bytes from byte `at` on; nothing if there is no token.
-pub(crate) fn push_lexeme<StorageT: StorageIndex>(
+/// Appends the lexeme of the token, with `len` bytes from byte `at` on; nothing if there is no token. `Err`: out of memory.
+pub fn push_lexeme<StorageT: StorageIndex>(
     answers: &mut Vec<Result<Token<StorageT>, NoToken>>,
     token: Option<TIdx<StorageT>>,
     at: usize,

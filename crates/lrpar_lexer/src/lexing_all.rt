@@ -52,7 +52,7 @@ fn next_lexeme<StorageT: StorageIndex>(
     ensures same { programs_of matchers.new ≡ programs_of matchers.old }
 {
     let Some(winner) = matchers.winner(&text[at..]) else {
-        return (Some(unmatched), matchers.unmatched_len(text, at));
+        return (Some(unmatched), matchers.unmatched_len(text, at, None));
     };
     (token_of(rules, winner.rule), winner.len)
 }

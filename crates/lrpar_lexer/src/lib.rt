@@ -15,9 +15,11 @@ mod rules;
 mod token;
 
 pub use lexer::RuleLexer;
+pub use lexing::push_lexeme;
 pub use list_fault::ListFault;
 pub use list_lexer::ListLexer;
 pub use matching::{Matchers, Winner};
+pub use parts::part_of;
 pub use rule::LexRule;
 pub use rules::{LineFault, RulesFault, rules_of};
 pub use token::{NoToken, Token, TokenTypes};

@@ -14,7 +14,7 @@ use lrpar_grammar_places::span::{Span, StorageIndex};
 use lrpar_parse_lexemes::{InputLexer, Lexeme, Lexer, NonStreamingLexer};
 use std::alloc::{AllocError, Global};
 
-/// A lexer that gives a list of lexemes and errors, which its caller made of a text or which `RuleLexer::lexed` found.
+/// A lexer that gives a list of lexemes and errors, which its caller made of a text or which `lexed` of another lexer found.
 #[derive(Drop)]
 pub struct ListLexer<'input, StorageT = u32> {
     answers: Vec<Result<Token<StorageT>, NoToken>>,
@@ -43,8 +43,9 @@ impl<'input, StorageT: StorageIndex> ListLexer<'input, StorageT> {
         Ok(ListLexer::over(alloc, input, answers)?)
     }
 
-    // The lexer that gives this list for this text.
-    pub(crate) fn over(
+    /// The lexer that gives this list for this text, without a look at its places, for a list that a lexer of this text gave. Takes time
+    /// linear in the text, and memory for each of its lines.
+    pub fn over(
         alloc: Global,
         input: &'input str,
         answers: Vec<Result<Token<StorageT>, NoToken>>,

@@ -1,12 +1,12 @@
 //! Which of several patterns wins at a place of a text.
-ghost use Rattle.std.specs.Prelude.{◌≡◌, ◌<◌, IfOk, MatchBool, false, List, drop, length, map, slice_get, vec_len};
+ghost use Rattle.std.specs.Prelude.{◌≡◌, ◌<◌, IfOk, MatchBool, false, List, drop, length, map, option_map, slice_get, vec_len};
 ghost use Rattle.std.specs.List.{All, AllZip};
 ghost use Rattle.std.specs.Str.{IsCharBoundary};
 ghost use Rattle.regex.specs.Patterns.{Re};
 ghost use Rattle.regex_meta.specs.Programs.{pattern_of as searched_by};
 ghost use Rattle.regex_meta.specs.declared.program.Program.{Program};
 ghost use Rattle.lrpar_lexer.specs.Anchored.{FindsAtStart, HasNothingAtStart};
-ghost use Rattle.lrpar_lexer.specs.Matching.{IsMatchLen, IsUnmatched, IsWinner, NoneMatches, better, chosen_of};
+ghost use Rattle.lrpar_lexer.specs.Matching.{AreIndices, IsMatchLen, IsUnmatched, IsWinner, NoneMatches, better, chosen_of, tried_of};
 ghost use Rattle.lrpar_lexer.specs.Rules.{anchored_of};
 
 use crate::rule::LexRule;
@@ -86,16 +86,19 @@ impl<'r> Matchers<'r> {
         }
     }
 
-    // The number of bytes of the longest run of characters from byte `at` on at which no pattern matches, if none matches at `at`.
-    pub(crate) fn unmatched_len(&mut self, text: &str, at: usize) -> usize
+    /// The number of bytes of the longest run of characters from byte `at` on at which none of the patterns that are tried matches, if none
+    /// matches at `at`: those with the chosen indices, or all patterns if none are chosen. Takes the time of one match at each character of
+    /// the run, and at the one after it.
+    pub fn unmatched_len(&mut self, text: &str, at: usize, chosen: Option<&[usize]>) -> usize
         requires { at < length text.now }
         ensures unmatched { (patterns : List Re) → AllZip FindsAtStart (programs_of self.old) patterns
-            → NoneMatches patterns (drop at text.now) → IsUnmatched patterns text.now at result }
+            → AreIndices patterns (option_map (λ c. c.now) chosen.entry) → NoneMatches (tried_of patterns (option_map (λ c. c.now) chosen.entry)) (drop at text.now)
+            → IsUnmatched (tried_of patterns (option_map (λ c. c.now) chosen.entry)) text.now at result }
         ensures same { programs_of self.new ≡ programs_of self.old }
     {
         let mut len = 1;
         'run: while at + len < text.len() {
-            if self.matches_at(text, at + len) {
+            if self.matches_at(text, at + len, chosen) {
                 return len;
             }
             len += 1;
@@ -103,17 +106,30 @@ impl<'r> Matchers<'r> {
         len
     }
 
-    // Whether byte `at` begins a character at which a pattern matches.
-    fn matches_at(&mut self, text: &str, at: usize) -> bool
-        ensures matches { (patterns : List Re) → AllZip FindsAtStart (programs_of self.old) patterns → MatchBool result
-            (IsCharBoundary text.now at × ¬ (NoneMatches patterns (drop at text.now)))
-            (IsCharBoundary text.now at → NoneMatches patterns (drop at text.now)) }
+    // Whether byte `at` begins a character at which one of the patterns that are tried matches.
+    fn matches_at(&mut self, text: &str, at: usize, chosen: Option<&[usize]>) -> bool
+        ensures matches { (patterns : List Re) → AllZip FindsAtStart (programs_of self.old) patterns
+            → AreIndices patterns (option_map (λ c. c.now) chosen.entry) → MatchBool result
+            (IsCharBoundary text.now at × ¬ (NoneMatches (tried_of patterns (option_map (λ c. c.now) chosen.entry)) (drop at text.now)))
+            (IsCharBoundary text.now at → NoneMatches (tried_of patterns (option_map (λ c. c.now) chosen.entry)) (drop at text.now)) }
         ensures same { programs_of self.new ≡ programs_of self.old }
     {
         if !text.is_char_boundary(at) {
             return false;
         }
-        self.winner(&text[at..]).is_some()
+        self.winner_tried(&text[at..], chosen).is_some()
+    }
+
+    // The winner at the start of a text among the patterns that are tried.
+    fn winner_tried(&mut self, rest: &str, chosen: Option<&[usize]>) -> Option<Winner>
+        ensures winner { (patterns : List Re) → AllZip FindsAtStart (programs_of self.old) patterns
+            → AreIndices patterns (option_map (λ c. c.now) chosen.entry) → IsWinner (tried_of patterns (option_map (λ c. c.now) chosen.entry)) rest.now result }
+        ensures same { programs_of self.new ≡ programs_of self.old }
+    {
+        match chosen {
+            Some(chosen) => self.winner_among(rest, chosen),
+            None => self.winner(rest),
+        }
     }
 
     // The number of bytes that one of the patterns matches at the start of a text, if it does.

@@ -11,8 +11,8 @@ pub(crate) fn is_part(text: &str, span: Span) -> bool
     text.is_char_boundary(span.start()) && text.is_char_boundary(span.end())
 }
 
-// The part of the text; no text if it doesn't start and end in the text, each between two characters.
-pub(crate) fn part_of(text: &str, span: Span) -> &str
+/// The part of the text; no text if it doesn't start and end in the text, each between two characters.
+pub fn part_of(text: &str, span: Span) -> &str
     ensures part { IsPartOf text.now span → result.now ≡ slice_range text.now span.start span.end }
     ensures outside { ¬ (IsPartOf text.now span) → result.now ≡ [] }
 {

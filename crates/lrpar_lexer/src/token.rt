@@ -90,8 +90,8 @@ impl NoToken {
         NoToken { span }
     }
 
-    // The error for the empty place at a byte.
-    pub(crate) fn at(byte: usize) -> NoToken
+    /// The error for the empty place at a byte.
+    pub fn at(byte: usize) -> NoToken
         ensures { result ≡ nothing_at byte }
     {
         NoToken {

@@ -1,5 +1,5 @@
 -- Rules without start states.
-use Rattle.std.proofs.Common.{◌≡◌, ℕ, ◌+◌, ◌<◌, suc, zero, false, true, ◌==◌, List, [], ◌∷◌, ◌++◌, length, map, drop, get_or, Some, None, Result, sym, subst, ◌∙◌, ap, ap₂, refl, arith, append_assoc, eq-eqb, slice_get}
+use Rattle.std.proofs.Common.{◌≡◌, ℕ, ◌+◌, ◌<◌, suc, zero, false, true, ◌==◌, List, [], ◌∷◌, ◌++◌, length, map, drop, get_or, Option, Some, None, Result, inl, inr, sym, subst, ◌∙◌, ap, ap₂, refl, arith, append_assoc, eq-eqb, slice_get}
 use Rattle.std.specs.List.{All}
 use Rattle.std.proofs.lemmas.Bool.{cond-true}
 use Rattle.std.proofs.lemmas.List.{get_or_at, length-map, length_push}
@@ -7,12 +7,15 @@ use Rattle.std.proofs.lemmas.List.Elements.{All-head, All-tail}
 use Rattle.std.proofs.lemmas.Option.{none-some, same_Some, slice_get-get_or, slice_get_within}
 use Rattle.regex.specs.Patterns.{Re, empty}
 use Rattle.lrpar_lexer.specs.Lexing.{Lexes, Reads, ends, lexemes_of, reads, stops}
-use Rattle.lrpar_lexer.specs.Matching.{NoneMatches, Wins, chosen_of}
+use Rattle.lrpar_lexer.specs.LexingAll as plain
+use Rattle.lrpar_lexer.specs.LexingAll.{IsNext, LexesAll}
+use Rattle.lrpar_lexer.specs.Matching.{IsUnmatched, NoneMatches, Wins, chosen_of}
 use Rattle.lrpar_lexer.specs.Rules.{Rule}
 use Rattle.lrpar_lexer.specs.declared.token.Token.{Token}
 use Rattle.lrpar_lexer.specs.declared.token.NoToken.{NoToken}
 use Rattle.lrpar_lexer_lrlex.specs.Laws.{HasNoStates, LexesAsRules}
 use Rattle.lrpar_lexer_lrlex.specs.LexingIn.{LexesIn, ReadsIn, fails, falls, finishes, moves_on, patterns_in}
+use Rattle.lrpar_lexer_lrlex.specs.LexingAllIn.{IsNextIn, LexesAllIn, all_read, comes, goes, keeps, skips}
 use Rattle.lrpar_lexer_lrlex.specs.StateRules.{Starts, StateRules, active, active_from, is_active, moved, target_at, token_at}
 
 -- a rule without states is active
@@ -63,7 +66,7 @@ module _ (rules : StateRules) (text : List ℕ) (same : length rules.starts ≡ 
   active_is : active rules 0 ≡ active_from 0 false 0 rules.starts
   active_is = ap (λ e. active_from 0 e 0 rules.starts) inclusive
 
-  patterns_are : patterns_in rules 0 ≡ map (λ (r : Rule). r.pattern) rules.rules
+  pub patterns_are : patterns_in rules 0 ≡ map (λ (r : Rule). r.pattern) rules.rules
   patterns_are =
       ap (chosen_of (map (λ (r : Rule). r.pattern) rules.rules)) active_is
       ∙ chosen_all [] (map (λ (r : Rule). r.pattern) rules.rules) 0 rules.starts refl
@@ -84,14 +87,14 @@ module _ (rules : StateRules) (text : List ℕ) (same : length rules.starts ≡ 
       let zero_less : 0 + place ≡ place = omega arith in
       ap (λ l. slice_get l place) active_is ∙ active_at 0 place rules.starts all less ∙ ap Some zero_less
 
-  stays : (rule top : ℕ) (below : List ℕ) → moved (target_at rules rule) top below ≡ Some (top, below)
+  pub stays : (rule top : ℕ) (below : List ℕ) → moved (target_at rules rule) top below ≡ Some (top, below)
   stays rule top below = ap (λ t. moved t top below) (no_target rules.starts rule all)
 
   token_is : (rule : ℕ) → rule < length rules.rules → slice_get (map (λ (r : Rule). r.token) rules.rules) rule ≡ Some (token_at rules rule)
   token_is rule within =
       slice_get-get_or (map (λ (r : Rule). r.token) rules.rules) rule None (omega (arith, within, length-map rules.rules (λ (r : Rule). r.token)))
 
-  read_rule : (at rule n : ℕ) → ReadsIn rules text 0 at rule n → Reads rules.rules text at (token_at rules rule) n
+  pub read_rule : (at rule n : ℕ) → ReadsIn rules text 0 at rule n → Reads rules.rules text at (token_at rules rule) n
   read_rule at rule n read =
       let wins : Wins (map (λ (r : Rule). r.pattern) rules.rules) (drop at text) read.place n =
       subst (λ ps. Wins ps (drop at text) read.place n) patterns_are read.wins in
@@ -108,27 +111,71 @@ module _ (rules : StateRules) (text : List ℕ) (same : length rules.starts ≡ 
   as_rules _ _ _ _ (finishes at top below past) zero_top = ends at past
   as_rules _ _ _ _ (fails at top below within none) zero_top =
       stops at within (subst (λ ps. NoneMatches ps (drop at text)) (ap (patterns_in rules) zero_top ∙ patterns_are) none)
-  as_rules _ _ _ _ (falls at top below rule n within read goes) zero_top = absurd (none-some (top, below) (sym goes ∙ stays rule top below))
-  as_rules _ _ _ _ (moves_on at top below rule n next under answers within read goes rest) zero_top =
-      let same_stack : (top, below) ≡ (next, under) = same_Some (top, below) (next, under) (sym (stays rule top below) ∙ goes) in
+  as_rules _ _ _ _ (falls at top below rule n within read on) zero_top = absurd (none-some (top, below) (sym on ∙ stays rule top below))
+  as_rules _ _ _ _ (moves_on at top below rule n next under answers within read on rest) zero_top =
+      let same_stack : (top, below) ≡ (next, under) = same_Some (top, below) (next, under) (sym (stays rule top below) ∙ on) in
       let next_zero : next ≡ 0 = sym (ap (λ (s : ℕ × List ℕ). s.0) same_stack) ∙ zero_top in
       reads at n (token_at rules rule) answers within (read_rule at rule n (subst (λ t. ReadsIn rules text t at rule n) zero_top read))
       (as_rules (at + n) next under answers rest next_zero)
+
+  read_states : (at n : ℕ) (token : Option ℕ) (read : Reads rules.rules text at token n) → ReadsIn rules text 0 at read.rule n
+  read_states at n token read = record {
+    place = read.rule;
+    wins = subst (λ ps. Wins ps (drop at text) read.rule n) (sym patterns_are) read.wins;
+    is = place_is read.rule (wins_within at read.rule n read.wins);
+  }
+
+  token_same : (at n : ℕ) (token : Option ℕ) (read : Reads rules.rules text at token n) → token_at rules read.rule ≡ token
+  token_same at n token read =
+      same_Some (token_at rules read.rule) token (sym (token_is read.rule (wins_within at read.rule n read.wins)) ∙ read.is)
 
   as_states : (at : ℕ) (answers : List (Result (Token ℕ) NoToken)) → Lexes rules.rules text at answers → LexesIn rules text at 0 [] answers
   as_states _ _ (ends at past) = finishes at 0 [] past
   as_states _ _ (stops at within none) =
       fails at 0 [] within (subst (λ ps. NoneMatches ps (drop at text)) (sym patterns_are) none)
   as_states _ _ (reads at n token answers within read rest) =
-      let inside = wins_within at read.rule n read.wins in
-      let token_same : token_at rules read.rule ≡ token = same_Some (token_at rules read.rule) token (sym (token_is read.rule inside) ∙ read.is) in
-      subst (λ t. LexesIn rules text at 0 [] (lexemes_of t at n ++ answers)) token_same
-      (moves_on at 0 [] read.rule n 0 [] answers within
-      (record { place = read.rule; wins = subst (λ ps. Wins ps (drop at text) read.rule n) (sym patterns_are) read.wins; is = place_is read.rule inside })
-      (stays read.rule 0 []) (as_states (at + n) answers rest))
+      subst (λ t. LexesIn rules text at 0 [] (lexemes_of t at n ++ answers)) (token_same at n token read)
+      (moves_on at 0 [] read.rule n 0 [] answers within (read_states at n token read) (stays read.rule 0 []) (as_states (at + n) answers rest))
+
+  module _ (unmatched : ℕ) where
+    next_as_rules : (at top : ℕ) (below : List ℕ) (token : Option ℕ) (n next : ℕ) (under : List ℕ)
+        → IsNextIn rules unmatched text at top below token n next under → top ≡ 0 → IsNext rules.rules unmatched text at token n × (next ≡ 0)
+    next_as_rules at top below _ _ _ _ (goes rule n next under read on) zero_top =
+        let same_stack : (top, below) ≡ (next, under) = same_Some (top, below) (next, under) (sym (stays rule top below) ∙ on) in (
+          inl (read_rule at rule n (subst (λ t. ReadsIn rules text t at rule n) zero_top read)),
+          sym (ap (λ (s : ℕ × List ℕ). s.0) same_stack) ∙ zero_top,
+        )
+    next_as_rules at top below _ _ _ _ (keeps rule n read on) zero_top = absurd (none-some (top, below) (sym on ∙ stays rule top below))
+    next_as_rules at top below _ _ _ _ (skips n run) zero_top =
+        (inr (subst (λ ps. IsUnmatched ps text at n) (ap (patterns_in rules) zero_top ∙ patterns_are) run, refl), zero_top)
+
+    all_as_rules : (at top : ℕ) (below : List ℕ) (answers : List (Result (Token ℕ) NoToken)) → LexesAllIn rules unmatched text at top below answers
+        → top ≡ 0 → LexesAll rules.rules unmatched text at answers
+    all_as_rules _ _ _ _ (all_read at top below past) zero_top = plain.finishes at past
+    all_as_rules _ _ _ _ (comes at top below token n next under answers within one rest) zero_top =
+        let next_one = next_as_rules at top below token n next under one zero_top in
+        plain.goes_on at n token answers within next_one.0 (all_as_rules (at + n) next under answers rest next_one.1)
+
+    next_as_states : (at n : ℕ) (token : Option ℕ) → IsNext rules.rules unmatched text at token n → IsNextIn rules unmatched text at 0 [] token n 0 []
+    next_as_states at n token (inl read) =
+        subst (λ t. IsNextIn rules unmatched text at 0 [] t n 0 []) (token_same at n token read)
+        (goes read.rule n 0 [] (read_states at n token read) (stays read.rule 0 []))
+    next_as_states at n token (inr run) =
+        subst (λ t. IsNextIn rules unmatched text at 0 [] t n 0 []) (sym run.1)
+        (skips n (subst (λ ps. IsUnmatched ps text at n) (sym patterns_are) run.0))
+
+    all_as_states : (at : ℕ) (answers : List (Result (Token ℕ) NoToken)) → LexesAll rules.rules unmatched text at answers
+        → LexesAllIn rules unmatched text at 0 [] answers
+    all_as_states _ _ (plain.finishes at past) = all_read at 0 [] past
+    all_as_states _ _ (plain.goes_on at n token answers within one rest) =
+        comes at 0 [] token n 0 [] answers within (next_as_states at n token one) (all_as_states (at + n) answers rest)
 
 pub lexes_as_rules : LexesAsRules
-lexes_as_rules rules text answers same inclusive all = (
+lexes_as_rules rules None text answers same inclusive all = (
   λ lexes. as_rules rules text same inclusive all 0 0 [] answers lexes refl,
   λ lexes. as_states rules text same inclusive all 0 answers lexes,
+)
+lexes_as_rules rules (Some unmatched) text answers same inclusive all = (
+  λ lexes. all_as_rules rules text same inclusive all unmatched 0 0 [] answers lexes refl,
+  λ lexes. all_as_states rules text same inclusive all unmatched 0 answers lexes,
 )

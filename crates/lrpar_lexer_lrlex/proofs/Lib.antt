@@ -3,6 +3,8 @@ pub mod EscapeLemmas
 pub mod FaultLemmas
 pub mod LawLemmas
 pub mod LexingInLemmas
+pub mod LexingAllInLemmas
+pub mod LexingAllInLawLemmas
 pub mod OneWayLemmas
 pub mod PartLemmas
 pub mod PieceLemmas

@@ -1,65 +1,23 @@
 -- Rules with start states give a text one list of lexemes and errors.
-use Rattle.std.proofs.Common.{◌≡◌, ℕ, ◌+◌, ◌<◌, ◌≤◌, List, length, take, drop, get_or, Some, Err, [], ◌∷◌, ◌++◌, inl, inr, sym, subst, ◌∙◌, ap, ap₂, refl, arith, slice_get}
-use Rattle.std.specs.List.{All}
-use Rattle.std.proofs.lemmas.Bool.{cases_lt}
-use Rattle.std.proofs.lemmas.Grind.{common_steps}
-use Rattle.std.proofs.lemmas.List.{get_or-take}
-use Rattle.std.proofs.lemmas.Option.{get_or_from_slice_get, none-some, same_Some, slice_get_within}
-use Rattle.regex.specs.Patterns.{Re}
+use Rattle.std.proofs.Common.{◌≡◌, ℕ, ◌+◌, List, drop, Some, Err, [], ◌∷◌, ◌++◌, sym, subst, ◌∙◌, ap, ap₂, refl, arith, slice_get}
+use Rattle.std.proofs.lemmas.Option.{none-some, same_Some}
 use Rattle.lrpar_lexer.specs.Lexing.{lexemes_of}
-use Rattle.lrpar_lexer.specs.Matching.{MatchesAtMost, MatchesLess, NoneMatches, Wins}
-use Rattle.lrpar_lexer.proofs.LexingLawLemmas.{wins_not_none}
+use Rattle.lrpar_lexer.specs.Matching.{NoneMatches}
+use Rattle.lrpar_lexer.proofs.LexingLawLemmas.{one_winner, wins_not_none}
 use Rattle.lrpar_lexer_lrlex.specs.Laws.{LexesInOneWay}
 use Rattle.lrpar_lexer_lrlex.specs.LexingIn.{LexesIn, ReadsIn, fails, falls, finishes, moves_on, nothing_below, patterns_in}
 use Rattle.lrpar_lexer_lrlex.specs.StateRules.{StateRules, active, moved, target_at, token_at}
 
-module _ (patterns : List Re) (rest : List ℕ) where
-  -- what holds of all patterns holds of the winner
-  of_winner : (P : Re → Type 0) (i n : ℕ) → All P patterns → (wins : Wins patterns rest i n) → P wins.pattern
-  of_winner P i n all wins =
-      subst P (get_or_from_slice_get patterns i wins.pattern wins.pattern wins.is)
-      (all i wins.pattern (slice_get_within patterns i wins.pattern wins.is))
-
-  -- no winner matches more than another
-  no_longer : (i n j m : ℕ) → Wins patterns rest i n → Wins patterns rest j m → n ≤ m
-  no_longer i n j m one other = of_winner (MatchesAtMost rest m) i n other.longest one n one.matches
-
-  -- no winner comes before another
-  no_earlier : (i n j m : ℕ) → Wins patterns rest i n → Wins patterns rest j m → i < j → ⊥
-  no_earlier i n j m one other before =
-      let within : j < length patterns = slice_get_within patterns j other.pattern other.is in
-      let inside : i < length (take j patterns) = grind (arith, common_steps) in
-      let same : get_or (take j patterns) i one.pattern ≡ one.pattern =
-      get_or-take j patterns i one.pattern before ∙ get_or_from_slice_get patterns i one.pattern one.pattern one.is in
-      let less : n < m = subst (MatchesLess rest m) same (other.first i one.pattern inside) n one.matches in
-      let back : m ≤ n = no_longer j m i n other one in
-      absurd (omega arith)
-
-  -- so there is one
-  one_winner : (i n j m : ℕ) → Wins patterns rest i n → Wins patterns rest j m → (i ≡ j) × (n ≡ m)
-  one_winner i n j m one other =
-      let there : n ≤ m = no_longer i n j m one other in
-      let back : m ≤ n = no_longer j m i n other one in (
-        elim (cases_lt i j) [
-          | inl before ↦ absurd (no_earlier i n j m one other before)
-          | inr ge ↦ elim (cases_lt j i) [
-            | inl after ↦ absurd (no_earlier j m i n other one after)
-            | inr le ↦ omega arith
-          ]
-        ],
-        omega arith,
-      )
-
 module _ (rules : StateRules) (text : List ℕ) (at top : ℕ) where
   -- what is read at a place is one rule and one length
-  one_read : (rule other n m : ℕ) → ReadsIn rules text top at rule n → ReadsIn rules text top at other m → (rule ≡ other) × (n ≡ m)
+  pub one_read : (rule other n m : ℕ) → ReadsIn rules text top at rule n → ReadsIn rules text top at other m → (rule ≡ other) × (n ≡ m)
   one_read rule other n m one two =
       let same = one_winner (patterns_in rules top) (drop at text) one.place n two.place m one.wins two.wins in
       let there : slice_get (active rules top) two.place ≡ Some rule = subst (λ i. slice_get (active rules top) i ≡ Some rule) same.0 one.is in
       (same_Some rule other (sym there ∙ two.is), same.1)
 
   -- if something is read, a pattern matches
-  read_not_none : (rule n : ℕ) → ReadsIn rules text top at rule n → NoneMatches (patterns_in rules top) (drop at text) → ⊥
+  pub read_not_none : (rule n : ℕ) → ReadsIn rules text top at rule n → NoneMatches (patterns_in rules top) (drop at text) → ⊥
   read_not_none rule n one none = wins_not_none (patterns_in rules top) (drop at text) one.place n one.wins none
 
 pub lexes_in_one_way : LexesInOneWay

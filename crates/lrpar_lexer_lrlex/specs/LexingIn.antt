@@ -32,7 +32,3 @@ pub data LexesIn (rules : StateRules) (text : List ℕ) : ℕ → ℕ → List �
   moves_on : (at top : ℕ) (below : List ℕ) (rule n next : ℕ) (under : List ℕ) (answers : List (Result (Token ℕ) NoToken)) → at < length text
       → ReadsIn rules text top at rule n → moved (target_at rules rule) top below ≡ Some (next, under)
       → LexesIn rules text (at + n) next under answers → LexesIn rules text at top below (lexemes_of (token_at rules rule) at n ++ answers)
-
--- the lexemes and errors of a text: at its start the state `INITIAL`, whose number is 0, is alone on the stack
-abbrev pub LexesByStates : StateRules → List ℕ → List (Result (Token ℕ) NoToken) → Type 0
-LexesByStates rules text answers = LexesIn rules text 0 0 [] answers

@@ -11,4 +11,5 @@ pub mod Lines
 pub mod Reading
 pub mod StateRules
 pub mod LexingIn
+pub mod LexingAllIn
 pub mod Laws

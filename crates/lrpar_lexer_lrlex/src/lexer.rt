@@ -1,14 +1,18 @@
 //! The lexer of a text by rules with start states.
-ghost use Rattle.std.specs.Prelude.{◌≡◌, [], IfOk, slice_range};
+ghost use Rattle.std.specs.Prelude.{◌≡◌, [], IfOk, None, Some, option_map, slice_range};
 ghost use Rattle.std.specs.Str.{IsCharBoundary};
 ghost use Rattle.lrpar_grammar_places.specs.Lines.{column_of, line_of, line_table};
 ghost use Rattle.lrpar_grammar_places.specs.Span.{IsPartOf};
+ghost use Rattle.lrpar_lexer.specs.Answers.{plain_answers};
+ghost use Rattle.lrpar_lexer_lrlex.specs.LexingAllIn.{LexesByStates};
+ghost use Rattle.lrpar_lexer_lrlex.specs.StateRules.{plain_state_rules};
 
 use crate::lexing::answers;
+use crate::lexing_all::all_answers;
 use crate::rules::LrlexRules;
 use lrpar_grammar_places::lines::NewlineCache;
-use lrpar_grammar_places::span::{Span, StorageIndex};
-use lrpar_lexer::{NoToken, Token, TokenTypes};
+use lrpar_grammar_places::span::{Span, StorageIndex, TIdx};
+use lrpar_lexer::{ListLexer, NoToken, Token, TokenTypes, part_of};
 use lrpar_parse_lexemes::{InputLexer, Lexeme, Lexer, NonStreamingLexer};
 use std::alloc::{AllocError, Global};
 
@@ -17,12 +21,14 @@ use std::alloc::{AllocError, Global};
 /// lexeme; otherwise the match is skipped. Then its target pushes a state, pops one, or leaves one state alone.
 ///
 /// If no active rule matches, there is an error, whose place is empty, and it is the last result. If a match pops the last state, there is an
-/// error too, whose place is the match, and it is the last result.
+/// error too, whose place is the match, and it is the last result. `with_unmatched` gives lexemes in place of errors.
 #[derive(Drop)]
 pub struct StateLexer<'rules, 'input, StorageT = u32> {
     rules: &'rules LrlexRules<StorageT>,
     input: &'input str,
     lines: NewlineCache,
+    // the token of what would be an error
+    unmatched: Option<TIdx<StorageT>>,
     ghost lines_of_input: { lines ≡ line_table input.now },
 }
 
@@ -35,13 +41,28 @@ impl<'rules, 'input, StorageT: StorageIndex> StateLexer<'rules, 'input, StorageT
     ) -> Result<Self, AllocError>
         ensures rules { IfOk result (λ lexer. lexer.rules.now ≡ rules.now) }
         ensures input { IfOk result (λ lexer. lexer.input.now ≡ input.now) }
+        ensures unmatched { IfOk result (λ lexer. lexer.unmatched ≡ None) }
     {
         let lines = NewlineCache::new(alloc, input)?;
         Ok(StateLexer {
             rules,
             input,
             lines,
+            unmatched: None,
         })
+    }
+
+    /// The same lexer, but it never gives an error: the longest run of characters at which no active rule matches is one lexeme of this token.
+    /// A run ends at the first character at which a rule matches that is active, or at the end of the text. A match that pops the last state
+    /// is a lexeme of this token, too. Neither changes the stack of states. `iter` then takes the time of one match at each character of a
+    /// run, and of two at the character after it.
+    pub fn with_unmatched(mut self, token: TIdx<StorageT>) -> Self
+        ensures rules { result.rules.now ≡ self.entry.rules.now }
+        ensures input { result.input.now ≡ self.entry.input.now }
+        ensures unmatched { result.unmatched ≡ Some token }
+    {
+        self.unmatched = Some(token);
+        self
     }
 
     /// The lexeme's part of the input. It is empty if the lexeme doesn't start and end in the input, each between two characters.
@@ -50,11 +71,18 @@ impl<'rules, 'input, StorageT: StorageIndex> StateLexer<'rules, 'input, StorageT
             → result.now ≡ slice_range self.now.input.now lexeme.now.span.start lexeme.now.span.end }
         ensures outside { ¬ (IsPartOf self.now.input.now lexeme.now.span) → result.now ≡ [] }
     {
-        let span = lexeme.span();
-        if !self.input.is_char_boundary(span.start()) || !self.input.is_char_boundary(span.end()) {
-            return "";
-        }
-        &self.input[span.start()..span.end()]
+        part_of(self.input, lexeme.span())
+    }
+
+    /// A lexer over the lexemes and errors that this one gives. They are found here, and only once, so that a parse, `expected` and a
+    /// report about one text can share them. Takes memory for the list, and for each line of the text.
+    pub fn lexed(&self, alloc: Global) -> Result<ListLexer<'input, StorageT>, AllocError>
+        ensures answers { IfOk result (λ lexer. LexesByStates (plain_state_rules StorageT.index self.now.rules.now)
+            (option_map (λ token. StorageT.index token.0) self.now.unmatched) self.now.input.now
+            (plain_answers StorageT.index lexer.answers.items)) }
+        ensures input { IfOk result (λ lexer. lexer.input.now ≡ self.now.input.now) }
+    {
+        ListLexer::over(alloc, self.input, self.iter(alloc)?)
     }
 
     // The line and the column of a byte.
@@ -72,14 +100,17 @@ impl<'rules, 'input, StorageT: StorageIndex> StateLexer<'rules, 'input, StorageT
 impl<'rules, 'input, StorageT: StorageIndex> Lexer<TokenTypes<StorageT>>
     for StateLexer<'rules, 'input, StorageT> {
     ghost use Rattle.lrpar_lexer.specs.Answers.{plain_answers};
-    ghost use Rattle.lrpar_lexer_lrlex.specs.LexingIn.{LexesByStates};
+    ghost use Rattle.lrpar_lexer_lrlex.specs.LexingAllIn.{LexesByStates};
     ghost use Rattle.lrpar_lexer_lrlex.specs.StateRules.{plain_state_rules};
 
-    ghost allows = { λ lexer given. LexesByStates (plain_state_rules StorageT.index lexer.rules.now) lexer.input.now
-        (plain_answers StorageT.index given) };
+    ghost allows = { λ lexer given. LexesByStates (plain_state_rules StorageT.index lexer.rules.now)
+        (option_map (λ token. StorageT.index token.0) lexer.unmatched) lexer.input.now (plain_answers StorageT.index given) };
 
     fn iter(&self, alloc: Global) -> Result<Vec<Result<Token<StorageT>, NoToken>>, AllocError> {
-        answers(alloc, self.rules, self.input)
+        match self.unmatched {
+            Some(token) => all_answers(alloc, self.rules, token, self.input),
+            None => answers(alloc, self.rules, self.input),
+        }
     }
 }
 

@@ -1,12 +1,11 @@
 //! The lexemes and errors of a text by rules with start states.
-ghost use Rattle.std.specs.Prelude.{◌≡◌, ◌<◌, ◌≤◌, ◌+◌, ◌++◌, IfOk, IfSome, MatchOption, OnOk, None, Some, drop, length, map, option_map, slice_get};
+ghost use Rattle.std.specs.Prelude.{◌≡◌, ◌<◌, ◌≤◌, ◌+◌, [], IfOk, IfSome, MatchOption, None, Some, drop, length, map, option_map, slice_get};
 ghost use Rattle.std.specs.Str.{IsCharBoundary};
 ghost use Rattle.lrpar_lexer.specs.Answers.{plain_answers};
-ghost use Rattle.lrpar_lexer.specs.Lexing.{lexemes_of, nothing_at};
 ghost use Rattle.lrpar_lexer.specs.Matchers.{programs_of};
 ghost use Rattle.lrpar_lexer.specs.Matching.{NoneMatches};
 ghost use Rattle.lrpar_lexer.specs.Rules.{anchored_of};
-ghost use Rattle.lrpar_lexer_lrlex.specs.LexingIn.{LexesByStates, ReadsIn, nothing_below, patterns_in};
+ghost use Rattle.lrpar_lexer_lrlex.specs.LexingIn.{LexesIn, ReadsIn, nothing_below, patterns_in};
 ghost use Rattle.lrpar_lexer_lrlex.specs.StateRules as spec;
 ghost use Rattle.lrpar_lexer_lrlex.specs.StateRules.{plain_state_rules, target_at, token_at};
 ghost use Rattle.lrpar_lexer_lrlex.specs.States.{plain_target};
@@ -16,8 +15,7 @@ use crate::rules::LrlexRules;
 use crate::stack::Stack;
 use crate::states::Target;
 use lrpar_grammar_places::span::{Span, StorageIndex, TIdx};
-use lrpar_lexer::{Matchers, NoToken, Token};
-use lrpar_parse_lexemes::Lexeme;
+use lrpar_lexer::{Matchers, NoToken, Token, push_lexeme};
 use std::alloc::{AllocError, Global};
 
 // The lexemes and errors of a text, by the rules.
@@ -26,7 +24,7 @@ pub(crate) fn answers<StorageT: StorageIndex>(
     rules: &LrlexRules<StorageT>,
     text: &str,
 ) -> Result<Vec<Result<Token<StorageT>, NoToken>>, AllocError>
-    ensures { IfOk result (λ answers. LexesByStates (plain_state_rules StorageT.index rules.now) text.now (plain_answers StorageT.index answers.items)) }
+    ensures { IfOk result (λ answers. LexesIn (plain_state_rules StorageT.index rules.now) text.now 0 0 [] (plain_answers StorageT.index answers.items)) }
 {
     let mut matchers = matchers_of(alloc, rules)?;
     let mut stack = Stack::new(alloc);
@@ -35,7 +33,7 @@ pub(crate) fn answers<StorageT: StorageIndex>(
     let mut at = 0;
     'places: while at < text.len() {
         let Some((rule, len)) = read_at(&mut matchers, rules, stack.top, &active, text, at) else {
-            answers.push(Err(nothing_at(at)))?;
+            answers.push(Err(NoToken::at(at)))?;
             return Ok(answers);
         };
         let target = target_of(rules, rule);
@@ -53,7 +51,7 @@ pub(crate) fn answers<StorageT: StorageIndex>(
 }
 
 // The searches for the patterns of the rules.
-fn matchers_of<StorageT: StorageIndex>(
+pub(crate) fn matchers_of<StorageT: StorageIndex>(
     alloc: Global,
     rules: &LrlexRules<StorageT>,
 ) -> Result<Matchers<'_>, AllocError>
@@ -63,7 +61,7 @@ fn matchers_of<StorageT: StorageIndex>(
 }
 
 // The numbers of the rules that are active in a state.
-fn active_rules<StorageT: StorageIndex>(
+pub(crate) fn active_rules<StorageT: StorageIndex>(
     alloc: Global,
     rules: &LrlexRules<StorageT>,
     state: usize,
@@ -71,13 +69,6 @@ fn active_rules<StorageT: StorageIndex>(
     ensures { IfOk result (λ active. active.items ≡ spec.active (plain_state_rules StorageT.index rules.now) state) }
 {
     active_in(alloc, &rules.exclusive, &rules.starts, state)
-}
-
-// The error for a place at which no active rule matches.
-fn nothing_at(at: usize) -> NoToken
-    ensures { result ≡ nothing_at at }
-{
-    NoToken::new(Span::new(at, at))
 }
 
 // The error for a match that pops the last state.
@@ -89,7 +80,10 @@ fn nothing_below(at: usize, len: usize) -> NoToken
 }
 
 // The target of a rule.
-fn target_of<StorageT: StorageIndex>(rules: &LrlexRules<StorageT>, rule: usize) -> Option<Target>
+pub(crate) fn target_of<StorageT: StorageIndex>(
+    rules: &LrlexRules<StorageT>,
+    rule: usize,
+) -> Option<Target>
     requires { rule < length rules.now.starts.items }
     ensures { option_map plain_target result ≡ target_at (plain_state_rules StorageT.index rules.now) rule }
 {
@@ -97,7 +91,7 @@ fn target_of<StorageT: StorageIndex>(rules: &LrlexRules<StorageT>, rule: usize) 
 }
 
 // The token of a rule.
-fn token_of<StorageT: StorageIndex>(
+pub(crate) fn token_of<StorageT: StorageIndex>(
     rules: &LrlexRules<StorageT>,
     rule: usize,
 ) -> Option<TIdx<StorageT>>
@@ -108,7 +102,7 @@ fn token_of<StorageT: StorageIndex>(
 }
 
 // Of the active rules the one that wins at byte `at`, and the number of bytes of its match.
-fn read_at<StorageT: StorageIndex>(
+pub(crate) fn read_at<StorageT: StorageIndex>(
     matchers: &mut Matchers<'_>,
     rules: &LrlexRules<StorageT>,
     state: usize,
@@ -140,7 +134,7 @@ fn rule_at(active: &[usize], place: usize) -> usize
 }
 
 // The rules that are active in the state on top after a match with this target. Without a target it is the same state as before.
-fn active_after<StorageT: StorageIndex>(
+pub(crate) fn active_after<StorageT: StorageIndex>(
     alloc: Global,
     rules: &LrlexRules<StorageT>,
     active: Vec<usize>,
@@ -154,22 +148,4 @@ fn active_after<StorageT: StorageIndex>(
         return Ok(active);
     }
     active_rules(alloc, rules, top)
-}
-
-// Appends the lexeme of the token, with `len` bytes from byte `at` on; nothing if there is no token.
-fn push_lexeme<StorageT: StorageIndex>(
-    answers: &mut Vec<Result<Token<StorageT>, NoToken>>,
-    token: Option<TIdx<StorageT>>,
-    at: usize,
-    len: usize,
-) -> Result<(), AllocError>
-    requires fits { at + len ≤ usize.MAX }
-    ensures { OnOk result (plain_answers StorageT.index answers.new.items
-        ≡ plain_answers StorageT.index answers.old.items ++ lexemes_of (option_map (λ token. StorageT.index token.0) token) at len) }
-{
-    let Some(token) = token else {
-        return Ok(());
-    };
-    answers.push(Ok(Token::new(token.0, at, len)))?;
-    Ok(())
 }

@@ -9,6 +9,7 @@ mod flags;
 pub mod laws;
 mod lexer;
 mod lexing;
+mod lexing_all;
 mod line;
 mod names;
 mod part;

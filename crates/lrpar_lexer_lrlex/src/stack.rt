@@ -1,5 +1,5 @@
 //! Stacks of states.
-ghost use Rattle.std.specs.Prelude.{◌≡◌, [], if◌then◌else◌, IfOk, None, Some, option_map};
+ghost use Rattle.std.specs.Prelude.{◌≡◌, [], false, if◌then◌else◌, IfOk, None, Some, option_map};
 ghost use Rattle.lrpar_lexer_lrlex.specs.StateRules.{moved};
 ghost use Rattle.lrpar_lexer_lrlex.specs.States.{plain_target};
 
@@ -25,10 +25,11 @@ impl Stack {
         }
     }
 
-    // What a match with this target makes of the stack. No if it pops the last state.
+    // What a match with this target makes of the stack. No if it pops the last state, which stays then.
     pub(crate) fn go_on(&mut self, target: Option<Target>) -> Result<bool, AllocError>
-        ensures { IfOk result (λ went. moved (option_map plain_target target) self.old.top self.old.below.items
+        ensures moved { IfOk result (λ went. moved (option_map plain_target target) self.old.top self.old.below.items
             ≡ (if went then Some (self.new.top, self.new.below.items) else None)) }
+        ensures stays { IfOk result (λ went. went ≡ false → (self.new.top ≡ self.old.top) × (self.new.below.items ≡ self.old.below.items)) }
     {
         match target {
             None => Ok(true),

@@ -4,6 +4,7 @@ use std::alloc::Global;
 use std::rt::Files;
 use test_case_faults::faults;
 use test_case_grammars::{examples, grammars, parts, reports, spelled, underlines, yacc};
+use test_case_lexers::lrlex;
 use test_case_lines::cases::Case;
 use test_case_lines::fault::Fault;
 use test_case_lines::printed::Printed;
@@ -19,6 +20,7 @@ pub(crate) fn inputs_of(kind: &str) -> &'static [&'static str] {
         "streams" => streams::INPUTS,
         "text" | "cuts" => grammars::INPUTS,
         "yacc" | "yacc_cuts" => yacc::INPUTS,
+        "lrlex" | "lrlex_cuts" => lrlex::INPUTS,
         "parts" => parts::INPUTS,
         "spelled" => spelled::INPUTS,
         "build" => built::INPUTS,
@@ -52,6 +54,8 @@ pub(crate) fn outcome<R: Files>(
         "cuts" => grammars::outcome_of_cuts(out, alloc, case),
         "yacc" => yacc::outcome(out, alloc, case),
         "yacc_cuts" => yacc::outcome_of_cuts(out, alloc, case),
+        "lrlex" => lrlex::outcome(out, alloc, case),
+        "lrlex_cuts" => lrlex::outcome_of_cuts(out, alloc, case),
         "parts" => parts::outcome(out, alloc, case),
         "spelled" => spelled::outcome(out, alloc, case),
         "build" => built::outcome(out, alloc, case),

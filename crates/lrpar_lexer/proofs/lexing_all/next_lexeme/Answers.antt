@@ -14,7 +14,8 @@ returns-in_default g c =
     let none : NoneMatches (map pattern_of rules) (drop at text) =
     winner_of_rules rules _ text c.range_from.result.now at None c.requires.programs c.range_from.ensures.value c.in_default.ensures.winner in
     let run : IsUnmatched (map pattern_of rules) text at c.unmatched_len.result =
-    run_of_rules rules _ text at c.unmatched_len.result (c.winner.ensures.same ∙ c.requires.programs) none c.unmatched_len.ensures.unmatched in
+    run_of_rules rules _ text at c.unmatched_len.result (c.winner.ensures.same ∙ c.requires.programs) none
+    (λ patterns find. c.unmatched_len.ensures.unmatched patterns find tt) in
     record {
       next = run_is_next index rules (index c.args.unmatched.0) text at c.unmatched_len.result run;
       some = run.some;

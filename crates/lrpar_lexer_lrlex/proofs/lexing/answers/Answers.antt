@@ -28,8 +28,8 @@ returns-in_default g c =
     let index = g.StorageT.StorageIndex.index in
     let rules = plain_state_rules index c.args.rules.now in
     let text = c.args.text.now in
-    subst (LexesIn rules text 0 0 []) (sym (plain_push_error index c.places.answers.items c.push.new.self.items c.nothing_at.result c.in_ok-push.ensures.items))
-    (subst (λ e. LexesIn rules text 0 0 [] (plain_answers index c.places.answers.items ++ Err e ∷ [])) (sym c.nothing_at.ensures)
+    subst (LexesIn rules text 0 0 []) (sym (plain_push_error index c.places.answers.items c.push.new.self.items c.at.result c.in_ok-push.ensures.items))
+    (subst (λ e. LexesIn rules text 0 0 [] (plain_answers index c.places.answers.items ++ Err e ∷ [])) (sym c.at.ensures)
     (leads_to_error rules text c.places.at c.places.stack.top c.places.stack.below.items (plain_answers index c.places.answers.items) c.places-test.true
     c.in_default.ensures.found c.places.invariant.leads))
 
@@ -44,7 +44,7 @@ returns-then-not-goes g c =
     (subst (λ e. LexesIn rules text 0 0 [] (plain_answers index c.places.answers.items ++ Err e ∷ [])) (sym c.nothing_below.ensures)
     (leads_to_fall rules text c.places.at top below c.in-Some.rule c.in-Some.len (plain_answers index c.places.answers.items) c.places-test.true
     c.in-Some.ensures.found
-    (ap (λ t. moved t top below) (sym c.target_of-target.ensures) ∙ c.in_ok-goes.ensures ∙ cond-false c.in_ok-goes.goes _ _ c.if-not-goes.true)
+    (ap (λ t. moved t top below) (sym c.target_of-target.ensures) ∙ c.in_ok-goes.ensures.moved ∙ cond-false c.in_ok-goes.goes _ _ c.if-not-goes.true)
     c.places.invariant.leads))
 
 pub places-preserved : goal.places-preserved
@@ -63,7 +63,7 @@ places-preserved g c =
       leads = subst (LeadsTo rules text (at + c.in-Some.len) _ _)
           (sym (c.in_ok-push_lexeme.ensures ∙ ap (λ t. so_far ++ lexemes_of t at c.in-Some.len) c.token_of.ensures))
           (leads_on rules text at top below c.in-Some.rule c.in-Some.len _ _ so_far c.places-test.true c.in-Some.ensures.found
-          (ap (λ t. moved t top below) (sym c.target_of-target.ensures) ∙ c.in_ok-goes.ensures ∙ cond-true c.in_ok-goes.goes _ _ c.if-not-goes.false)
+          (ap (λ t. moved t top below) (sym c.target_of-target.ensures) ∙ c.in_ok-goes.ensures.moved ∙ cond-true c.in_ok-goes.goes _ _ c.if-not-goes.false)
           c.places.invariant.leads);
     }
 

@@ -1,0 +1,4 @@
+//! Cases of lexers by `.l` files.
+#![tactic(auto)]
+
+pub mod lrlex;
