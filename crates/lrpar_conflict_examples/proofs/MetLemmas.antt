@@ -1,6 +1,6 @@
 -- The states that a parse can meet: marks of them, and the steps of a table.
-use Rattle.std.proofs.Common.{◌≡◌, ◌≢◌, ◌<◌, ◌≤◌, ◌+◌, ◌||◌, ◌&&◌, ◌==◌, ◌∙◌, refl, sym, ap, subst, inl, inr, arith, lit<, ℕ, Bool, true, false, cond, IsTrue, List, [], ◌∷◌, ◌++◌, All, Option, Some, get_or, length, replicate, set, slice_get}
-use Rattle.std.specs.List.{Contains, flat_map, list_any, range_with_len}
+use Rattle.std.proofs.Common.{◌≡◌, ◌<◌, ◌≤◌, ◌+◌, ◌∙◌, refl, sym, ap, subst, inl, inr, arith, lit<, ℕ, Bool, true, false, cond, IsTrue, List, [], ◌∷◌, ◌++◌, All, Option, Some, get_or, length, replicate, set, slice_get}
+use Rattle.std.specs.List.{Contains, flat_map, range_with_len}
 use Rattle.std.proofs.lemmas.Bool.{cases_eq, cases_lt, false≢true}
 use Rattle.std.proofs.lemmas.List.{append-nil, get_or-replicate, get_or-set_other, get_or-set_same, get_or_past, length-replicate, length-set}
 use Rattle.std.proofs.lemmas.Option.{slice_get-get_or}
@@ -11,12 +11,11 @@ use Rattle.std.proofs.Common.{zero-add}
 use Rattle.lrpar_grammar.specs.Tokens.{has}
 use Rattle.lrpar_table_first.specs.FirstRows.{row_at}
 use Rattle.lrpar_table_precedence.specs.Precedence.{PrecedenceLists}
-use Rattle.lrpar_table_rows.specs.Table.{IsClosed, ShiftReduce, Table, TableAction, ShiftTo, ReduceBy, Accepts, Fails, action_of, actions_at, gotos_at, states_len}
-use Rattle.lrpar_table_build.specs.BuilderLaws.{lists_in}
+use Rattle.lrpar_table_rows.specs.Table.{IsClosed, Table, TableAction, ShiftTo, ReduceBy, Accepts, Fails, action_of, actions_at, gotos_at, states_len}
 use Rattle.lrpar_table_build.proofs.MemberLemmas.{joined_has, joined_member, member_cases, member_none, range_has, range_member}
 use Rattle.lrpar_table_sentences.specs.AccessLens.{IsStoredAt}
 use Rattle.lrpar_table_sentences.specs.Reachable.{is_marked}
-use Rattle.lrpar_conflict_examples.specs.Met.{AreMarks, AreMet, AreSteps, AreTakenAway, Goes, IsMet, IsStep, IsStepOf, MarksNext, Shifts, Starts, Steps, goto_steps, is_taken_away, shift_step, shift_steps, steps_at, steps_below, takes_away}
+use Rattle.lrpar_conflict_examples.specs.Met.{AreMarks, AreMet, AreSteps, AreTakenAway, Goes, IsMet, IsStep, IsStepOf, MarksNext, Shifts, Starts, Steps, goto_steps, shift_step, shift_steps, steps_at, steps_below}
 
 -- a marked state is in range
 marked_within : (marks : List Bool) (s : ℕ) → IsTrue (is_marked marks s) → s < length marks

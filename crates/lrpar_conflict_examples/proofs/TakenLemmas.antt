@@ -1,8 +1,8 @@
 -- The shifts that precedences take away, as a set of tokens for each state.
-use Rattle.std.proofs.Common.{◌≡◌, ◌<◌, ◌≤◌, ◌+◌, ◌||◌, ◌&&◌, ◌==◌, ◌∙◌, refl, sym, ap, subst, inl, inr, arith, ℕ, zero, suc, Bool, true, false, List, [], ◌∷◌, ◌++◌, All, get_or, length, map, set, slice_index_or}
+use Rattle.std.proofs.Common.{◌≡◌, ◌<◌, ◌≤◌, ◌||◌, ◌&&◌, ◌==◌, ◌∙◌, refl, sym, ap, subst, inl, inr, arith, ℕ, zero, suc, Bool, true, false, List, [], ◌∷◌, ◌++◌, All, get_or, length, map, set, slice_index_or}
 use Rattle.std.specs.List.{list_any}
 use Rattle.std.proofs.Math.Bool.{or_assoc}
-use Rattle.std.proofs.lemmas.Bool.{cases_eq, cases_lt, eq-eqb, ne_eqb}
+use Rattle.std.proofs.lemmas.Bool.{cases_eq, eq-eqb, ne_eqb}
 use Rattle.std.proofs.lemmas.List.{get_or-set_other, get_or-set_same, get_or_past, length-map}
 use Rattle.std.proofs.lemmas.List.Folds.{list_any-append}
 use Rattle.lrpar_grammar.specs.Tokens.{has}
@@ -12,7 +12,7 @@ use Rattle.lrpar_table_first.proofs.GrowthLemmas.{row_in, rows-set}
 use Rattle.lrpar_table_precedence.specs.Precedence.{PrecedenceLists, resolution_of}
 use Rattle.lrpar_table_rows.specs.Table.{ShiftReduce, Table, states_len}
 use Rattle.lrpar_table_build.specs.BuilderLaws.{lists_in}
-use Rattle.lrpar_conflict_examples.specs.Met.{AreTakenAway, is_taken_away, loses_shift, takes_away}
+use Rattle.lrpar_conflict_examples.specs.Met.{AreTakenAway, loses_shift, takes_away}
 
 pub or_nothing : (x : Bool) → (x || false) ≡ x
 or_nothing true = refl

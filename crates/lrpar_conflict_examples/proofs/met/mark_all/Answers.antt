@@ -1,4 +1,4 @@
-use Rattle.std.proofs.Common.{◌∙◌, arith, get_or, ℕ, Bool, List}
+use Rattle.std.proofs.Common.{◌∙◌, arith}
 use Rattle.std.proofs.lemmas.Bool.{OnFalse_at, OnFalse_from}
 use Rattle.lrpar_table_precedence.specs.Precedence.{PrecedenceLists}
 use Rattle.lrpar_table_rows.specs.Table.{Table}

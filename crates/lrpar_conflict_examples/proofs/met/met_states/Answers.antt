@@ -1,8 +1,8 @@
-use Rattle.std.proofs.Common.{◌≡◌, ◌<◌, ◌∙◌, All, arith, length, subst, sym, ap}
+use Rattle.std.proofs.Common.{◌≡◌, ◌<◌, ◌∙◌, All, length, subst, sym, ap}
 use Rattle.std.proofs.lemmas.Bool.{OnFalse_at}
 use Rattle.lrpar_table_first.proofs.GrowthLemmas.{lent_back}
 use Rattle.lrpar_table_rows.specs.Table.{states_len}
-use Rattle.lrpar_conflict_examples.specs.Met.{AreMarks, AreMet, AreSteps, MarksNext}
+use Rattle.lrpar_conflict_examples.specs.Met.{AreMarks, AreMet, AreSteps}
 use Rattle.lrpar_conflict_examples.proofs.MetLemmas.{all_met, edges_within}
 use Rattle.lrpar_conflict_examples.proofs.met.met_states.Goals as goal
 

@@ -1,4 +1,4 @@
-use Rattle.std.proofs.Common.{◌≡◌, ◌<◌, ◌≤◌, ◌∷◌, ◌++◌, ◌∙◌, [], ap, arith, length}
+use Rattle.std.proofs.Common.{◌<◌, ◌≤◌, ◌∷◌, ◌++◌, ◌∙◌, [], ap, arith, length}
 use Rattle.lrpar_table_rows.specs.Table.{gotos_at}
 use Rattle.lrpar_table_rows.proofs.StoredLemmas.{entries_len, entry_read}
 use Rattle.lrpar_table_sentences.proofs.EdgeLemmas.{made_all, made_more}

@@ -26,21 +26,21 @@ loop-conflict-preserved g c =
     let decided : loses_shift (resolution_of p (plain x).prod (plain x).token) ≡ c.loses_shift.result = ap loses_shift (sym c.resolution.ensures) ∙ sym c.loses_shift.ensures in
     elim c.if-loses_shift.branch [
       | then-loses_shift w ↦ (
-            ap (λ sets. map (λ row. length row) (rows_of sets)) w.sets-is ∙ w.take_shift.ensures.room ∙ c.loop-conflict.invariant.0,
-            λ s t low. taken_more p s t (map plain (take i conflicts)) (map plain (take (i + 1) conflicts)) (plain x) (has (row_at first s) t) (has (row_at before s) t)
-                (has (row_at after s) t) more (c.loop-conflict.invariant.1 s t low)
-                (let low_now : t < length (row_at before s) = let same = room_same first before s c.loop-conflict.invariant.0 in omega (arith, same, low) in
-                taken_then p s t (plain x) (has (row_at before s) t) (has (row_at after s) t) c.loses_shift.result decided w.from.result w.from-then-loses_shift.result
-                w.if-loses_shift.true w.from.ensures w.from-then-loses_shift.ensures
-                (ap (λ sets. has (row_at (rows_of sets) s) t) w.sets-is ∙ w.take_shift.ensures.exact s t low_now)),
-          )
+        ap (λ sets. map (λ row. length row) (rows_of sets)) w.sets-is ∙ w.take_shift.ensures.room ∙ c.loop-conflict.invariant.0,
+        λ s t low. taken_more p s t (map plain (take i conflicts)) (map plain (take (i + 1) conflicts)) (plain x) (has (row_at first s) t) (has (row_at before s) t)
+            (has (row_at after s) t) more (c.loop-conflict.invariant.1 s t low)
+            (let low_now : t < length (row_at before s) = let same = room_same first before s c.loop-conflict.invariant.0 in omega (arith, same, low) in
+            taken_then p s t (plain x) (has (row_at before s) t) (has (row_at after s) t) c.loses_shift.result decided w.from.result w.from-then-loses_shift.result
+            w.if-loses_shift.true w.from.ensures w.from-then-loses_shift.ensures
+            (ap (λ sets. has (row_at (rows_of sets) s) t) w.sets-is ∙ w.take_shift.ensures.exact s t low_now)),
+      )
       | else-loses_shift w ↦ (
-            ap (λ sets. map (λ row. length row) (rows_of sets)) w.sets-is ∙ c.loop-conflict.invariant.0,
-            λ s t low. taken_more p s t (map plain (take i conflicts)) (map plain (take (i + 1) conflicts)) (plain x) (has (row_at first s) t) (has (row_at before s) t)
-                (has (row_at after s) t) more (c.loop-conflict.invariant.1 s t low)
-                (taken_else p s t (plain x) (has (row_at before s) t) (has (row_at after s) t) c.loses_shift.result decided w.if-loses_shift.false
-                (ap (λ sets. has (row_at (rows_of sets) s) t) w.sets-is)),
-          )
+        ap (λ sets. map (λ row. length row) (rows_of sets)) w.sets-is ∙ c.loop-conflict.invariant.0,
+        λ s t low. taken_more p s t (map plain (take i conflicts)) (map plain (take (i + 1) conflicts)) (plain x) (has (row_at first s) t) (has (row_at before s) t)
+            (has (row_at after s) t) more (c.loop-conflict.invariant.1 s t low)
+            (taken_else p s t (plain x) (has (row_at before s) t) (has (row_at after s) t) c.loses_shift.result decided w.if-loses_shift.false
+            (ap (λ sets. has (row_at (rows_of sets) s) t) w.sets-is)),
+      )
     ]
 
 pub returns-clause-exact : goal.returns-clause-exact

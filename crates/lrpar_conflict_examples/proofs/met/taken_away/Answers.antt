@@ -1,4 +1,4 @@
-use Rattle.std.proofs.Common.{◌≡◌, ◌∙◌, All, List, Bool, sym, ap, subst, arith, length, map}
+use Rattle.std.proofs.Common.{◌≡◌, ◌∙◌, All, sym, ap, subst, arith, length, map}
 use Rattle.std.proofs.lemmas.List.{length-map}
 use Rattle.lrpar_table_first.proofs.GrowthLemmas.{lent_back}
 use Rattle.lrpar_table_first.specs.FirstRows.{HoldNothing, rows_of}
