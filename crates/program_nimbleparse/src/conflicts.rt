@@ -154,10 +154,7 @@ fn push_with_examples(
 fn first_of(examples: &[ConflictExample<u32>]) -> &[ConflictExample<u32>]
     ensures { (g : Grammar) → ExamplesFit g examples.now → ExamplesFit g result.now }
 {
-    match examples.get(..MOST) {
-        Some(first) => first,
-        None => examples,
-    }
+    &examples[..examples.len().min(MOST)]
 }
 
 // Adds to the first warnings that there are examples: to as many as there are different conflicts among these examples.
