@@ -44,9 +44,10 @@ pub fn outcome_of_cuts(out: &mut Printed, alloc: Global, case: Case<'_, '_>) -> 
 
 // Why there is no grammar of the file.
 fn push_cut(out: &mut Printed, alloc: Global, kind: YaccKind, cut: &str) {
-    match YaccGrammar::<u8>::new_with_kind(alloc, kind, cut) {
-        Ok(_) => out.text("a grammar\n"),
-        Err(fault) => push_fault(out, &fault),
+    let fault = YaccGrammar::<u8>::new_with_kind(alloc, kind, cut).err();
+    match &fault {
+        None => out.text("a grammar\n"),
+        Some(fault) => push_fault(out, fault),
     }
 }
 

@@ -123,10 +123,11 @@ fn push_fault(out: &mut Printed, fault: &LrlexFault) {
 // What comes of a text of rules.
 fn said_of(alloc: Global, grm: &YaccGrammar<u8>, text: &str) -> Printed {
     let mut said = Printed::new(alloc);
-    match rules_of_lrlex(alloc, grm, text) {
-        Ok(_) => said.text("rules"),
-        Err(LrlexFault::Memory) => said.lack_memory(),
-        Err(fault) => said.show(&fault),
+    let fault = rules_of_lrlex(alloc, grm, text).err();
+    match &fault {
+        None => said.text("rules"),
+        Some(LrlexFault::Memory) => said.lack_memory(),
+        Some(fault) => said.show(fault),
     }
     said
 }
