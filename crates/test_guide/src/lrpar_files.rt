@@ -1,9 +1,9 @@
 //! A tree by the files of an lrpar project, as a user writes it.
-use lrpar::RTParserBuilder;
 use lrpar::build::{Unbuilt, parser_data_with};
 use lrpar::grammar::{YaccFileFault, YaccGrammar, YaccKind};
 use lrpar::parser::ParseFault;
 use lrpar::precedences::Precedences;
+use lrpar::{ParserData, RTParserBuilder};
 use lrpar_lexer_lrlex::{LrlexFault, StateLexer, rules_of_lrlex};
 use std::alloc::{AllocError, Global};
 use std::process::Abort;
@@ -54,19 +54,32 @@ enum Failed {
     Memory(#[from] AllocError),
 }
 
-// The tree of the input, by the texts of a `.y` file and of a `.l` file.
-fn tree_by_files(alloc: Global, grammar: &str, rules: &str, input: &str) -> Result<String, Failed> {
-    let file = YaccGrammar::<u32>::new_with_kind(alloc, YaccKind::Grmtools, grammar)?;
+// The checked table of a `.y` file.
+fn table_of(alloc: Global, text: &str) -> Result<ParserData<u32>, Failed> {
+    let file = YaccGrammar::<u32>::new_with_kind(alloc, YaccKind::Grmtools, text)?;
     let (grammar, text) = file.into_parts();
     let precedences = Precedences::declared(alloc, &grammar, &text.declarations)?;
-    let data = parser_data_with(alloc, grammar, &precedences, 10_000, 1_000)?;
-    let rules = rules_of_lrlex(alloc, data.grm(), rules)?;
+    Ok(parser_data_with(alloc, grammar, &precedences, 10_000, 1_000)?)
+}
+
+// The tree of an input by the rules of a `.l` file, if there is one.
+fn shown(
+    alloc: Global,
+    data: &ParserData<u32>,
+    rules: &str,
+    input: &str,
+) -> Result<String, Failed> {
+    let grm = data.grm();
+    let rules = rules_of_lrlex(alloc, grm, rules)?;
     let lexer = StateLexer::new(alloc, &rules, input)?;
-    let (tree, _) = RTParserBuilder::new(&data).parse_generictree(alloc, &lexer)?;
-    match tree {
-        Some(tree) if tree.fits(data.grm(), input) => Ok(tree.pp(alloc, data.grm(), input)?),
-        _ => Ok(String::new(alloc)),
+    let (tree, _) = RTParserBuilder::new(data).parse_generictree(alloc, &lexer)?;
+    let mut text = String::new(alloc);
+    if let Some(tree) = &tree {
+        if tree.fits(grm, input) {
+            text.push_str(&tree.pp(alloc, grm, input)?)?;
+        }
     }
+    Ok(text)
 }
 
 /// The tree of `1 - 2 - 3 * 4`.
@@ -88,9 +101,8 @@ const TREE: &str = "Expr
 
 #[test]
 fn tree_by_precedences(rt: HostRuntime) -> Result<(), Fail> {
-    let tree = tree_by_files(rt.alloc(), GRAMMAR, RULES, "1 - 2 /* * */ - 3 * 4").expect(
-        &rt, "a tree",
-    );
+    let data = table_of(rt.alloc(), GRAMMAR).expect(&rt, "a table");
+    let tree = shown(rt.alloc(), &data, RULES, "1 - 2 /* * */ - 3 * 4").expect(&rt, "a tree");
     assert_eq!(rt; tree.as_str(), TREE);
     Ok(())
 }
