@@ -1,13 +1,14 @@
 -- A pattern after an assertion that the text starts there finds what the pattern finds, if that begins at 0.
-use Rattle.std.proofs.Common.{◌≡◌, ℕ, ◌+◌, ◌<◌, ◌≤◌, Bool, true, false, cond, ◌==◌, List, length, is_some, min, Option, Some, None, option_map, refl, sym, ap, ◌∙◌, subst, ⊎_elim, arith, true≢false, ne_eqb, zero, suc}
+use Rattle.std.proofs.Common.{◌≡◌, ℕ, ◌+◌, ◌<◌, ◌≤◌, Bool, true, false, cond, ◌==◌, List, [], ◌∷◌, length, is_some, Option, Some, None, option_map, refl, sym, ap, ◌∙◌, subst, ⊎_elim, arith, true≢false, ne_eqb, nat_eq, zero, suc}
 use Rattle.std.proofs.lemmas.Bool.{cases_Bool, cases_lt, cond-false, cond-true}
 use Rattle.std.proofs.lemmas.Option.{none-some, same_Some, slice_get-get_or}
 use Rattle.std.proofs.lemmas.Str.{IsCharBoundary-start}
+use Rattle.std.specs.List.{starts_with}
 use Rattle.std.specs.Str.{IsUtf8}
 use Rattle.regex.specs.Patterns.{Config, Match, Re, Start, find, find_str, holds, span}
 use Rattle.regex_hir.specs.Looks.{holds_between}
-use Rattle.regex_hir.specs.Re.{Trace, accept, attempt}
-use Rattle.regex_hir.specs.Text.{is_boundary}
+use Rattle.regex_hir.specs.Re.{Trace, accept, attempt, literal}
+use Rattle.regex_hir.specs.Text.{has_bytes_at, is_boundary}
 use Rattle.regex_hir.proofs.AttemptLemmas.{attempt_cong, cond_some}
 use Rattle.regex_hir.proofs.FindLemmas.{IsFirst-of_first_between, first_between_here}
 use Rattle.regex_hir.proofs.OptionLemmas.{none_of_no_value, option_cases}
@@ -20,7 +21,7 @@ use Rattle.regex_literal.specs.Find.{IsFirst}
 use Rattle.regex.proofs.Utf8Lemmas.{test_of_IsCharBoundary}
 use Rattle.regex_hir.specs.Meaning.{meaning}
 use Rattle.regex_meta.specs.declared.program.Program.{Program}
-use Rattle.lrpar_lexer.specs.Anchored.{FindsAtStart, HasNothingAtStart, IsAfterStart, after_start, if_at_start, without_start}
+use Rattle.lrpar_lexer.specs.Anchored.{FindsAtStart, FindsText, HasNothingAtStart, IsAfterStart, after_start, if_at_start, without_start}
 use Rattle.lrpar_lexer.specs.Matching.{HasNoMatch}
 
 -- only the first place of a text has nothing before it
@@ -99,14 +100,42 @@ finds_after config source program it text utf8 =
     ap (λ re. option_map span (find re text 0)) it.after ∙ found_at_start (meaning it.tree) text boundary
     ∙ ap (λ re. if_at_start (option_map span (find_str re text 0))) (sym pattern)
 
--- if a text doesn't begin with a byte that can begin a match, nothing matches at its start
-pub nothing_begins : (program : Program) (set : List Bool) → program.first ≡ Some set → (text : List ℕ) (bound : ℕ) (found : Option ℕ)
-    → bound ≡ min (length text) 1 → IsFirst (IsInSet set text) 0 bound found → is_some found ≡ false → HasNothingAtStart (pattern_of program) text
-nothing_begins program set is text bound None short none _ =
-    none_of_no_value (attempt text (pattern_of program) accept 0) (λ t found. refuted program.starts (λ starts.
-    let there = starts set is text 0 t found in
-    none 0 (omega arith) (omega (arith, there.0)) there.1))
-nothing_begins program set is text bound (Some at) short first missing = absurd (true≢false missing)
+-- a pattern that is a text matches nothing at the start of a text that doesn't begin with it
+pub text_nothing : (bytes text : List ℕ) → has_bytes_at text 0 bytes ≡ false → HasNothingAtStart (after_start (literal bytes)) text
+unfolding attempt
+text_nothing bytes text not = attempt_at_start (literal bytes) text ∙ cond-false (has_bytes_at text 0 bytes) (accept (0 + length bytes)) None not
+
+-- and otherwise the bytes
+pub finds_text : (program : Program) (bytes : List ℕ) → pattern_of program ≡ after_start (literal bytes) → FindsText program bytes
+unfolding attempt
+finds_text program bytes is text =
+    let length_is : 0 + length bytes ≡ length bytes = omega arith in
+    ⊎_elim
+    (λ (has : has_bytes_at text 0 bytes ≡ true).
+    ap (λ re. option_map span (find re text 0)) is
+    ∙ ap (option_map span) (find_here (after_start (literal bytes)) text 0 (record { end = 0 + length bytes; writes = [] }) (omega arith)
+    (attempt_at_start (literal bytes) text ∙ cond-true (has_bytes_at text 0 bytes) (accept (0 + length bytes)) None has))
+    ∙ ap (λ n. Some (0, n)) length_is ∙ sym (cond-true (has_bytes_at text 0 bytes) (Some (0, length bytes)) None has))
+    (λ (not : has_bytes_at text 0 bytes ≡ false).
+    ap (λ re. option_map span (find re text 0)) is
+    ∙ ap (option_map span) (anchored_finds_nothing (literal bytes) text (cond-false (has_bytes_at text 0 bytes) (accept (0 + length bytes)) None not))
+    ∙ sym (cond-false (has_bytes_at text 0 bytes) (Some (0, length bytes)) None not))
+    (cases_Bool (has_bytes_at text 0 bytes))
+
+-- what a test of the first bytes says of it
+pub text_span : (program : Program) (bytes text : List ℕ) (found : Bool) → FindsText program bytes → found ≡ starts_with nat_eq text bytes
+    → option_map span (leftmost program text 0) ≡ cond found (Some (0, length bytes)) None
+unfolding has_bytes_at
+text_span program bytes text found finds is = finds text ∙ ap (λ b. cond b (Some (0, length bytes)) None) (sym is)
+
+-- if a byte can't begin a match, nothing matches at the start of a text that begins with it
+pub nothing_begins : (program : Program) (set : List Bool) → program.first ≡ Some set → (byte : ℕ) (found : Option ℕ)
+    → IsFirst (IsInSet set (byte ∷ [])) 0 1 found → is_some found ≡ false → (text : List ℕ) → HasNothingAtStart (pattern_of program) (byte ∷ text)
+nothing_begins program set is byte None none missing text =
+    none_of_no_value (attempt (byte ∷ text) (pattern_of program) accept 0) (λ t found. refuted program.starts (λ starts.
+    let there = starts set is (byte ∷ text) 0 t found in
+    none 0 (omega arith) (omega arith) there.1))
+nothing_begins program set is byte (Some at) first missing text = absurd (true≢false missing)
 
 -- and so the pattern has no match
 pub no_match_of_nothing : (program : Program) (pattern : Re) (text : List ℕ) → IsUtf8 text → FindsAtStart program pattern

@@ -1,23 +1,24 @@
 -- Each text has a list of lexemes, if unmatched characters are lexemes, too: at each place it can be found out what comes there.
-use Rattle.std.proofs.Common.{◌≡◌, ℕ, ◌+◌, ◌-◌, ◌<◌, ◌≤◌, ◌⊎◌, List, [], length, map, drop, take, get_or, Option, Some, None, option_map, Result, sym, subst, ◌∙◌, ap, arith, inl, inr, refl, zero, suc, ◌++◌}
+use Rattle.std.proofs.Common.{◌≡◌, ℕ, ◌+◌, ◌-◌, ◌<◌, ◌≤◌, ◌⊎◌, List, [], length, map, drop, get_or, Option, Some, None, option_map, Result, sym, subst, ◌∙◌, ap, arith, inl, inr, refl, zero, suc, ◌++◌}
 use Rattle.std.specs.Str.{IsCharBoundary}
 use Rattle.std.proofs.lemmas.Bool.{cases_lt}
-use Rattle.std.proofs.lemmas.List.{length-map, take_all}
-use Rattle.std.proofs.lemmas.List.Elements.{All-nil}
+use Rattle.std.proofs.lemmas.List.{length-map}
 use Rattle.std.proofs.lemmas.Option.{none-some, same_Some, slice_get-get_or, slice_get_within}
 use Rattle.regex.specs.Patterns.{Re, empty, find_str, span}
 use Rattle.regex_hir.proofs.OptionLemmas.{option_cases}
 use Rattle.lrpar_lexer.specs.declared.matching.Winner.{Winner}
 use Rattle.lrpar_lexer.specs.declared.token.Token.{Token}
 use Rattle.lrpar_lexer.specs.declared.token.NoToken.{NoToken}
-use Rattle.lrpar_lexer.specs.Matching.{HasNoMatch, IsMatchLen, IsUnmatched, IsWinner, NoneMatches, Wins, better}
+use Rattle.lrpar_lexer.specs.Matching.{IsMatchLen, IsOfPattern, IsUnmatched, IsWinner, NoneMatches, Wins, better}
 use Rattle.lrpar_lexer.specs.Rules.{Rule}
 use Rattle.lrpar_lexer.specs.Lexing.{Reads, lexemes_of}
 use Rattle.lrpar_lexer.specs.LexingAll.{IsNext, LexesAll, finishes, goes_on}
 use Rattle.lrpar_lexer.specs.LexingAllLaws.{LexesEachText}
 use Rattle.lrpar_lexer.proofs.LexingLawLemmas.{wins_not_none}
 use Rattle.lrpar_lexer.proofs.UnmatchedLemmas.{NoneLater, none_later_first, run_to_end}
-use Rattle.lrpar_lexer.proofs.WinnerLemmas.{better_wins_at}
+use Rattle.lrpar_lexer.proofs.ChosenLemmas.{AreCoveredBelow, covered_below_more}
+use Rattle.lrpar_lexer.proofs.RuleTreeLemmas.{if_some}
+use Rattle.lrpar_lexer.proofs.WinnerLemmas.{improves_one, wins_if_covered}
 
 -- a place is between two characters, or isn't
 boundary_or_not : (text : List ℕ) (at : ℕ) → IsCharBoundary text at ⊎ (¬ (IsCharBoundary text at))
@@ -66,19 +67,22 @@ module _ (rest : List ℕ) (pattern : Re) where
     | inr some ↦ found_len some.0 some.1
   ]
 
--- the first patterns have a winner, or none of them matches
-winner_of : (patterns : List Re) (rest : List ℕ) (i : ℕ) → i ≤ length patterns → (winner : Option Winner) × IsWinner (take i patterns) rest winner
-winner_of patterns rest zero within = (None, All-nil (HasNoMatch rest))
-winner_of patterns rest (suc i) within =
-    let before = winner_of patterns rest i (omega arith) in
+-- the first patterns have a best match, or none of them matches
+best_of_first : (patterns : List Re) (rest : List ℕ) (i : ℕ) → i ≤ length patterns
+    → (best : Option Winner) × IsOfPattern patterns rest best × AreCoveredBelow patterns rest i best
+best_of_first patterns rest zero within = (None, tt, λ place pattern below. absurd (omega (arith, below)))
+best_of_first patterns rest (suc i) within =
+    let before = best_of_first patterns rest i (omega arith) in
     let inside : i < length patterns = omega arith in
     let there = match_len_of rest (get_or patterns i empty) in
-    let next : suc i ≡ i + 1 = omega arith in (
+    let next : suc i ≡ i + 1 = omega arith in
+    let improves = improves_one patterns rest before.0 i there.0 (if_some there.0 (λ n is. inside))
+    (λ pattern is. subst (λ re. IsMatchLen rest re there.0)
+    (same_Some (get_or patterns i empty) pattern (sym (slice_get-get_or patterns i empty inside) ∙ is)) there.1) in (
       better before.0 i there.0,
-      subst (λ k. IsWinner (take k patterns) rest (better before.0 i there.0)) (sym next)
-          (better_wins_at patterns rest i before.0 there.0 inside before.1
-          (λ pattern is. subst (λ re. IsMatchLen rest re there.0)
-          (same_Some (get_or patterns i empty) pattern (sym (slice_get-get_or patterns i empty inside) ∙ is)) there.1)),
+      improves.real before.1,
+      subst (λ k. AreCoveredBelow patterns rest k (better before.0 i there.0)) (sym next)
+          (covered_below_more patterns rest i before.0 (better before.0 i there.0) improves before.2),
     )
 
 -- all patterns have a winner, or none of them matches
@@ -89,8 +93,9 @@ winner_or_none_of patterns rest (Some w) wins = inl (w, wins)
 
 pub winner_or_none : (patterns : List Re) (rest : List ℕ) → ((w : Winner) × Wins patterns rest w.rule w.len) ⊎ NoneMatches patterns rest
 winner_or_none patterns rest =
-    let winner = winner_of patterns rest (length patterns) (omega arith) in
-    winner_or_none_of patterns rest winner.0 (subst (λ ps. IsWinner ps rest winner.0) (take_all (length patterns) patterns (omega arith)) winner.1)
+    let best = best_of_first patterns rest (length patterns) (omega arith) in
+    winner_or_none_of patterns rest best.0
+    (wins_if_covered patterns rest best.0 best.1 (λ i pattern is. best.2 i pattern (slice_get_within patterns i pattern is) is))
 
 module _ (patterns : List Re) (text : List ℕ) (at : ℕ) (none : NoneMatches patterns (drop at text)) where
   -- a run of n bytes so far ends somewhere

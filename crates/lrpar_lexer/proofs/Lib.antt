@@ -1,5 +1,7 @@
 pub mod WinnerLemmas
 pub mod ChosenLemmas
+pub mod RuleTreeLemmas
+pub mod WalkLemmas
 pub mod LexingLemmas
 pub mod LexingLawLemmas
 pub mod AnswerLemmas

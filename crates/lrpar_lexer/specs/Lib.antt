@@ -1,6 +1,8 @@
 pub mod Matching
 pub mod Anchored
+pub mod Searches
 pub mod Matchers
+pub mod RuleTrees
 pub mod Rules
 pub mod Answers
 pub mod RuleLines

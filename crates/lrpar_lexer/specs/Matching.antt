@@ -1,5 +1,6 @@
 -- Which of several patterns wins at the start of a text. What a pattern finds is what `regex` finds.
-use Rattle.std.specs.Prelude.{◌≡◌, ℕ, ◌+◌, ◌<◌, ◌≤◌, List, length, map, get_or, Option, Some, None, if◌then◌else◌, nat_le, option_map, MatchOption, take, drop, slice_get, ⊤}
+use Rattle.std.specs.Prelude.{◌≡◌, ℕ, ◌+◌, ◌<◌, ◌≤◌, ◌==◌, ◌&&◌, ◌||◌, Contains, List, length, map, get_or, Option, Some, None, if◌then◌else◌, nat_le, nat_lt, option_map, MatchOption, take, drop, slice_get, ⊤}
+use Rattle.std.specs.Option.{IfSome, IsSomeAnd}
 use Rattle.std.specs.List.{All}
 use Rattle.std.specs.Str.{IsCharBoundary}
 use Rattle.regex.specs.Patterns.{Re, empty, find_str, span}
@@ -66,8 +67,24 @@ abbrev pub AreIndices : List Re → Option (List ℕ) → Type 0
 AreIndices patterns None = ⊤
 AreIndices patterns (Some indices) = All (λ i. i < length patterns) indices
 
--- the better of two winners: pattern i with its match only if that is longer
+-- the better of two matches: that of pattern i only if it is longer, or as long and earlier in the list
 abbrev pub better : Option Winner → ℕ → Option ℕ → Option Winner
 better best i None = best
 better None i (Some n) = Some (record { rule = i; len = n })
-better (Some w) i (Some n) = if nat_le n w.len then Some w else Some (record { rule = i; len = n })
+better (Some w) i (Some n) = if nat_lt n w.len || (n == w.len && nat_le w.rule i) then Some w else Some (record { rule = i; len = n })
+
+-- the best match so far, if there is one, is that of its pattern
+abbrev pub IsOfPattern : List Re → List ℕ → Option Winner → Type 0
+IsOfPattern patterns rest best =
+    IfSome best (λ w. IsSomeAnd (slice_get patterns w.rule) (λ pattern. IsMatch rest pattern w.len))
+
+-- pattern i has no match that is better than the best so far: that is longer, or as long and no later in the list
+abbrev pub IsCovered : List ℕ → Option Winner → ℕ → Re → Type 0
+IsCovered rest best i pattern =
+    (n : ℕ) → IsMatch rest pattern n → IsSomeAnd best (λ w. (n ≤ w.len) × (n ≡ w.len → w.rule ≤ i))
+
+-- the best match after those of the rules in a list were compared with the best so far
+pub record Improves (patterns : List Re) (rest : List ℕ) (rules : List ℕ) (old new : Option Winner) : Type 0 where
+  pub real : IsOfPattern patterns rest old → IsOfPattern patterns rest new
+  pub kept : (i : ℕ) (pattern : Re) → IsCovered rest old i pattern → IsCovered rest new i pattern
+  pub tried : (i : ℕ) (pattern : Re) → Contains rules i → slice_get patterns i ≡ Some pattern → IsCovered rest new i pattern

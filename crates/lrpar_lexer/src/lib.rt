@@ -8,9 +8,11 @@ mod lexing_all;
 mod list_fault;
 mod list_lexer;
 mod list_places;
+mod matcher;
 mod matching;
 mod parts;
 mod rule;
+mod rule_tree;
 mod rules;
 mod token;
 

@@ -1,16 +1,18 @@
 //! Which of several patterns wins at a place of a text.
-ghost use Rattle.std.specs.Prelude.{◌≡◌, ◌<◌, IfOk, MatchBool, false, List, drop, length, map, option_map, slice_get, vec_len};
+ghost use Rattle.std.specs.Prelude.{◌≡◌, ◌<◌, IfOk, IfSome, MatchBool, List, drop, length, map, option_map, slice_get, vec_len};
 ghost use Rattle.std.specs.List.{All, AllZip};
 ghost use Rattle.std.specs.Str.{IsCharBoundary};
 ghost use Rattle.regex.specs.Patterns.{Re};
-ghost use Rattle.regex_meta.specs.Programs.{pattern_of as searched_by};
 ghost use Rattle.regex_meta.specs.declared.program.Program.{Program};
-ghost use Rattle.lrpar_lexer.specs.Anchored.{FindsAtStart, HasNothingAtStart};
-ghost use Rattle.lrpar_lexer.specs.Matching.{AreIndices, IsMatchLen, IsUnmatched, IsWinner, NoneMatches, better, chosen_of, tried_of};
+ghost use Rattle.lrpar_lexer.specs.Anchored.{FindsAtStart};
+ghost use Rattle.lrpar_lexer.specs.Searches.{program_of};
+ghost use Rattle.lrpar_lexer.specs.Matching.{AreIndices, Improves, IsMatchLen, IsUnmatched, IsWinner, NoneMatches, better, chosen_of, tried_of};
+ghost use Rattle.lrpar_lexer.specs.RuleTrees.{AreMet};
 ghost use Rattle.lrpar_lexer.specs.Rules.{anchored_of};
 
+use crate::matcher::Matcher;
 use crate::rule::LexRule;
-use regex_meta::{Program, Searcher};
+use crate::rule_tree::RuleTree;
 use std::alloc::{AllocError, Global};
 
 /// The winner at a place.
@@ -25,7 +27,9 @@ pub struct Winner {
 /// Searches for the patterns of several rules at one place of a text.
 #[derive(Drop)]
 pub struct Matchers<'r> {
-    searchers: Vec<Searcher<'r>>,
+    matchers: Vec<Matcher<'r>>,
+    tree: RuleTree,
+    ghost met: { AreMet tree.nodes.items (map program_of matchers.items) },
 }
 
 impl<'r> Matchers<'r> {
@@ -38,11 +42,9 @@ impl<'r> Matchers<'r> {
     ) -> Result<Matchers<'r>, AllocError>
         ensures { IfOk result (λ matchers. programs_of matchers ≡ map anchored_of rules.now) }
     {
-        let mut searchers = Vec::with_capacity(alloc, rules.len())?;
-        'rules: for rule in rules {
-            searchers.push(Searcher::new(alloc, &rule.anchored)?)?;
-        }
-        Ok(Matchers { searchers })
+        let matchers = matchers_of(alloc, rules)?;
+        let tree = RuleTree::new(alloc, rules)?;
+        Ok(Matchers { matchers, tree })
     }
 
     // The winner at the start of a text, if a pattern matches there.
@@ -50,12 +52,7 @@ impl<'r> Matchers<'r> {
         ensures winner { (patterns : List Re) → AllZip FindsAtStart (programs_of self.old) patterns → IsWinner patterns rest.now result }
         ensures same { programs_of self.new ≡ programs_of self.old }
     {
-        let mut best = None;
-        'matchers: for index in 0..self.searchers.len() {
-            let found = self.match_len(index, rest);
-            best = better(best, index, found);
-        }
-        best
+        winner_met(&mut self.matchers, &self.tree, rest)
     }
 
     /// The winner at the start of a text among the patterns with these indices, if one of them matches there: the longest match, and the
@@ -67,23 +64,10 @@ impl<'r> Matchers<'r> {
     {
         let mut best = None;
         'chosen: for (place, index) in chosen.iter().enumerate() {
-            let found = self.match_of(*index, rest);
+            let found = match_of(&mut self.matchers, *index, rest);
             best = better(best, place, found);
         }
         best
-    }
-
-    // The same as `match_len`, and nothing if there is no pattern with that index.
-    fn match_of(&mut self, index: usize, rest: &str) -> Option<usize>
-        ensures found { (program : Program) (pattern : Re) → slice_get (programs_of self.old) index ≡ Some program
-            → FindsAtStart program pattern → IsMatchLen rest.now pattern result }
-        ensures same { programs_of self.new ≡ programs_of self.old }
-    {
-        if index < self.searchers.len() {
-            self.match_len(index, rest)
-        } else {
-            None
-        }
     }
 
     /// The number of bytes of the longest run of characters from byte `at` on at which none of the patterns that are tried matches, if none
@@ -131,46 +115,77 @@ impl<'r> Matchers<'r> {
             None => self.winner(rest),
         }
     }
-
-    // The number of bytes that one of the patterns matches at the start of a text, if it does.
-    fn match_len(&mut self, index: usize, rest: &str) -> Option<usize>
-        requires { index < vec_len self.old.searchers }
-        ensures found { (program : Program) (pattern : Re) → slice_get (programs_of self.old) index ≡ Some program
-            → FindsAtStart program pattern → IsMatchLen rest.now pattern result }
-        ensures same { programs_of self.new ≡ programs_of self.old }
-        ensures len { vec_len self.new.searchers ≡ vec_len self.old.searchers }
-    {
-        match_len(&mut self.searchers[index], rest)
-    }
 }
 
-// The number of bytes that the pattern matches at the start of a text, if it does.
-fn match_len(searcher: &mut Searcher<'_>, rest: &str) -> Option<usize>
-    ensures found { (pattern : Re) → FindsAtStart searcher.old.program.now pattern → IsMatchLen rest.now pattern result }
-    ensures same { searcher.new.program.now ≡ searcher.old.program.now }
+// The searches for the patterns of the rules.
+fn matchers_of<'r, StorageT>(
+    alloc: Global,
+    rules: &'r [LexRule<StorageT>],
+) -> Result<Vec<Matcher<'r>>, AllocError>
+    ensures { IfOk result (λ matchers. map program_of matchers.items ≡ map anchored_of rules.now) }
 {
-    if !can_begin(searcher.program, rest.as_bytes()) {
+    let mut matchers = Vec::with_capacity(alloc, rules.len())?;
+    'rules: for rule in rules {
+        matchers.push(Matcher::new(alloc, &rule.anchored)?)?;
+    }
+    Ok(matchers)
+}
+
+// The winner at the start of a text: the best of the rules that a walk along the text meets.
+fn winner_met(matchers: &mut Vec<Matcher<'_>>, tree: &RuleTree, rest: &str) -> Option<Winner>
+    requires { AreMet tree.now.nodes.items (map program_of matchers.old.items) }
+    ensures winner { (patterns : List Re) → AllZip FindsAtStart (map program_of matchers.old.items) patterns → IsWinner patterns rest.now result }
+    ensures same { map program_of matchers.new.items ≡ map program_of matchers.old.items }
+{
+    let bytes = rest.as_bytes();
+    if bytes.is_empty() {
         return None;
     }
-    let (_, end) = searcher.find(rest.as_bytes(), 0)?;
-    if end > 0 && rest.is_char_boundary(end) {
-        Some(end)
+    let mut node = tree.first(bytes[0]);
+    let mut best = best_of(matchers, tree.rules(node), rest, None);
+    'walk: for byte in &bytes[1..] {
+        let Some(next) = tree.next(node, *byte) else {
+            return best;
+        };
+        node = next;
+        best = best_of(matchers, tree.rules(node), rest, best);
+    }
+    best
+}
+
+// The best match so far, or that of one of these rules if it is better.
+fn best_of(
+    matchers: &mut Vec<Matcher<'_>>,
+    rules: &[usize],
+    rest: &str,
+    so_far: Option<Winner>,
+) -> Option<Winner>
+    ensures best { (patterns : List Re) → AllZip FindsAtStart (map program_of matchers.old.items) patterns → Improves patterns rest.now rules.now so_far result }
+    ensures same { map program_of matchers.new.items ≡ map program_of matchers.old.items }
+{
+    let mut best = so_far;
+    'rules: for rule in rules {
+        let found = match_of(matchers, *rule, rest);
+        best = better(best, *rule, found);
+    }
+    best
+}
+
+// The number of bytes that the pattern with this index matches at the start of a text, if there is one and it does.
+fn match_of(matchers: &mut Vec<Matcher<'_>>, index: usize, rest: &str) -> Option<usize>
+    ensures found { (program : Program) (pattern : Re) → slice_get (map program_of matchers.old.items) index ≡ Some program
+        → FindsAtStart program pattern → IsMatchLen rest.now pattern result }
+    ensures known { IfSome result (λ _. index < vec_len matchers.old) }
+    ensures same { map program_of matchers.new.items ≡ map program_of matchers.old.items }
+{
+    if index < matchers.len() {
+        matchers[index].match_len(rest)
     } else {
         None
     }
 }
 
-// Whether a match can begin with the text's first byte. This is tested before a search, which takes longer.
-fn can_begin(program: &Program, text: &[u8]) -> bool
-    ensures { result ≡ false → HasNothingAtStart (searched_by program.now) text.now }
-{
-    match &program.first {
-        Some(bytes) => bytes.find_near(text, 0, text.len().min(1)).is_some(),
-        None => true,
-    }
-}
-
-// The better of two: the match of pattern `index` only if it is longer.
+// The better of two: the match of pattern `index` only if it is longer, or as long and earlier in the list.
 fn better(best: Option<Winner>, index: usize, found: Option<usize>) -> Option<Winner>
     ensures { result ≡ better best index found }
 {
@@ -178,7 +193,7 @@ fn better(best: Option<Winner>, index: usize, found: Option<usize>) -> Option<Wi
         return best;
     };
     match best {
-        Some(winner) if len <= winner.len => best,
+        Some(winner) if len < winner.len || (len == winner.len && winner.rule <= index) => best,
         _ => Some(Winner { rule: index, len }),
     }
 }

@@ -1,0 +1,90 @@
+//! A search for one pattern at the start of a text.
+ghost use Rattle.std.specs.Prelude.{◌≡◌, IfOk, false, option_map};
+ghost use Rattle.regex.specs.Patterns.{Re, span};
+ghost use Rattle.regex_meta.specs.Programs.{leftmost, pattern_of as searched_by};
+ghost use Rattle.lrpar_lexer.specs.Anchored.{FindsAtStart, FindsText, HasNothingAtStart};
+ghost use Rattle.lrpar_lexer.specs.Matching.{IsMatchLen};
+
+use crate::rule_tree::{can_begin, plain_text};
+use regex_meta::{Program, Searcher};
+use std::alloc::{AllocError, Global};
+
+#[derive(Drop)]
+pub(crate) enum Matcher<'r> {
+    /// A pattern that is a text. Its bytes are compared.
+    Text(PlainText<'r>),
+    /// Any other.
+    Search(Searcher<'r>),
+}
+
+/// A pattern that is a text.
+#[derive(Drop)]
+pub(crate) struct PlainText<'r> {
+    program: &'r Program,
+    text: &'r [u8],
+    ghost finds: { FindsText program.now text.now },
+}
+
+impl<'r> PlainText<'r> {
+    // What the program finds in a text.
+    fn find(&self, text: &[u8]) -> Option<(usize, usize)>
+        ensures { result ≡ option_map span (leftmost self.now.program.now text.now 0) }
+    {
+        if text.starts_with(self.text) {
+            Some((0, self.text.len()))
+        } else {
+            None
+        }
+    }
+}
+
+impl<'r> Matcher<'r> {
+    ghost use Rattle.lrpar_lexer.specs.Searches.{program_of};
+
+    /// The search for the program's pattern. Takes no memory for a pattern that is a text.
+    pub(crate) fn new(alloc: Global, program: &'r Program) -> Result<Matcher<'r>, AllocError>
+        ensures { IfOk result (λ matcher. program_of matcher ≡ program.now) }
+    {
+        match plain_text(program) {
+            Some(text) => Ok(Matcher::Text(PlainText { program, text })),
+            None => Ok(Matcher::Search(Searcher::new(alloc, program)?)),
+        }
+    }
+
+    /// The number of bytes that the pattern matches at the start of a text, if it does.
+    pub(crate) fn match_len(&mut self, rest: &str) -> Option<usize>
+        ensures found { (pattern : Re) → FindsAtStart (program_of self.old) pattern → IsMatchLen rest.now pattern result }
+        ensures same { program_of self.new ≡ program_of self.old }
+    {
+        if !self.can_match(rest.as_bytes()) {
+            return None;
+        }
+        let (_, end) = self.find(rest.as_bytes())?;
+        if end > 0 && rest.is_char_boundary(end) {
+            Some(end)
+        } else {
+            None
+        }
+    }
+
+    // Whether the pattern can match at the start of a text. This is tested before a search, which takes longer.
+    fn can_match(&self, text: &[u8]) -> bool
+        ensures { result ≡ false → HasNothingAtStart (searched_by (program_of self.now)) text.now }
+    {
+        match (self, text.first()) {
+            (Matcher::Search(searcher), Some(byte)) => can_begin(searcher.program, *byte),
+            _ => true,
+        }
+    }
+
+    // What the program finds in a text.
+    fn find(&mut self, text: &[u8]) -> Option<(usize, usize)>
+        ensures found { result ≡ option_map span (leftmost (program_of self.old) text.now 0) }
+        ensures same { program_of self.new ≡ program_of self.old }
+    {
+        match self {
+            Matcher::Text(plain) => plain.find(text),
+            Matcher::Search(searcher) => searcher.find(text, 0),
+        }
+    }
+}
