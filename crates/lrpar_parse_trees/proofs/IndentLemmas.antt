@@ -1,9 +1,9 @@
 -- A line after its spaces, and spaces that stay for the next line.
 use Rattle.std.proofs.Common.{◌≡◌, ◌+◌, ◌-◌, ◌<◌, ◌≤◌, ℕ, List, [], ◌∷◌, ◌++◌, Result, Ok, Err, OnOk, is_ok, if◌then◌else◌, arith, ap, length, replicate, take, subst, sym, ◌∙◌, append_assoc}
-use Rattle.std.specs.Str.{IsUtf8, IsCharBoundary}
+use Rattle.std.specs.Str.{IsUtf8}
 use Rattle.std.specs.List.{slice_index}
 use Rattle.std.proofs.lemmas.List.{get_or-replicate, get_or-take, length-replicate, length-take, length_push, replicate_more, take-append-le, take-replicate, take-take}
-use Rattle.std.proofs.lemmas.Str.{IsUtf8-string_bytes, lead_after_ascii}
+use Rattle.std.proofs.lemmas.Str.{lead_after_ascii}
 use Rattle.std.specs.declared.alloc.AllocError.{AllocError}
 use Rattle.lrpar_grammar.specs.Grammar.{Grammar}
 use Rattle.lrpar_grammar.specs.Sentence.{LexemeFacts}
