@@ -4,3 +4,4 @@ pub mod ErrorTextLemmas
 pub mod LexParseTextLemmas
 pub mod MessageLemmas
 pub mod ActedOnLemmas
+pub mod SpacesLemmas

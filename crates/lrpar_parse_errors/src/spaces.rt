@@ -4,12 +4,25 @@ ghost use Rattle.std.specs.String.{string_bytes};
 
 use std::alloc::AllocError;
 
+// The spaces of a block.
+const BLOCK: usize = 128;
+
 /// Adds `count` spaces. `Err`: out of memory, and some of the spaces may have been added.
 pub fn push_spaces(out: &mut String, count: usize) -> Result<(), AllocError>
     ensures { OnOk result (string_bytes out.new ≡ string_bytes out.old ++ replicate count 32) }
 {
-    for _i in 0..count {
-        out.push(' ')?;
+    let block = spaces();
+    let mut left = count;
+    while left > BLOCK {
+        out.push_str(block)?;
+        left -= BLOCK;
     }
-    Ok(())
+    out.push_str(&block[..left])
+}
+
+// A block of spaces.
+fn spaces() -> &'static str
+    ensures { result.now ≡ replicate BLOCK 32 }
+{
+    "                                                                                                                                "
 }

@@ -5,6 +5,7 @@ pub mod GrowingLemmas
 pub mod TreeTextLemmas
 pub mod FitsLemmas
 pub mod WriteLemmas
+pub mod IndentLemmas
 pub mod ShownLemmas
 pub mod NestedLemmas
 pub mod GraphLemmas

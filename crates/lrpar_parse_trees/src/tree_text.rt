@@ -179,6 +179,20 @@ pub(crate) fn push_line<LexemeT: Lexeme<StorageT>, StorageT: StorageIndex>(
         ++ met_line (λ x. facts_of StorageT.index (LexemeT.parts x)) StorageT.index grm.now input.now (root_at level node.now)) }
 {
     push_spaces(out, level)?;
+    push_node(out, grm, input, node)
+}
+
+// Adds the line of the root of a tree, after the spaces that indent it.
+pub(crate) fn push_node<LexemeT: Lexeme<StorageT>, StorageT: StorageIndex>(
+    out: &mut String,
+    grm: &YaccGrammar<StorageT>,
+    input: &str,
+    node: &Node<LexemeT, StorageT>,
+) -> Result<(), AllocError>
+    requires { MetFits (λ x. facts_of StorageT.index (LexemeT.parts x)) StorageT.index grm.now input.now (root_at 0 node.now) }
+    ensures { OnOk result (string_bytes out.new ≡ string_bytes out.old
+        ++ met_line (λ x. facts_of StorageT.index (LexemeT.parts x)) StorageT.index grm.now input.now (root_at 0 node.now)) }
+{
     match node {
         Node::Term { lexeme } => {
             let name = grm.token_name(TIdx(lexeme.tok_id())).unwrap();

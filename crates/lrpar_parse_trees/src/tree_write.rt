@@ -1,15 +1,16 @@
 //! The text of a tree, written line by line.
-ghost use Rattle.std.specs.Prelude.{OnOk};
+ghost use Rattle.std.specs.Prelude.{◌≡◌, ◌+◌, OnOk, length, replicate, take};
 ghost use Rattle.std.specs.Io.KnownBytes.{Appends};
+ghost use Rattle.std.specs.String.{string_bytes};
 ghost use Rattle.lrpar_parse_lexemes.specs.Lexemes.{facts_of};
 ghost use Rattle.lrpar_parse_trees.specs.TreeText.{MetFits, TreeFits, met_line, root_at, tree_text};
 
 use crate::node::Node;
-use crate::tree_text::{children, push_line, root_fits};
+use crate::tree_text::{children, push_node, root_fits};
 use lrpar_grammar::grammar::YaccGrammar;
 use lrpar_grammar::span::StorageIndex;
 use lrpar_parse_lexemes::lex_api::Lexeme;
-use std::alloc::Global;
+use std::alloc::{AllocError, Global};
 use std::io::{self, ErrorKind, Write};
 
 impl<LexemeT: Lexeme<StorageT>, StorageT: StorageIndex> Node<LexemeT, StorageT> {
@@ -31,14 +32,15 @@ impl<LexemeT: Lexeme<StorageT>, StorageT: StorageIndex> Node<LexemeT, StorageT> 
         ensures fits { OnOk result (TreeFits (λ x. facts_of StorageT.index (LexemeT.parts x)) StorageT.index grm.now input.now self.now) }
     {
         let mut line = String::new(alloc);
-        write_line(out, &mut line, grm, input, 0, self)?;
+        write_line(out, &mut line, grm, input, self)?;
         let mut below = Vec::new(alloc);
         let mut left = children(self);
         loop {
             match left.split_first() {
                 Some((node, rest)) => {
+                    indent(&mut line, below.len())?;
                     below.push(rest)?;
-                    write_line(out, &mut line, grm, input, below.len(), node)?;
+                    write_line(out, &mut line, grm, input, node)?;
                     left = children(node);
                 }
                 None => match below.pop() {
@@ -50,23 +52,33 @@ impl<LexemeT: Lexeme<StorageT>, StorageT: StorageIndex> Node<LexemeT, StorageT> 
     }
 }
 
-// Writes the line of the root of a tree, at a level. `line` is a buffer for it.
+// Leaves this number of the spaces that a line begins with, and adds one.
+fn indent(line: &mut String, spaces: usize) -> Result<(), AllocError>
+    requires { take spaces (string_bytes line.old) ≡ replicate spaces 32 }
+    ensures { OnOk result (string_bytes line.new ≡ replicate (spaces + 1) 32) }
+{
+    line.truncate(spaces);
+    line.push(' ')
+}
+
+// Writes the line of the root of a tree. `line` has the spaces that indent it, and gets the rest.
 fn write_line<LexemeT: Lexeme<StorageT>, StorageT: StorageIndex, W: Write>(
     out: &mut W,
     line: &mut String,
     grm: &YaccGrammar<StorageT>,
     input: &str,
-    level: usize,
     node: &Node<LexemeT, StorageT>,
 ) -> io::Result<()>
+    requires { string_bytes line.old ≡ replicate (length (string_bytes line.old)) 32 }
     ensures text { OnOk result (Appends (W.contents out.old) (W.contents out.new)
-        (met_line (λ x. facts_of StorageT.index (LexemeT.parts x)) StorageT.index grm.now input.now (root_at level node.now))) }
-    ensures fits { OnOk result (MetFits (λ x. facts_of StorageT.index (LexemeT.parts x)) StorageT.index grm.now input.now (root_at level node.now)) }
+        (met_line (λ x. facts_of StorageT.index (LexemeT.parts x)) StorageT.index grm.now input.now (root_at (length (string_bytes line.old)) node.now))) }
+    ensures fits { OnOk result (MetFits (λ x. facts_of StorageT.index (LexemeT.parts x)) StorageT.index grm.now input.now
+        (root_at (length (string_bytes line.old)) node.now)) }
+    ensures indent { OnOk result (take (length (string_bytes line.old)) (string_bytes line.new) ≡ replicate (length (string_bytes line.old)) 32) }
 {
     if !root_fits(grm, input, node) {
         return Err(io::Error::from(ErrorKind::InvalidInput));
     }
-    line.clear();
-    push_line(line, grm, input, level, node)?;
+    push_node(line, grm, input, node)?;
     out.write_all(line.as_bytes())
 }

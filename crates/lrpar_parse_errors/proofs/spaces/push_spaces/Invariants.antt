@@ -2,6 +2,10 @@ use Rattle.std.proofs.Common.{◌≡◌, ◌++◌, replicate}
 use Rattle.std.specs.String.{string_bytes}
 use Rattle.lrpar_parse_errors.proofs.spaces.push_spaces.Given as goal
 
--- this number of spaces is added
-abbrev pub invariant-loop-i : goal.invariant-loop-i
-invariant-loop-i l = string_bytes l.out ≡ string_bytes l.initial.out ++ replicate l._i 32
+-- with the spaces that are left, this number of spaces is added
+abbrev pub invariant-loop-left : goal.invariant-loop-left
+invariant-loop-left l = string_bytes l.out ++ replicate l.left 32 ≡ string_bytes l.initial.out ++ replicate l.fn.count 32
+
+-- the spaces that are left
+abbrev pub decreases-loop-left : goal.decreases-loop-left
+decreases-loop-left l = l.left

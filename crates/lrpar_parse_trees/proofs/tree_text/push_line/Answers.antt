@@ -1,39 +1,25 @@
-use Rattle.lrpar_parse_lexemes.specs.Lexemes.{facts_of}
+use Rattle.std.proofs.Common.{replicate}
+use Rattle.std.specs.String.{string_bytes}
 use Rattle.lrpar_grammar_places.proofs.FaultLemmas.{nothing_done}
-use Rattle.lrpar_parse_trees.proofs.FitsLemmas.{leaf_fits, part_ends, part_starts, rule_fits}
+use Rattle.lrpar_parse_lexemes.specs.Lexemes.{facts_of}
+use Rattle.lrpar_parse_trees.specs.TreeText.{met_line, root_at}
+use Rattle.lrpar_parse_trees.proofs.FitsLemmas.{fits_level}
+use Rattle.lrpar_parse_trees.proofs.IndentLemmas.{line_after_spaces, line_indented}
 use Rattle.lrpar_parse_trees.proofs.tree_text.push_line.Goals as goal
+
+pub push_node-requires : goal.push_node-requires
+push_node-requires g c =
+    fits_level (λ x. facts_of g.StorageT.StorageIndex.index (g.LexemeT.Lexeme.parts x)) g.StorageT.StorageIndex.index c.args.grm.now c.args.input.now
+    c.args.node.now c.args.level 0 c.requires
 
 pub returns-in_err-push_spaces : goal.returns-in_err-push_spaces
 returns-in_err-push_spaces g c = nothing_done c.from_residual.result _ _ c.from_residual.ensures.1
 
-pub returns-in_err-push_str-in-Term : goal.returns-in_err-push_str-in-Term
-returns-in_err-push_str-in-Term g c = nothing_done c.from_residual-in_err-push_str-in-Term.result _ _ c.from_residual-in_err-push_str-in-Term.ensures.1
-
-pub returns-in_err-push-in-Term : goal.returns-in_err-push-in-Term
-returns-in_err-push-in-Term g c = nothing_done c.from_residual-in_err-push-in-Term.result _ _ c.from_residual-in_err-push-in-Term.ensures.1
-
-pub returns-in_err-push_str-in-Term-2 : goal.returns-in_err-push_str-in-Term-2
-returns-in_err-push_str-in-Term-2 g c = nothing_done c.from_residual-in_err-push_str-in-Term-2.result _ _ c.from_residual-in_err-push_str-in-Term-2.ensures.1
-
-pub returns-in_err-push_str-in-Nonterm : goal.returns-in_err-push_str-in-Nonterm
-returns-in_err-push_str-in-Nonterm g c = nothing_done c.from_residual-in_err-push_str-in-Nonterm.result _ _ c.from_residual-in_err-push_str-in-Nonterm.ensures.1
-
-pub rule_name_str-requires : goal.rule_name_str-requires
-rule_name_str-requires g c =
-    rule_fits (λ x. facts_of g.StorageT.StorageIndex.index (g.LexemeT.Lexeme.parts x)) g.StorageT.StorageIndex.index c.args.grm.now c.args.input.now c.args.level
-    c.args.node.now c.in-Nonterm.ridx c.in-Nonterm.nodes c.in-Nonterm.is c.requires
-
-pub range-requires-clause-start_le_end : goal.range-requires-clause-start_le_end
-range-requires-clause-start_le_end g c = rw (c.start.ensures.start, c.end.ensures.end) c.start.ensures.ordered
-
-pub range-requires-clause-start_boundary : goal.range-requires-clause-start_boundary
-range-requires-clause-start_boundary g c = λ _.
-    part_starts c.args.input.now (g.LexemeT.Lexeme.parts c.in-Term.lexeme).span c.span-span.result c.start.result
-    (leaf_fits (λ x. facts_of g.StorageT.StorageIndex.index (g.LexemeT.Lexeme.parts x)) g.StorageT.StorageIndex.index c.args.grm.now c.args.input.now c.args.level
-    c.args.node.now c.in-Term.lexeme c.in-Term.is c.requires).1 c.span-span.ensures.span c.start.ensures.start
-
-pub range-requires-clause-end_boundary : goal.range-requires-clause-end_boundary
-range-requires-clause-end_boundary g c =
-    part_ends c.args.input.now (g.LexemeT.Lexeme.parts c.in-Term.lexeme).span c.span-span.result c.end.result
-    (leaf_fits (λ x. facts_of g.StorageT.StorageIndex.index (g.LexemeT.Lexeme.parts x)) g.StorageT.StorageIndex.index c.args.grm.now c.args.input.now c.args.level
-    c.args.node.now c.in-Term.lexeme c.in-Term.is c.requires).1 c.span-span.ensures.span c.end.ensures.end
+pub returns : goal.returns
+returns g c =
+    let index = g.StorageT.StorageIndex.index in
+    let facts = λ (x : g.row.LexemeT.Denot). facts_of index (g.LexemeT.Lexeme.parts x) in
+    let line = met_line facts index c.args.grm.now c.args.input.now in
+    line_after_spaces c.push_node.result (string_bytes c.args.out.now) (string_bytes c.push_spaces.new.out) (string_bytes c.push_node.new.out)
+    (replicate c.args.level 32) (line (root_at 0 c.args.node.now)) (line (root_at c.args.level c.args.node.now))
+    c.push_node.ensures c.in_ok-push_spaces.ensures (line_indented facts index c.args.grm.now c.args.input.now c.args.node.now c.args.level)

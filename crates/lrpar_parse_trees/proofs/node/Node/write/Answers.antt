@@ -1,10 +1,13 @@
-use Rattle.std.proofs.Common.{◌≡◌, ◌++◌, [], ◌∷◌, length, ap, refl, sym, ◌∙◌, subst}
+use Rattle.std.proofs.Common.{◌≡◌, ◌+◌, ◌++◌, [], ◌∷◌, length, replicate, take, ap, refl, sym, ◌∙◌, subst}
 use Rattle.std.specs.List.{AllByRecursion, flat_map}
 use Rattle.std.specs.Io.KnownBytes.{Appends}
+use Rattle.std.specs.String.{string_bytes}
+use Rattle.std.proofs.lemmas.List.{length_push}
 use Rattle.lrpar_parse_lexemes.specs.Lexemes.{facts_of}
 use Rattle.lrpar_parse_trees.specs.TreeText.{MetFits, met_line, root_at, nodes_below, tree_text}
 use Rattle.lrpar_grammar_places.proofs.FaultLemmas.{nothing_done}
 use Rattle.lrpar_parse_trees.proofs.TreeTextLemmas.{fit_begins, fit_left, fit_none, left_none, text_begins, text_enter, left_falls, left_met, left_turned, turn_falls}
+use Rattle.lrpar_parse_trees.proofs.IndentLemmas.{indent_less, shorter, spaces_alone, spaces_counted}
 use Rattle.lrpar_parse_trees.proofs.WriteLemmas.{appends_both, appends_nothing}
 use Rattle.lrpar_parse_trees.proofs.node.Node.write.Goals as goal
 
@@ -17,15 +20,18 @@ loop-node-init g c =
     let contents = g.W.Write.contents in
     let whole : line (root_at 0 self) ++ flat_map line (left_met [] (nodes_below self)) ≡ tree_text facts index c.args.grm.now c.args.input.now self =
     text_begins line self (line (root_at 0 self)) refl in
+    let none : length (string_bytes c.new-line.result) ≡ 0 = ap length c.new-line.ensures.bytes in
+    let first = rw none at c.in_ok-write_line.ensures.text in
     record {
       text = λ last more.
           let rest : Appends (contents c.write_line.new.out) last (flat_map line (left_met [] (nodes_below self))) =
           (rw (c.new-below.ensures.items, c.children-left.ensures) at more) in
           subst (Appends (contents c.args.out.now) last) whole
           (appends_both (contents c.args.out.now) (contents c.write_line.new.out) last (line (root_at 0 self)) (flat_map line (left_met [] (nodes_below self)))
-          c.in_ok-write_line.ensures.text rest);
+          first rest);
       fits = λ all.
-          fit_begins (MetFits facts index c.args.grm.now c.args.input.now) self c.in_ok-write_line.ensures.fits (rw (c.new-below.ensures.items, c.children-left.ensures) at all);
+          fit_begins (MetFits facts index c.args.grm.now c.args.input.now) self (rw none at c.in_ok-write_line.ensures.fits) (rw (c.new-below.ensures.items, c.children-left.ensures) at all);
+      indent = rw c.new-below.ensures.items refl;
     }
 
 pub loop-node-smaller-in-Some : goal.loop-node-smaller-in-Some
@@ -43,9 +49,12 @@ loop-node-preserved-in-Some g c =
     let rest = c.in-Some.rest in
     let node = c.in-Some.node.now in
     let inner = left_met (below ++ rest ∷ []) (nodes_below node) in
-    let here = line (root_at c.len.result node) in
+    let indented = string_bytes c.indent.new.line in
+    let here = line (root_at (length indented) node) in
     let met = MetFits facts index c.args.grm.now c.args.input.now in
-    let level : c.len.result ≡ length (below ++ rest ∷ []) = c.len.ensures ∙ c.push.new.self.ok.0 ∙ ap length c.in_ok-push-in-Some.ensures.items in
+    let count : c.len.result ≡ length below = c.len.ensures ∙ c.loop-node.below.ok.0 in
+    let level : length indented ≡ length (below ++ rest ∷ []) =
+    spaces_counted indented (c.len.result + 1) c.in_ok-indent-in-Some.ensures ∙ ap (λ n. n + 1) count ∙ sym (length_push below rest) in
     let whole : here ++ flat_map line inner ≡ flat_map line (left_met below c.loop-node.left.now) =
     text_enter line below rest node c.loop-node.left.now [] here c.in-Some.ensures.cases.0 (ap (λ n. line (root_at n node)) level) in
     record {
@@ -57,7 +66,25 @@ loop-node-preserved-in-Some g c =
       fits = λ all.
           c.loop-node.invariant.fits (fit_left met below rest node c.loop-node.left.now c.in-Some.ensures.cases.0
           (rw level at c.in_ok-write_line-in-Some.ensures.fits) (rw (c.in_ok-push-in-Some.ensures.items, c.children-left-in-Some.ensures) at all));
+      indent = subst (λ n. take n (string_bytes c.write_line-in-Some.new.line) ≡ replicate n 32) (level ∙ sym (ap length c.in_ok-push-in-Some.ensures.items))
+          c.in_ok-write_line-in-Some.ensures.indent;
     }
+
+pub indent-requires : goal.indent-requires
+indent-requires g c =
+    subst (λ n. take n (string_bytes c.loop-node.line) ≡ replicate n 32) (sym (c.len.ensures ∙ c.loop-node.below.ok.0)) c.loop-node.invariant.indent
+
+pub write_line-requires : goal.write_line-requires
+write_line-requires g c = spaces_alone (string_bytes c.new-line.result) 0 c.new-line.ensures.bytes
+
+pub write_line-requires-in-Some : goal.write_line-requires-in-Some
+write_line-requires-in-Some g c = spaces_alone (string_bytes c.indent.new.line) (c.len.result + 1) c.in_ok-indent-in-Some.ensures
+
+pub returns-in_err-indent-in-Some-clause-text : goal.returns-in_err-indent-in-Some-clause-text
+returns-in_err-indent-in-Some-clause-text g c = nothing_done c.from_residual-in_err-indent-in-Some.result _ _ c.from_residual-in_err-indent-in-Some.ensures.1
+
+pub returns-in_err-indent-in-Some-clause-fits : goal.returns-in_err-indent-in-Some-clause-fits
+returns-in_err-indent-in-Some-clause-fits g c = nothing_done c.from_residual-in_err-indent-in-Some.result _ _ c.from_residual-in_err-indent-in-Some.ensures.1
 
 pub loop-node-smaller : goal.loop-node-smaller
 loop-node-smaller g c =
@@ -74,6 +101,8 @@ loop-node-preserved g c =
     record {
       text = λ last more. c.loop-node.invariant.text last (subst (λ ms. Appends (contents c.loop-node.out) last (flat_map line ms)) (sym same) more);
       fits = λ all. c.loop-node.invariant.fits (subst (AllByRecursion (MetFits facts index c.args.grm.now c.args.input.now)) (sym same) all);
+      indent = indent_less (string_bytes c.loop-node.line) (length c.pop.new.self.items) (length c.loop-node.below.items)
+          (shorter c.loop-node.below.items c.pop.new.self.items c.in-Some-pop.rest c.in-Some-pop.ensures.items) c.loop-node.invariant.indent;
     }
 
 pub returns-in_err-write_line-clause-text : goal.returns-in_err-write_line-clause-text
