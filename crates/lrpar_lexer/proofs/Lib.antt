@@ -2,6 +2,7 @@ pub mod WinnerLemmas
 pub mod ChosenLemmas
 pub mod RuleTreeLemmas
 pub mod WalkLemmas
+pub mod MarkLemmas
 pub mod LexingLemmas
 pub mod LexingLawLemmas
 pub mod AnswerLemmas

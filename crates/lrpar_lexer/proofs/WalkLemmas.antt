@@ -111,12 +111,12 @@ module _ (nodes : List Node) (patterns : List Re) (rest : List ℕ) where
       (subst (λ k. Improves patterns rest (rules_at nodes k) None best) same improves))
 
   -- what comes after the first byte, as a loop over it reads it
-  the_tail : (bytes : List ℕ) → bytes ≡ rest → take (length bytes - 1) (drop 1 bytes) ≡ drop 1 rest
+  pub the_tail : (bytes : List ℕ) → bytes ≡ rest → take (length bytes - 1) (drop 1 bytes) ≡ drop 1 rest
   the_tail bytes same =
       take_all (length bytes - 1) (drop 1 bytes) (omega (arith, length-drop 1 bytes)) ∙ ap (drop 1) same
 
   -- it goes on with a byte
-  goes_on : (bytes : List ℕ) (k byte : ℕ) → bytes ≡ rest → k < length (take (length bytes - 1) (drop 1 bytes))
+  pub goes_on : (bytes : List ℕ) (k byte : ℕ) → bytes ≡ rest → k < length (take (length bytes - 1) (drop 1 bytes))
       → byte ≡ get_or (take (length bytes - 1) (drop 1 bytes)) k 0 → drop k (drop 1 rest) ≡ byte ∷ drop (k + 1) (drop 1 rest)
   goes_on bytes k byte same within read =
       let tail : take (length bytes - 1) (drop 1 bytes) ≡ drop 1 rest = the_tail bytes same in

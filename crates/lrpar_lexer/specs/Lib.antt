@@ -3,6 +3,7 @@ pub mod Anchored
 pub mod Searches
 pub mod Matchers
 pub mod RuleTrees
+pub mod Marks
 pub mod Rules
 pub mod Answers
 pub mod RuleLines

@@ -8,6 +8,7 @@ mod lexing_all;
 mod list_fault;
 mod list_lexer;
 mod list_places;
+mod marks;
 mod matcher;
 mod matching;
 mod parts;

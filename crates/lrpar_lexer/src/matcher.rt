@@ -1,11 +1,11 @@
 //! A search for one pattern at the start of a text.
-ghost use Rattle.std.specs.Prelude.{◌≡◌, IfOk, false, option_map};
+ghost use Rattle.std.specs.Prelude.{◌≡◌, IfOk, option_map};
 ghost use Rattle.regex.specs.Patterns.{Re, span};
-ghost use Rattle.regex_meta.specs.Programs.{leftmost, pattern_of as searched_by};
-ghost use Rattle.lrpar_lexer.specs.Anchored.{FindsAtStart, FindsText, HasNothingAtStart};
+ghost use Rattle.regex_meta.specs.Programs.{leftmost};
+ghost use Rattle.lrpar_lexer.specs.Anchored.{FindsAtStart, FindsText};
 ghost use Rattle.lrpar_lexer.specs.Matching.{IsMatchLen};
 
-use crate::rule_tree::{can_begin, plain_text};
+use crate::rule_tree::plain_text;
 use regex_meta::{Program, Searcher};
 use std::alloc::{AllocError, Global};
 
@@ -56,24 +56,11 @@ impl<'r> Matcher<'r> {
         ensures found { (pattern : Re) → FindsAtStart (program_of self.old) pattern → IsMatchLen rest.now pattern result }
         ensures same { program_of self.new ≡ program_of self.old }
     {
-        if !self.can_match(rest.as_bytes()) {
-            return None;
-        }
         let (_, end) = self.find(rest.as_bytes())?;
         if end > 0 && rest.is_char_boundary(end) {
             Some(end)
         } else {
             None
-        }
-    }
-
-    // Whether the pattern can match at the start of a text. This is tested before a search, which takes longer.
-    fn can_match(&self, text: &[u8]) -> bool
-        ensures { result ≡ false → HasNothingAtStart (searched_by (program_of self.now)) text.now }
-    {
-        match (self, text.first()) {
-            (Matcher::Search(searcher), Some(byte)) => can_begin(searcher.program, *byte),
-            _ => true,
         }
     }
 

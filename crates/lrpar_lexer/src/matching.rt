@@ -6,10 +6,12 @@ ghost use Rattle.regex.specs.Patterns.{Re};
 ghost use Rattle.regex_meta.specs.declared.program.Program.{Program};
 ghost use Rattle.lrpar_lexer.specs.Anchored.{FindsAtStart};
 ghost use Rattle.lrpar_lexer.specs.Searches.{program_of};
+ghost use Rattle.lrpar_lexer.specs.Marks.{AreMarked};
 ghost use Rattle.lrpar_lexer.specs.Matching.{AreIndices, Improves, IsMatchLen, IsUnmatched, IsWinner, NoneMatches, better, chosen_of, tried_of};
 ghost use Rattle.lrpar_lexer.specs.RuleTrees.{AreMet};
 ghost use Rattle.lrpar_lexer.specs.Rules.{anchored_of};
 
+use crate::marks::Marks;
 use crate::matcher::Matcher;
 use crate::rule::LexRule;
 use crate::rule_tree::RuleTree;
@@ -29,13 +31,15 @@ pub struct Winner {
 pub struct Matchers<'r> {
     matchers: Vec<Matcher<'r>>,
     tree: RuleTree,
+    marks: Marks,
     ghost met: { AreMet tree.nodes.items (map program_of matchers.items) },
 }
 
 impl<'r> Matchers<'r> {
     ghost use Rattle.lrpar_lexer.specs.Matchers.{programs_of};
 
-    /// The searches for the patterns of the rules. Takes memory for each rule.
+    /// The searches for the patterns of the rules. Takes time and memory for each byte of a pattern that is a text, and for each other rule
+    /// and each byte with which a match of it can begin.
     pub fn new<StorageT>(
         alloc: Global,
         rules: &'r [LexRule<StorageT>],
@@ -44,7 +48,12 @@ impl<'r> Matchers<'r> {
     {
         let matchers = matchers_of(alloc, rules)?;
         let tree = RuleTree::new(alloc, rules)?;
-        Ok(Matchers { matchers, tree })
+        let marks = Marks::new(alloc, rules.len())?;
+        Ok(Matchers {
+            matchers,
+            tree,
+            marks,
+        })
     }
 
     // The winner at the start of a text, if a pattern matches there.
@@ -57,17 +66,35 @@ impl<'r> Matchers<'r> {
 
     /// The winner at the start of a text among the patterns with these indices, if one of them matches there: the longest match, and the
     /// first in the list of indices among several. The winner's `rule` is a place in that list. An index past the last rule has no match.
+    /// Looks at each index, but searches only for patterns whose matches can begin with the bytes there.
     pub fn winner_among(&mut self, rest: &str, chosen: &[usize]) -> Option<Winner>
         ensures winner { (patterns : List Re) → AllZip FindsAtStart (programs_of self.old) patterns
             → All (λ index. index < length patterns) chosen.now → IsWinner (chosen_of patterns chosen.now) rest.now result }
         ensures same { programs_of self.new ≡ programs_of self.old }
     {
+        self.marks.mark(&self.tree, rest);
         let mut best = None;
         'chosen: for (place, index) in chosen.iter().enumerate() {
-            let found = match_of(&mut self.matchers, *index, rest);
+            let found = self.match_if_marked(*index, rest);
             best = better(best, place, found);
         }
         best
+    }
+
+    // The number of bytes that the pattern with this index matches at the start of a text, if there is one and it does. The rules that a
+    // walk along the text meets are marked, and others aren't asked.
+    fn match_if_marked(&mut self, index: usize, rest: &str) -> Option<usize>
+        requires { AreMarked self.old.tree.nodes.items rest.now self.old.marks.marks.items }
+        ensures found { (program : Program) (pattern : Re) → slice_get (programs_of self.old) index ≡ Some program
+            → FindsAtStart program pattern → IsMatchLen rest.now pattern result }
+        ensures known { IfSome result (λ _. index < vec_len self.old.matchers) }
+        ensures same { programs_of self.new ≡ programs_of self.old }
+        ensures marked { AreMarked self.new.tree.nodes.items rest.now self.new.marks.marks.items }
+    {
+        if !self.marks.is_marked(index) {
+            return None;
+        }
+        match_of(&mut self.matchers, index, rest)
     }
 
     /// The number of bytes of the longest run of characters from byte `at` on at which none of the patterns that are tried matches, if none

@@ -231,8 +231,8 @@ pub(crate) fn plain_text(program: &Program) -> Option<&[u8]>
     }
 }
 
-/// Whether a match can begin with the byte.
-pub(crate) fn can_begin(program: &Program, byte: u8) -> bool
+// Whether a match can begin with the byte.
+fn can_begin(program: &Program, byte: u8) -> bool
     ensures { result ≡ false → (text : List ℕ) → HasNothingAtStart (searched_by program.now) (byte ∷ text) }
 {
     match &program.first {

@@ -13,6 +13,7 @@ use Rattle.lrpar_lexer.proofs.matching.Matchers.winner_among.Goals as goal
 pub chosen-init : goal.chosen-init
 chosen-init c = record {
   same = refl;
+  marked = c.mark.ensures;
   real = λ patterns find all. tt;
   covered = λ patterns find all place pattern below. absurd (omega (arith, below));
 }
@@ -26,10 +27,11 @@ chosen-preserved c =
     subst (λ ps. AllZip FindsAtStart ps patterns) (sym c.chosen.invariant.same) find in
     let improves = λ (patterns : List Re) (find : AllZip FindsAtStart (programs_of c.args.self.now) patterns) (all : All (λ i. i < length patterns) chosen).
     subst (Improves (chosen_of patterns chosen) rest (place ∷ []) c.chosen.best) (sym c.better-best.ensures)
-    (chosen_improves (programs_of c.chosen.self) patterns rest chosen place _ c.chosen.best c.match_of-found.result _ c.chosen-test.true
-    (find_here patterns find) all c.match_of-found.ensures.known c.match_of-found.ensures.found) in
+    (chosen_improves (programs_of c.chosen.self) patterns rest chosen place _ c.chosen.best c.match_if_marked-found.result _ c.chosen-test.true
+    (find_here patterns find) all c.match_if_marked-found.ensures.known c.match_if_marked-found.ensures.found) in
     record {
-      same = c.match_of-found.ensures.same ∙ c.chosen.invariant.same;
+      same = c.match_if_marked-found.ensures.same ∙ c.chosen.invariant.same;
+      marked = c.match_if_marked-found.ensures.marked;
       real = λ patterns find all. (improves patterns find all).real (c.chosen.invariant.real patterns find all);
       covered = λ patterns find all.
           covered_below_more (chosen_of patterns chosen) rest place c.chosen.best c.better-best.result (improves patterns find all)
