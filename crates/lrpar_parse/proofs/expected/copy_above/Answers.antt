@@ -1,4 +1,4 @@
-use Rattle.std.proofs.Common.{◌≡◌, ◌≤◌, ◌∙◌, ◌∷◌, [], length, arith, ap, take}
+use Rattle.std.proofs.Common.{◌≤◌, ◌∙◌, ◌∷◌, [], length, arith, ap, take}
 use Rattle.std.proofs.lemmas.List.{map-append, take_all}
 use Rattle.lrpar_grammar_places.specs.declared.span.StIdx.{StIdx}
 use Rattle.lrpar_table_stacks.specs.Overlay.{overlaid}
