@@ -1,20 +1,22 @@
 -- What may come next after the lexemes of a lexer: the lexemes are fed one by one, as far as they can be, and the result is the one for
 -- these.
-use Rattle.std.proofs.Common.{◌≡◌, ◌≢◌, ◌<◌, ◌+◌, ◌↔◌, ◌∙◌, inl, inr, ℕ, List, [], ◌∷◌, ◌++◌, map, length, get_or, slice_get, Bool, true, false, IsTrue, Some, None, Result, Ok, Err, refl, sym, ap, subst, arith}
-use Rattle.std.proofs.lemmas.Option.{slice_get_read, slice_get_within}
+use Rattle.std.proofs.Common.{◌≡◌, ◌≢◌, ◌<◌, ◌≤◌, ◌+◌, ◌∙◌, ℕ, List, [], ◌∷◌, ◌++◌, map, length, get_or, slice_get, take, append-nil, append_assoc, Bool, true, false, Some, None, Result, Ok, Err, refl, sym, ap, subst, arith}
+use Rattle.std.proofs.lemmas.List.{length-take-le, map-append, take_all, take-append-le, take-map, take_more}
+use Rattle.std.proofs.lemmas.Option.{get_or_from_slice_get, slice_get_read, slice_get_within}
 use Rattle.lrpar_grammar.specs.Grammar.{Grammar, end_token, tokens_len}
 use Rattle.lrpar_grammar.specs.Sentence.{LexemeFacts, IsFirstBadToken, IsFirstEarlyStart, IsValidList}
 use Rattle.lrpar_table_rows.specs.Table.{Table, ShiftTo}
 use Rattle.lrpar_table_check.specs.Checked.{Checked, IsChecked}
-use Rattle.lrpar_table_stacks.specs.Expected.{AreExpected, IsExpected, tokens_of}
+use Rattle.lrpar_table_stacks.specs.Expected.{AreExpected, tokens_of}
 use Rattle.lrpar_table_check.specs.ExpectedRuns.{FeedsFront}
 use Rattle.lrpar_table_stacks.specs.Reduction.{Feeds, top_action}
 use Rattle.lrpar_table_stacks.specs.Run.{stays, token_at}
-use Rattle.lrpar_table_stacks.specs.Settled.{IsFedBy}
+use Rattle.lrpar_table_stacks.specs.Overlay.{FeedsOver, IsFedOver, Overlaid, overlaid}
+use Rattle.lrpar_table_stacks.specs.Stack.{IsStack}
 use Rattle.lrpar_table_check.proofs.ExpectedRunLemmas.{checked_tables_end_at_sentences, complete_tables_expect_sentences}
 use Rattle.lrpar_table_stacks.proofs.Reductions.{settles_one_way}
 use Rattle.lrpar_table_stacks.proofs.RunLemmas.{comes_more, token_at_lexeme}
-use Rattle.lrpar_parse.specs.ExpectedAnswer.{ComesFurthest, IsExpectedAfter, IsExpectedAnswer}
+use Rattle.lrpar_parse.specs.ExpectedAnswer.{ComesFurthest, FeedsOrStays, FeedsTo, IsExpectedAfter, IsExpectedAnswer}
 use Rattle.lrpar_parse.specs.Lexed.{first_error, lexemes_of}
 use Rattle.lrpar_parse.specs.LexemeFault.{IsLexemeFault}
 use Rattle.lrpar_parse.specs.Parse.{lexeme_facts}
@@ -35,16 +37,54 @@ known_token facts d checked lexemes valid i x below read =
     let all : d.table.tokens ≡ tokens_len d.grammar = checked.safe.shape.tokens in
     (at, omega (arith, good, all), λ e. omega (arith, good, e))
 
--- a token other than the end token that may come next is fed
-expected_fed : (g : Grammar) (table : Table) (cap t : ℕ) (st : List ℕ) (shifted : Bool) (after : List ℕ) → t ≢ end_token g → IsExpected g table st t
-    → IsFedBy g table cap t st shifted after → (prods : List ℕ) × Feeds g table t st prods after
-expected_fed g table cap t st true after apart expected fed = fed
-expected_fed g table cap t st false after apart (inl feeds) fed =
-    let by = fed.0.1 in
-    let shifts = feeds.1.2 in
-    let same = settles_one_way g table t st feeds.1.0 by.prods shifts.settled after shifts.settles by.settles in
-    absurd (fed.1 shifts.next (subst (λ (l : List ℕ). top_action table t l ≡ ShiftTo shifts.next) same.1 shifts.shifts))
-expected_fed g table cap t st false after apart (inr ends) fed = absurd (apart ends.0)
+-- the states that are copied so far are those of the overlay from the kept ones on
+pub copied_none : (base tail above : List ℕ) (kept at : ℕ) → kept ≤ length base → at ≡ kept → above ≡ []
+    → take kept base ++ above ≡ take at (take kept base ++ tail)
+copied_none base tail above kept at within is none =
+    let front = take kept base in
+    let count : length front ≡ kept = length-take-le kept base within in
+    let room : kept ≤ length front = omega (arith, count) in
+    ap (λ s. front ++ s) none ∙ append-nil front ∙ sym (take_all kept front (omega (arith, count))) ∙ sym (take-append-le kept front tail room)
+    ∙ ap (λ n. take n (front ++ tail)) (sym is)
+
+pub copied_more : (s front above more : List ℕ) (at v : ℕ) → front ++ above ≡ take at s → more ≡ above ++ v ∷ [] → slice_get s at ≡ Some v
+    → front ++ more ≡ take (at + 1) s
+copied_more s front above more at v before put is =
+    let inside : at < length s = slice_get_within s at v is in
+    ap (λ a. front ++ a) put ∙ sym (append_assoc front above (v ∷ [])) ∙ ap (λ a. a ++ v ∷ []) before
+    ∙ ap (λ w. take at s ++ w ∷ []) (sym (get_or_from_slice_get s at v v is)) ∙ sym (take_more s at v inside)
+
+-- the overlay that was fed has the states that were kept and those above them
+pub fed_above : (g : Grammar) (table : Table) (t : ℕ) (old new : Overlaid) (st above : List ℕ) (kept : ℕ) → old.base ≡ st → overlaid old ≡ st
+    → IsStack table (overlaid new) → FeedsOver g table t old new → take new.kept new.base ++ above ≡ overlaid new → kept ≡ new.kept
+    → FeedsTo g table t st (Some kept) above
+fed_above g table t old new st above kept base states stack fed copied is =
+    let whole : take kept st ++ above ≡ overlaid new =
+    ap (λ n. take n st ++ above) is ∙ ap (λ b. take new.kept b ++ above) (sym (fed.keeps.base ∙ base)) ∙ copied in
+    let feeds : Feeds g table t st fed.prods (overlaid new) = subst (λ s. Feeds g table t s fed.prods (overlaid new)) states fed.states in (
+      subst (IsStack table) (sym whole) stack,
+      (fed.prods, subst (λ s. Feeds g table t st fed.prods s) (sym whole) feeds),
+    )
+
+-- a token under which the settled stack has no shift isn't fed
+pub not_fed : (g : Grammar) (table : Table) (cap t : ℕ) (old new : Overlaid) (st above : List ℕ) → overlaid old ≡ st → IsFedOver g table cap t old false new
+    → FeedsTo g table t st None above
+not_fed g table cap t old new st above states fed = λ prods next feeds.
+    let by = fed.0.1.states in
+    let at = subst (λ s. Feeds g table t s prods next) (sym states) feeds in
+    let same = settles_one_way g table t (overlaid old) prods by.prods at.settled (overlaid new) at.settles by.settles in
+    absurd (fed.1 at.next (subst (λ (l : List ℕ). top_action table t l ≡ ShiftTo at.next) same.1 at.shifts))
+
+-- the list of states is that of the stack that was fed
+pub fed_list : {A : Type 0} (number : A → ℕ) (g : Grammar) (table : Table) (t : ℕ) (old cut new above : List A) (kept : ℕ) → cut ≡ take kept old
+    → new ≡ cut ++ above → FeedsTo g table t (map number old) (Some kept) (map number above)
+    → FeedsOrStays g table t (map number old) true (map number new)
+fed_list number g table t old cut new above kept cuts adds fed =
+    let whole : take kept (map number old) ++ map number above ≡ map number new =
+    ap (λ s. s ++ map number above) (take-map number kept old ∙ ap (map number) (sym cuts)) ∙ sym (map-append number cut above) ∙ ap (map number) (sym adds) in (
+      subst (IsStack table) whole fed.0,
+      (fed.1.0, subst (λ s. Feeds g table t (map number old) fed.1.0 s) whole fed.1.1),
+    )
 
 module _ {X : Type 0} (token : X → ℕ) (d : Checked) (lexemes : List X) where
   -- none is fed at the start
@@ -60,33 +100,31 @@ module _ {X : Type 0} (token : X → ℕ) (d : Checked) (lexemes : List X) where
       here : token_at token d.grammar lexemes i ≡ token x
       here = token_at_lexeme token d.grammar lexemes i x at
 
-      -- the answer for that token is the answer for the lexeme's token
-      module _ (t : ℕ) (is : t ≡ token x) (from : List ℕ) (same : from ≡ st) (yes : Bool) (answered : IsTrue yes ↔ IsExpected d.grammar d.table from t) where
+      module _ (t : ℕ) (is : t ≡ token x) (yes : Bool) (after : List ℕ) (answered : FeedsOrStays d.grammar d.table t st yes after) where
         -- one more is fed
-        pub fed_more : yes ≡ true → (shifted : Bool) (after : List ℕ) → IsFedBy d.grammar d.table d.cap t st shifted after
-            → FeedsFront token d.grammar d.table lexemes (i + 1) after
-        fed_more holds shifted after by =
-            let yes_it : IsTrue yes = subst (λ (b : Bool). IsTrue b) (sym holds) refl in
-            let expected = subst (λ (l : List ℕ). IsExpected d.grammar d.table l t) same (answered.0 yes_it) in
-            let other : t ≢ end_token d.grammar = λ e. apart (sym is ∙ e) in
-            let feeds = expected_fed d.grammar d.table d.cap t st shifted after other expected by in
-            let next = subst (λ (u : ℕ). Feeds d.grammar d.table u st feeds.0 after) (is ∙ sym here) feeds.1 in
-            (fed.0 ++ feeds.0, comes_more token d.grammar d.table lexemes (d.table.start ∷ []) 0 fed.0 st i feeds.0 after fed.1 (slice_get_within lexemes i x at) next)
+        pub fed_more : yes ≡ true → IsStack d.table after × FeedsFront token d.grammar d.table lexemes (i + 1) after
+        fed_more holds =
+            let by = subst (λ (b : Bool). FeedsOrStays d.grammar d.table t st b after) holds answered in
+            let next = subst (λ (u : ℕ). Feeds d.grammar d.table u st by.1.0 after) (is ∙ sym here) by.1.1 in (
+              by.0,
+              (
+                fed.0 ++ by.1.0,
+                comes_more token d.grammar d.table lexemes (d.table.start ∷ []) 0 fed.0 st i by.1.0 after fed.1 (slice_get_within lexemes i x at) next,
+              ),
+            )
 
-        -- or it can't be
-        pub fed_stops : yes ≡ false → ComesFurthest token d lexemes i st
+        -- or it can't be, and the stack stays
+        pub fed_stops : yes ≡ false → (after ≡ st) × ComesFurthest token d lexemes i after
         fed_stops fails =
+            let by = subst (λ (b : Bool). FeedsOrStays d.grammar d.table t st b after) fails answered in
             let below = slice_get_within lexemes i x at in
-            let stops : ¬ (IsExpected d.grammar d.table from t) = λ expected.
-            let no : IsTrue false = subst (λ (b : Bool). IsTrue b) fails (answered.1 expected) in cc in
+            let here_stops : ComesFurthest token d lexemes i st =
             record {
               fed = fed;
               within = omega (arith, below);
-              furthest = λ _ prods next feeds.
-                  let other : t ≢ end_token d.grammar = λ e. apart (sym is ∙ e) in
-                  let there = subst (λ (u : ℕ). Feeds d.grammar d.table u st prods next) (here ∙ sym is) feeds in
-                  stops (subst (λ (l : List ℕ). IsExpected d.grammar d.table l t) (sym same) (inl (other, (prods, next, there))));
-            }
+              furthest = λ _ prods next feeds. by.1 prods next (subst (λ (u : ℕ). Feeds d.grammar d.table u st prods next) (here ∙ sym is) feeds);
+            } in
+            (by.0, subst (λ (s : List ℕ). ComesFurthest token d lexemes i s) (sym by.0) here_stops)
 
   -- what may come next after the lexemes that are fed
   pub expected_after : IsChecked d → (place : ℕ) (st tokens : List ℕ) → ComesFurthest token d lexemes place st → AreExpected d.grammar d.table st tokens

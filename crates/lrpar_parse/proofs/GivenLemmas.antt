@@ -1,5 +1,5 @@
 -- Arguments without an error are given one by one.
-use Rattle.std.proofs.Common.{◌≡◌, ◌↔◌, List, [], ◌∷◌, None, Ok, Err, Option, Result, arith, length, refl}
+use Rattle.std.proofs.Common.{◌≡◌, ◌↔◌, List, [], ◌∷◌, None, Ok, Err, Result, arith, length, refl}
 use Rattle.lrpar_parse_run.specs.declared.values.AStackType.{AStackType}
 use Rattle.lrpar_parse_run.specs.declared.values.AStackType.TheVariants.{ActionType, Lexeme}
 use Rattle.lrpar_parse.specs.ValueArguments.{first_failure, given_of}

@@ -1,5 +1,5 @@
 -- The answer of `expected`: what may come next after the lexemes of a lexer.
-use Rattle.std.specs.Prelude.{◌≡◌, ◌<◌, ◌≤◌, ◌↔◌, ◌⊎◌, ℕ, List, ◌∷◌, ◌++◌, Contains, length, take, Result, IfOk, IsErrOf}
+use Rattle.std.specs.Prelude.{◌≡◌, ◌<◌, ◌≤◌, ◌↔◌, ◌⊎◌, ℕ, List, ◌∷◌, ◌++◌, Bool, true, false, Option, Some, None, Contains, length, take, Result, IfOk, IsErrOf}
 use Rattle.lrpar_grammar.specs.Grammar.{Grammar, end_token}
 use Rattle.lrpar_grammar.specs.Sentence.{LexemeFacts, IsFirstBadToken, IsFirstEarlyStart, IsSentence}
 use Rattle.lrpar_table_check.specs.Checked.{Checked}
@@ -7,7 +7,9 @@ use Rattle.lrpar_table_conditions.specs.Complete.{IsComplete}
 use Rattle.lrpar_table_stacks.specs.Expected.{AreExpected, tokens_of}
 use Rattle.lrpar_table_check.specs.ExpectedRuns.{FeedsFront}
 use Rattle.lrpar_table_stacks.specs.Reduction.{Feeds}
+use Rattle.lrpar_table_rows.specs.Table.{Table}
 use Rattle.lrpar_table_stacks.specs.Run.{token_at}
+use Rattle.lrpar_table_stacks.specs.Stack.{IsStack}
 use Rattle.lrpar_parse.specs.Lexed.{first_error, lexemes_of}
 use Rattle.lrpar_parse.specs.Parse.{lexeme_facts}
 use Rattle.lrpar_parse.specs.declared.expected.Expected.{Expected}
@@ -24,6 +26,17 @@ pub record ComesFurthest {X : Type 0} (token : X → ℕ) (d : Checked) (lexemes
   pub fed : FeedsFront token d.grammar d.table lexemes place stack
   pub within : place ≤ length lexemes
   pub furthest : place < length lexemes → (prods next : List ℕ) → ¬ (Feeds d.grammar d.table (token_at token d.grammar lexemes place) stack prods next)
+
+-- the token is fed, which gives a stack; or it can't be, and the stack stays
+abbrev pub FeedsOrStays : Grammar → Table → ℕ → List ℕ → Bool → List ℕ → Type 0
+FeedsOrStays g table t st true after = IsStack table after × ((prods : List ℕ) × Feeds g table t st prods after)
+FeedsOrStays g table t st false after = (after ≡ st) × ((prods next : List ℕ) → ¬ (Feeds g table t st prods next))
+
+-- the token is fed: this number of states stays, and these are put above them; or it can't be
+abbrev pub FeedsTo : Grammar → Table → ℕ → List ℕ → Option ℕ → List ℕ → Type 0
+FeedsTo g table t st (Some kept) above =
+    IsStack table (take kept st ++ above) × ((prods : List ℕ) × Feeds g table t st prods (take kept st ++ above))
+FeedsTo g table t st None above = (prods next : List ℕ) → ¬ (Feeds g table t st prods next)
 
 -- the lexemes before this place are fed, and these tokens may come next there
 pub record IsExpectedAfter {X : Type 0} (token : X → ℕ) (d : Checked) (lexemes : List X) (place : ℕ) (tokens : List ℕ) : Type 0 where

@@ -1,14 +1,17 @@
 //! What may come next after lexemes: how many of them can be fed, and the tokens that can be fed then.
-ghost use Rattle.std.specs.Prelude.{IfOk};
+ghost use Rattle.std.specs.Prelude.{◌≡◌, ◌<◌, ◌++◌, IfOk, OnOk, take};
 ghost use Rattle.lrpar_table_stacks.specs.Expected.{tokens_of};
+ghost use Rattle.lrpar_table_stacks.specs.Overlay.{overlaid};
 ghost use Rattle.lrpar_table_stacks.specs.Stack.{IsStack, states_of};
 ghost use Rattle.lrpar_grammar.specs.Sentence.{IsValidList};
-ghost use Rattle.lrpar_parse.specs.ExpectedAnswer.{ComesFurthest, IsExpectedAfter};
+ghost use Rattle.lrpar_parse.specs.ExpectedAnswer.{ComesFurthest, FeedsOrStays, FeedsTo, IsExpectedAfter};
 ghost use Rattle.lrpar_parse_lexemes.specs.Views.{known, token_by};
 
 use lrpar_grammar::span::{StIdx, StorageIndex, TIdx};
 use lrpar_parse_lexemes::lex_api::Lexeme;
 use lrpar_table::check::ParserData;
+use lrpar_table_stacks::overlay::Overlay;
+use lrpar_table_stacks::state_stack::StateStack;
 use std::alloc::{AllocError, Global};
 
 /// What may come next after the lexemes of a lexer.
@@ -57,12 +60,68 @@ fn fed<StorageT: StorageIndex, LexemeT: Lexeme<StorageT>>(
     let start = checked.stable().start_state();
     let mut stack = Vec::new(alloc);
     stack.push(start)?;
+    let mut above = Vec::new(alloc);
     for (place, lexeme) in lexemes.iter().enumerate() {
         let token = TIdx(lexeme.tok_id());
-        if !checked.is_expected(alloc, &stack, token)? {
+        if !feed_if_expected(alloc, checked, &mut stack, token, &mut above)? {
             return Ok((place, stack));
         }
-        checked.feed(&mut stack, token)?;
     }
     Ok((lexemes.len(), stack))
+}
+
+// Feeds the token, if it can be fed, and returns whether it could. Otherwise the stack stays. `above` is a buffer.
+fn feed_if_expected<StorageT: StorageIndex>(
+    alloc: Global,
+    checked: &ParserData<StorageT>,
+    stack: &mut Vec<StIdx<StorageT>>,
+    token: TIdx<StorageT>,
+    above: &mut Vec<StIdx<StorageT>>,
+) -> Result<bool, AllocError>
+    requires stack { IsStack checked.now.table (states_of StorageT.index stack.old.items) }
+    requires token { StorageT.index token.0 < checked.now.table.tokens }
+    ensures { IfOk result (λ yes. FeedsOrStays checked.now.grammar checked.now.table (StorageT.index token.0)
+        (states_of StorageT.index stack.old.items) yes (states_of StorageT.index stack.new.items)) }
+{
+    let Some(kept) = fed_over(alloc, checked, stack, token, above)? else {
+        return Ok(false);
+    };
+    stack.truncate(kept);
+    stack.extend_from_slice(above)?;
+    Ok(true)
+}
+
+// How many states of the stack stay if the token is fed, and in `above` those that are put above them. `None`: it can't be fed.
+fn fed_over<StorageT: StorageIndex>(
+    alloc: Global,
+    checked: &ParserData<StorageT>,
+    stack: &[StIdx<StorageT>],
+    token: TIdx<StorageT>,
+    above: &mut Vec<StIdx<StorageT>>,
+) -> Result<Option<usize>, AllocError>
+    requires stack { IsStack checked.now.table (states_of StorageT.index stack.now) }
+    requires token { StorageT.index token.0 < checked.now.table.tokens }
+    ensures { IfOk result (λ kept. FeedsTo checked.now.grammar checked.now.table (StorageT.index token.0) (states_of StorageT.index stack.now)
+        kept (states_of StorageT.index above.new.items)) }
+{
+    let mut overlay = Overlay::new(alloc, stack);
+    if !checked.feed_over(&mut overlay, token)? {
+        return Ok(None);
+    }
+    copy_above(&overlay, above)?;
+    Ok(Some(overlay.kept()))
+}
+
+// Copies the states that an overlay has above those of its base.
+fn copy_above<StorageT: StorageIndex>(
+    overlay: &Overlay<'_, StorageT>,
+    above: &mut Vec<StIdx<StorageT>>,
+) -> Result<(), AllocError>
+    ensures { OnOk result (take overlay.now.kept overlay.now.base ++ states_of StorageT.index above.new.items ≡ overlaid overlay.now) }
+{
+    above.clear();
+    for at in overlay.kept()..overlay.len() {
+        above.push(overlay.state_at(at))?;
+    }
+    Ok(())
 }

@@ -326,8 +326,8 @@ impl<
     /// `Err(BadToken)` or `Err(StartsDecrease)`: this is the first of these lexemes with a fault. `Err(Memory)`: out of memory, also in the
     /// lexer.
     ///
-    /// Reductions are made twice: once to test whether a lexeme can be fed, and once to feed it. Then each token at which the top state has
-    /// an action costs one settle.
+    /// The reductions under a lexeme are made once, over the stack: what they give replaces what they took, if the lexeme can be fed. Then
+    /// each token at which the top state has an action costs one settle.
     pub fn expected<'input, L: NonStreamingLexer<'input, LexerTypesT>>(
         &self,
         alloc: Global,

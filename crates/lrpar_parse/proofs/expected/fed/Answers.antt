@@ -21,8 +21,8 @@ loop-place-init g c =
       fed = subst (λ (st : List ℕ). FeedsFront token d.grammar d.table lexemes 0 st) (sym states) (fed_none token d lexemes);
     }
 
-pub is_expected-requires-clause-token : goal.is_expected-requires-clause-token
-is_expected-requires-clause-token g c =
+pub feed_if_expected-requires-clause-token : goal.feed_if_expected-requires-clause-token
+feed_if_expected-requires-clause-token g c =
     let index = g.StorageT.StorageIndex.index in
     let known =
     known_token (facts_by index g.LexemeT.Lexeme.parts) c.args.checked.now c.stable.ensures.checked c.args.lexemes.now c.requires.valid c.loop-place.place
@@ -40,18 +40,27 @@ returns-then-not-branch-clause-furthest g c =
     let known =
     known_token (facts_by index g.LexemeT.Lexeme.parts) d c.stable.ensures.checked lexemes c.requires.valid c.loop-place.place x c.loop-place-test.true
     c.index-lexemes-place.is in
+    let stops =
     fed_stops token d lexemes c.loop-place.place (states_of index c.loop-place.stack.items) c.loop-place.invariant.fed x known.0 known.2
-    (index c.tok_id.result) (ap index c.tok_id.ensures.token) (states_of index c.deref.result.now) (ap (states_of index) c.deref.ensures.value)
-    _ c.in_ok-is_expected.ensures.expected c.if-not-branch.true
+    (index c.tok_id.result) (ap index c.tok_id.ensures.token) _ (states_of index c.feed_if_expected.new.stack.items)
+    c.in_ok-feed_if_expected.ensures c.if-not-branch.true in
+    stops.1
 
-pub feed-requires-clause-token : goal.feed-requires-clause-token
-feed-requires-clause-token g c =
+pub returns-then-not-branch-clause-stack : goal.returns-then-not-branch-clause-stack
+returns-then-not-branch-clause-stack g c =
     let index = g.StorageT.StorageIndex.index in
+    let d = c.args.checked.now in
+    let lexemes = c.args.lexemes.now in
+    let token = token_by index g.LexemeT.Lexeme.parts in
+    let x = c.index-lexemes-place.result in
     let known =
-    known_token (facts_by index g.LexemeT.Lexeme.parts) c.args.checked.now c.stable.ensures.checked c.args.lexemes.now c.requires.valid c.loop-place.place
-    c.index-lexemes-place.result c.loop-place-test.true c.index-lexemes-place.is in
-    let same = ap index c.tok_id.ensures.token in
-    omega (arith, known.1, same)
+    known_token (facts_by index g.LexemeT.Lexeme.parts) d c.stable.ensures.checked lexemes c.requires.valid c.loop-place.place x c.loop-place-test.true
+    c.index-lexemes-place.is in
+    let stops =
+    fed_stops token d lexemes c.loop-place.place (states_of index c.loop-place.stack.items) c.loop-place.invariant.fed x known.0 known.2
+    (index c.tok_id.result) (ap index c.tok_id.ensures.token) _ (states_of index c.feed_if_expected.new.stack.items)
+    c.in_ok-feed_if_expected.ensures c.if-not-branch.true in
+    subst (λ (st : List ℕ). IsStack d.table st) (sym stops.0) c.loop-place.invariant.stack
 
 pub loop-place-preserved : goal.loop-place-preserved
 loop-place-preserved g c =
@@ -63,9 +72,8 @@ loop-place-preserved g c =
     let known =
     known_token (facts_by index g.LexemeT.Lexeme.parts) d c.stable.ensures.checked lexemes c.requires.valid c.loop-place.place x c.loop-place-test.true
     c.index-lexemes-place.is in
-    record {
-      stack = c.feed.ensures.stack;
-      fed = fed_more token d lexemes c.loop-place.place (states_of index c.loop-place.stack.items) c.loop-place.invariant.fed x known.0 known.2
-          (index c.tok_id.result) (ap index c.tok_id.ensures.token) (states_of index c.deref.result.now) (ap (states_of index) c.deref.ensures.value)
-          _ c.in_ok-is_expected.ensures.expected c.if-not-branch.false _ _ c.in_ok-feed.ensures.fed;
-    }
+    let more =
+    fed_more token d lexemes c.loop-place.place (states_of index c.loop-place.stack.items) c.loop-place.invariant.fed x known.0 known.2
+    (index c.tok_id.result) (ap index c.tok_id.ensures.token) _ (states_of index c.feed_if_expected.new.stack.items)
+    c.in_ok-feed_if_expected.ensures c.if-not-branch.false in
+    record { stack = more.0; fed = more.1 }
