@@ -63,7 +63,8 @@ offset_bounds-row-from g c =
     stored_reduction index d.grm.now d.stable.now (index c.unwrap_or-top.result.0) c.actions_of.result.0.now c.actions_of.result.1.now at.entries at.actions
     c.loop-place.place c.index-tokens-place.result c.index-actions-place.result c.loop-place-test.true c.index-tokens-place.is c.index-actions-place.is
     c.in-Reduce.prod at.exact at.within c.requires.fits c.in-Reduce.is in
-    omega (arith, stored.token, c.from.ensures, c.requires.counts.room.tokens, c.type_inv.row)
+    let within : c.from.result < length c.loop-place.row = omega (arith, stored.token, c.from.ensures, c.requires.counts.room.tokens) in
+    omega (arith, within)
 
 pub returns-in-None-clause-longest : goal.returns-in-None-clause-longest
 returns-in-None-clause-longest g c =
