@@ -1,5 +1,5 @@
 -- Counting the chains of a state: a chain by its first reduction, and a row by the entries of its top.
-use Rattle.std.proofs.Common.{◌≡◌, ◌≢◌, ◌<◌, ◌≤◌, ◌+◌, ◌-◌, ◌∙◌, ◌↔◌, ◌⊎◌, inl, inr, refl, sym, ap, subst, arith, add-one, ℕ, suc, List, [], ◌∷◌, ◌++◌, drop, length, Option, Some, None, Vec, get_or, max, set, slice_index, slice_index_or, take, All, map}
+use Rattle.std.proofs.Common.{◌≡◌, ◌≢◌, ◌<◌, ◌≤◌, ◌+◌, ◌-◌, ◌∙◌, ◌↔◌, ◌⊎◌, inl, inr, refl, sym, ap, subst, arith, ℕ, suc, List, [], ◌∷◌, ◌++◌, drop, length, Option, Some, None, Vec, max, set, slice_index, slice_index_or, take, All, map}
 use Rattle.std.specs.List.{Contains, zip}
 use Rattle.std.specs.Option.{MatchOption, option_to_list, unwrap_or}
 use Rattle.std.proofs.Math.Nat.{le-max_left, le-max_right}

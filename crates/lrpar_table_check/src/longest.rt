@@ -152,7 +152,7 @@ impl<'a, StorageT: StorageIndex> Chains<'a, StorageT> {
         self.count(counts, s, rule, next, longest)
     }
 
-    // The goto of the state by the rule, and below it those to which productions of one symbol lead from there, up to one whose
+    // The goto of the state by the rule, and after it those to which productions of one symbol lead from there, up to one whose
     // row is counted. They are a guess at what is needed: what isn't counted then is counted step by step.
     fn find_ahead(
         &self,

@@ -1,4 +1,4 @@
-use Rattle.std.proofs.Common.{◌≡◌, ◌<◌, arith, length, subst, sym}
+use Rattle.std.proofs.Common.{◌<◌, arith, length, subst, sym}
 use Rattle.lrpar_table_rows.specs.Table.{IsGotoEntry, gotos_at}
 use Rattle.lrpar_table_rows.proofs.StoredLemmas.{entries_len, entry_read}
 use Rattle.lrpar_table_check.proofs.LongestLemmas.{if_some_of, last_alone, of_more, some_of}

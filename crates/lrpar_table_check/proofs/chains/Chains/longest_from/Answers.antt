@@ -1,4 +1,4 @@
-use Rattle.std.proofs.Common.{◌≡◌, ◌<◌, ◌≤◌, ◌+◌, ◌∷◌, ◌∙◌, ap, arith, length, max, set, subst, sym, ℕ, List}
+use Rattle.std.proofs.Common.{◌≡◌, ◌<◌, ◌+◌, ◌∷◌, ◌∙◌, ap, arith, length, max, set, subst, sym, ℕ, List}
 use Rattle.std.specs.Option.{option_to_list, unwrap_or}
 use Rattle.lrpar_table_rows.specs.PlainRows.{plain_goto}
 use Rattle.lrpar_table_rows.specs.Table.{actions_at}

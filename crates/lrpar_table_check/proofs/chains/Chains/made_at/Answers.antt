@@ -1,4 +1,4 @@
-use Rattle.std.proofs.Common.{◌≡◌, ◌<◌, ◌≤◌, ◌+◌, ◌∷◌, ◌∙◌, Option, ap, arith, length, refl, slice_index, subst, sym, ℕ}
+use Rattle.std.proofs.Common.{◌≡◌, ◌<◌, ◌≤◌, ◌+◌, ◌∷◌, ◌∙◌, ap, arith, length, refl, slice_index, subst, sym, ℕ}
 use Rattle.std.specs.Option.{MatchOption, option_to_list, unwrap_or}
 use Rattle.std.proofs.lemmas.List.{get_or_default}
 use Rattle.lrpar_grammar.specs.Grammar.{prods_len, prod_len, rule_of, symbols_of}
