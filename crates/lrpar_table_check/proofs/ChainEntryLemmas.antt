@@ -21,7 +21,7 @@ use Rattle.lrpar_table_rows.specs.Table.{IsActionEntry, Table, TableAction, Redu
 use Rattle.lrpar_table_rows.specs.declared.rows.Action.{Action}
 
 -- a chain that makes a reduction begins with one of its top
-top_reduces : (g : Grammar) (table : Table) (cap s : ℕ) (st : List ℕ) → top_of st ≡ Some s → (t : ℕ) → HasReductions g table t st (cap + 1)
+pub top_reduces : (g : Grammar) (table : Table) (cap s : ℕ) (st : List ℕ) → top_of st ≡ Some s → (t : ℕ) → HasReductions g table t st (cap + 1)
     → (p : ℕ) × (action_of table s t ≡ ReduceBy p)
 top_reduces g table cap s st top t long =
     let made : HasReductions g table t st (suc cap) = rw add-one at long in
@@ -32,7 +32,7 @@ top_reduces g table cap s st top t long =
     ]
 
 -- the top of a chain's start
-start_top : {S : Type 0} (index : S → ℕ) (s top : StIdx S) (above : Option (StIdx S)) → top ≡ unwrap_or above s
+pub start_top : {S : Type 0} (index : S → ℕ) (s top : StIdx S) (above : Option (StIdx S)) → top ≡ unwrap_or above s
     → top_of (index s.0 ∷ option_to_list (plain_goto index above)) ≡ Some (index top.0)
 start_top index s top None is = ap (λ x. Some (index x.0)) (sym is)
 start_top index s top (Some next) is = ap (λ x. Some (index x.0)) (sym is)

@@ -2,6 +2,7 @@ pub mod SafetyLemmas
 pub mod ChainEntryLemmas
 pub mod LeastCapLemmas
 pub mod LengthLemmas
+pub mod CountLemmas
 pub mod LongestLemmas
 pub mod CheckedLemmas
 pub mod ExpectedLemmas

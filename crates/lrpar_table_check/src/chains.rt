@@ -2,8 +2,9 @@
 ghost use Rattle.std.specs.Prelude.{◌≡◌, ◌<◌, ◌≤◌, ◌+◌, ◌↔◌, ◌∷◌, ℕ, All, IsTrue, IfErr, IfOk, MatchOption, OnOk, length};
 ghost use Rattle.std.specs.Option.{option_to_list};
 ghost use Rattle.lrpar_table_check.specs.Checked.{IsChainFault};
+ghost use Rattle.lrpar_table_check.specs.Counts.{HasRoom};
 ghost use Rattle.lrpar_table_check.specs.LeastCap.{AreShortAt, IsLeastAt, IsLeastCap};
-ghost use Rattle.lrpar_table_check.specs.Lengths.{IsCounted, IsLongestWithin};
+ghost use Rattle.lrpar_table_check.specs.Lengths.{IsCounted};
 ghost use Rattle.lrpar_table_stacks.specs.Chain.{AreChainsShort, HasReductions, IsLongChain, IsShortUntil};
 ghost use Rattle.lrpar_table_rows.specs.PlainRows.{plain_action, plain_goto};
 ghost use Rattle.lrpar_table_stacks.specs.Stack.{states_of};
@@ -11,6 +12,7 @@ ghost use Rattle.lrpar_table_stacks.specs.ReductionStep.{FitsGrammar};
 ghost use Rattle.lrpar_table_rows.specs.Table.{IsClosed, IsGotoWithin, ReduceBy, states_len};
 
 use crate::fault::CheckFault;
+use crate::longest::Counts;
 use lrpar_grammar::grammar::YaccGrammar;
 use lrpar_grammar::span::{StIdx, StorageIndex, TIdx};
 use lrpar_table_rows::table::{Action, StateTable};
@@ -19,10 +21,10 @@ use std::alloc::{AllocError, Global};
 
 /// The chains of a table, and the cap that none of them may exceed.
 #[derive(Drop)]
-struct Chains<'a, StorageT: StorageIndex> {
-    grm: &'a YaccGrammar<StorageT>,
-    stable: &'a StateTable<StorageT>,
-    cap: u16,
+pub(crate) struct Chains<'a, StorageT: StorageIndex> {
+    pub(crate) grm: &'a YaccGrammar<StorageT>,
+    pub(crate) stable: &'a StateTable<StorageT>,
+    pub(crate) cap: u16,
 }
 
 impl<'a, StorageT: StorageIndex> Chains<'a, StorageT> {
@@ -37,23 +39,23 @@ impl<'a, StorageT: StorageIndex> Chains<'a, StorageT> {
     /// The least cap with which the table passes, which is at most that of the check; otherwise the first state, and the first
     /// token there, at which a chain is too long.
     ///
-    /// A chain of a state begins with the state alone, or with the state and one of its gotos above it; each goto is read once. A
-    /// chain is made only at those tokens at which the topmost of these states stores a reduction. It takes at most `cap + 1`
-    /// steps, each with one action and one goto. All chains share one small list of states.
+    /// A chain of a state begins with the state alone, or with the state and one of its gotos above it. Chains are looked at only
+    /// at those tokens at which the topmost of these states stores a reduction, and `longest_at` counts their reductions: for most
+    /// of them by one look. All states share the lists that this needs.
     ///
-    /// Each chain is made once, and its reductions are counted. If one is too long, the chains of its state are made again, to
-    /// find the first token: at none after a token at which an earlier one was too long.
+    /// If a chain is too long, the chains of its state are made again, step by step, to find the first token: at none after a token
+    /// at which an earlier one was too long.
     fn least(&self, alloc: Global) -> Result<u16, CheckFault>
         requires { FitsGrammar self.now.grm.now self.now.stable.now }
         ensures least { IfOk result (IsLeastCap self.now.grm.now self.now.stable.now) }
         ensures short { OnOk result (AreChainsShort self.now.grm.now self.now.stable.now self.now.cap) }
         ensures fault { IfErr result (IsChainFault self.now.grm.now self.now.stable.now self.now.cap) }
     {
-        let mut states = Vec::new(alloc);
+        let mut counts = Counts::new(alloc, self.stable)?;
         let mut least = 0;
         for s in 0..self.stable.states_len() {
             let state = StIdx(StorageT::from_index(s).unwrap());
-            least = self.least_at(&mut states, state, least)?;
+            least = self.least_at(&mut counts, state, least)?;
         }
         Ok(least)
     }
@@ -61,7 +63,7 @@ impl<'a, StorageT: StorageIndex> Chains<'a, StorageT> {
     // The least cap from this one on that no chain of the state exceeds.
     fn least_at(
         &self,
-        states: &mut Vec<StIdx<StorageT>>,
+        counts: &mut Counts<StorageT>,
         s: StIdx<StorageT>,
         from: u16,
     ) -> Result<u16, CheckFault>
@@ -69,77 +71,19 @@ impl<'a, StorageT: StorageIndex> Chains<'a, StorageT> {
         requires closed { IsClosed self.now.stable.now }
         requires state { StorageT.index s.0 < states_len self.now.stable.now }
         requires from { from ≤ self.now.cap }
+        requires room { HasRoom self.now.stable.now counts.old.rows.items counts.old.row.items }
         ensures least { IfOk result (IsLeastAt self.now.grm.now self.now.stable.now (StorageT.index s.0) from) }
+        ensures room { OnOk result (HasRoom self.now.stable.now counts.new.rows.items counts.new.row.items) }
         ensures within { IfOk result (λ cap. cap ≤ self.now.cap) }
         ensures fault { IfErr result (IsChainFault self.now.grm.now self.now.stable.now self.now.cap) }
     {
-        if let Some(longest) = self.longest_at(states, s, from)? {
+        if let Some(longest) = self.longest_at(counts, s, from)? {
             return Ok(longest);
         }
-        match self.first_long_at(states, s)? {
+        match self.first_long_at(&mut counts.states, s)? {
             Some(t) => Err(CheckFault::ChainTooLong(usize::from(s), t)),
             None => unreachable!(),
         }
-    }
-
-    // The same; `None` if a chain of the state makes more reductions than the cap.
-    fn longest_at(
-        &self,
-        states: &mut Vec<StIdx<StorageT>>,
-        s: StIdx<StorageT>,
-        from: u16,
-    ) -> Result<Option<u16>, AllocError>
-        requires fits { FitsGrammar self.now.grm.now self.now.stable.now }
-        requires closed { IsClosed self.now.stable.now }
-        requires state { StorageT.index s.0 < states_len self.now.stable.now }
-        requires from { from ≤ self.now.cap }
-        ensures { let g = self.now.grm.now in let table = self.now.stable.now in let cap = self.now.cap in IfOk result (λ found. MatchOption found
-            (¬ (AreShortAt g table cap (StorageT.index s.0)))
-            (λ longest. IsLeastAt g table (StorageT.index s.0) from longest × (longest ≤ cap))) }
-    {
-        let Some(mut longest) = self.longest_from(states, s, None, from)? else {
-            return Ok(None);
-        };
-        let (rules, nexts) = self.stable.gotos_of(s);
-        for (place, _) in rules.iter().enumerate() {
-            match self.longest_from(states, s, Some(nexts[place]), longest)? {
-                Some(more) => longest = more,
-                None => return Ok(None),
-            }
-        }
-        Ok(Some(longest))
-    }
-
-    // The greatest of `from` and the reductions of the chain that begins with the state, and with `above` on it, whatever its
-    // token; `None` if it makes more reductions than the cap.
-    fn longest_from(
-        &self,
-        states: &mut Vec<StIdx<StorageT>>,
-        s: StIdx<StorageT>,
-        above: Option<StIdx<StorageT>>,
-        from: u16,
-    ) -> Result<Option<u16>, AllocError>
-        requires fits { FitsGrammar self.now.grm.now self.now.stable.now }
-        requires closed { IsClosed self.now.stable.now }
-        requires state { StorageT.index s.0 < states_len self.now.stable.now }
-        requires above { IsGotoWithin (states_len self.now.stable.now) (plain_goto StorageT.index above) }
-        requires from { from ≤ self.now.cap }
-        ensures { IfOk result (IsLongestWithin self.now.grm.now self.now.stable.now self.now.cap
-            (StorageT.index s.0 ∷ option_to_list (plain_goto StorageT.index above)) from) }
-    {
-        let top = above.unwrap_or(s);
-        let (tokens, actions) = self.stable.actions_of(top);
-        let mut longest = from;
-        for (place, token) in tokens.iter().enumerate() {
-            let action = actions[place];
-            if is_reduction(action) {
-                match self.reductions_from(states, s, above, *token)? {
-                    Some(made) => longest = longest.max(made),
-                    None => return Ok(None),
-                }
-            }
-        }
-        Ok(Some(longest))
     }
 
     // The first token at which a chain of the state is too long.
@@ -223,7 +167,7 @@ impl<'a, StorageT: StorageIndex> Chains<'a, StorageT> {
 
     // How many reductions the chain that begins with the state, and with `above` on it, makes at the token; `None` if they are
     // more than the cap.
-    fn reductions_from(
+    pub(crate) fn reductions_from(
         &self,
         states: &mut Vec<StIdx<StorageT>>,
         s: StIdx<StorageT>,
@@ -288,7 +232,7 @@ fn is_reduction<StorageT: StorageIndex>(action: Action<StorageT>) -> bool
 }
 
 /// The least cap with which a safe table passes, if it is at most this one; otherwise the first chain that makes more reductions
-/// than this one, or `Memory` if an allocation failed, for a list of at most `cap + 3` states.
+/// than this one, or `Memory` if an allocation failed, for the lists on which the chains are counted.
 pub(crate) fn least_cap<StorageT: StorageIndex>(
     alloc: Global,
     grm: &YaccGrammar<StorageT>,

@@ -66,14 +66,15 @@ impl<StorageT: StorageIndex> ParserData<StorageT> {
     ///
     /// The fault of an `Err` is the first that fails of these: the shape, then the conditions S2 to S8 in turn, each with states
     /// ascending, then the chains, with states and then tokens ascending. `Memory` comes if the table is safe and an allocation
-    /// failed, for the list of at most `cap + 3` states on which the chains are made. An `Err` gives back the three parts as they
-    /// were.
+    /// failed, for the lists on which the chains are counted: a number of two bytes for each pair of a rule and a token, and some
+    /// states, at most `cap + 3` or as many as the rules. An `Err` gives back the three parts as they were.
     ///
     /// The conditions take time near the size of the input: with I items and A entries of the table, about (I + A) times the
     /// logarithm of I, where each entry that leads to a state counts the state's cores with a dot past 0. The chains take longer:
     /// a state has one for each reduction that it stores, and one for each reduction that the state of one of its gotos stores.
-    /// Each is made once, and makes at most `cap + 1` reductions, which are counted; if one is too long, the chains of its state
-    /// are made again, to find the first token.
+    /// Mostly one look suffices for each: its first reduction ends it, or leads to another goto of the state, from which the
+    /// reductions are counted already. The others, as those that begin with a production of no symbol, are made step by step, with
+    /// at most `cap + 1` reductions. If one is too long, the chains of its state are made again, to find the first token.
     pub fn new(
         alloc: Global,
         grm: YaccGrammar<StorageT>,
@@ -105,8 +106,8 @@ impl<StorageT: StorageIndex> ParserData<StorageT> {
     /// The checked table of a table that is safe, as its caller knows: this checks only that no chain of reductions under one
     /// token is longer than the cap.
     ///
-    /// The fault is the first chain that is too long, with states and then tokens ascending; or `Memory`, for the list on which
-    /// the chains are made. An `Err` gives back the three parts as they were. The chains take the time that they take in `new`.
+    /// The fault is the first chain that is too long, with states and then tokens ascending; or `Memory`, for the lists on which
+    /// the chains are counted. An `Err` gives back the three parts as they were. The chains take the time that they take in `new`.
     pub fn of_safe(
         alloc: Global,
         grm: YaccGrammar<StorageT>,

@@ -7,6 +7,7 @@ mod complete_tables;
 mod expected;
 mod fault;
 pub mod laws;
+mod longest;
 mod safety;
 mod settle;
 mod stack_check;

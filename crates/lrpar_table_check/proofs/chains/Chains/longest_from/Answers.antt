@@ -1,84 +1,137 @@
-use Rattle.std.proofs.Common.{◌≡◌, ◌≤◌, ◌+◌, ◌∙◌, ◌∷◌, ◌⊎◌, inl, inr, arith, max, subst, sym, ℕ}
-use Rattle.std.proofs.Math.Nat.{le-max_left, le-max_right}
-use Rattle.std.proofs.lemmas.Bool.{iff_false}
+use Rattle.std.proofs.Common.{◌≡◌, ◌<◌, ◌+◌, ◌∷◌, ◌∙◌, ap, arith, length, max, set, subst, sym, ℕ, List}
 use Rattle.std.specs.Option.{option_to_list, unwrap_or}
 use Rattle.lrpar_table_rows.specs.PlainRows.{plain_goto}
 use Rattle.lrpar_table_rows.specs.Table.{actions_at}
-use Rattle.lrpar_table_check.proofs.ChainEntryLemmas.{row_ended, row_entry}
-use Rattle.lrpar_table_check.proofs.LeastCapLemmas.{fewer_not}
+use Rattle.lrpar_table_check.proofs.CountLemmas.{IsRowUntil, chain_action, chain_begins, chain_lengths, chain_longest, chain_more, chain_same, no_reduction, rows_at, stored_reduction}
 use Rattle.lrpar_table_check.proofs.LengthLemmas.{counted_length, counted_long}
-use Rattle.lrpar_table_check.proofs.LongestLemmas.{IsLongestUntil, max_one, until_all, until_more, until_passes, until_same}
 use Rattle.lrpar_table_check.proofs.chains.Chains.longest_from.Goals as goal
-use Rattle.lrpar_table_check.proofs.chains.Chains.longest_from.Goals.{then-is_reduction+in_ok-made+in-Some, else-is_reduction}
+use Rattle.lrpar_table_check.proofs.chains.Chains.longest_from.Goals.{in-Reduce+in_ok-made+in-Some, in_default}
 
-pub reductions_from-requires-clause-token : goal.reductions_from-requires-clause-token
-reductions_from-requires-clause-token g c =
+pub loop-place-init : goal.loop-place-init
+loop-place-init g c =
+    let index = g.StorageT.StorageIndex.index in
+    let d = c.args.self.now in
+    chain_begins index d.grm.now d.stable.now d.cap c.args.s c.unwrap_or-top.result c.args.above c.unwrap_or-top.ensures c.args.from c.actions_of.ensures.exact
+    c.clear_row.new.row c.clear_row.ensures c.requires.from
+
+pub made_at-requires-clause-token : goal.made_at-requires-clause-token
+made_at-requires-clause-token g c =
+    let index = g.StorageT.StorageIndex.index in
     let d = c.args.self.now in
     let at = c.actions_of.ensures in
-    let entry =
-    row_entry g.StorageT.StorageIndex.index d.grm.now d.stable.now c.loop-place.longest c.args.s c.unwrap_or-top.result c.args.above c.unwrap_or-top.ensures
-    c.actions_of.result.0.now c.actions_of.result.1.now at.entries at.actions at.exact c.loop-place.place c.loop-place.invariant.passes at.ascending at.within
-    c.index-tokens-place.result c.index-actions-place.result c.loop-place-test.true c.index-tokens-place.is c.index-actions-place.is in
-    entry.within
+    let stored =
+    stored_reduction index d.grm.now d.stable.now (index c.unwrap_or-top.result.0) c.actions_of.result.0.now c.actions_of.result.1.now at.entries at.actions
+    c.loop-place.place c.index-tokens-place.result c.index-actions-place.result c.loop-place-test.true c.index-tokens-place.is c.index-actions-place.is
+    c.in-Reduce.prod at.exact at.within c.requires.fits c.in-Reduce.is in
+    stored.token
 
-pub returns-in-None : goal.returns-in-None
-returns-in-None g c =
+pub made_at-requires-clause-counted : goal.made_at-requires-clause-counted
+made_at-requires-clause-counted g c =
+    let index = g.StorageT.StorageIndex.index in
+    let d = c.args.self.now in
+    rows_at d.grm.now d.stable.now c.args.from d.cap (index c.args.s.0) c.args.rows.now c.requires.from c.requires.counts.counted
+
+pub made_at-requires-clause-action : goal.made_at-requires-clause-action
+made_at-requires-clause-action g c =
+    let index = g.StorageT.StorageIndex.index in
+    let d = c.args.self.now in
+    let at = c.actions_of.ensures in
+    let stored =
+    stored_reduction index d.grm.now d.stable.now (index c.unwrap_or-top.result.0) c.actions_of.result.0.now c.actions_of.result.1.now at.entries at.actions
+    c.loop-place.place c.index-tokens-place.result c.index-actions-place.result c.loop-place-test.true c.index-tokens-place.is c.index-actions-place.is
+    c.in-Reduce.prod at.exact at.within c.requires.fits c.in-Reduce.is in
+    chain_action index d.grm.now d.stable.now d.cap c.args.s c.unwrap_or-top.result c.args.above c.unwrap_or-top.ensures c.args.from
+    (index c.index-tokens-place.result.0) (index c.in-Reduce.prod.0) stored.action
+
+pub bounds-row-from : goal.bounds-row-from
+bounds-row-from g c =
+    let index = g.StorageT.StorageIndex.index in
+    let d = c.args.self.now in
+    let at = c.actions_of.ensures in
+    let stored =
+    stored_reduction index d.grm.now d.stable.now (index c.unwrap_or-top.result.0) c.actions_of.result.0.now c.actions_of.result.1.now at.entries at.actions
+    c.loop-place.place c.index-tokens-place.result c.index-actions-place.result c.loop-place-test.true c.index-tokens-place.is c.index-actions-place.is
+    c.in-Reduce.prod at.exact at.within c.requires.fits c.in-Reduce.is in
+    omega (arith, stored.token, c.from.ensures, c.requires.counts.room.tokens)
+
+pub offset_bounds-row-from : goal.offset_bounds-row-from
+offset_bounds-row-from g c =
+    let index = g.StorageT.StorageIndex.index in
+    let d = c.args.self.now in
+    let at = c.actions_of.ensures in
+    let stored =
+    stored_reduction index d.grm.now d.stable.now (index c.unwrap_or-top.result.0) c.actions_of.result.0.now c.actions_of.result.1.now at.entries at.actions
+    c.loop-place.place c.index-tokens-place.result c.index-actions-place.result c.loop-place-test.true c.index-tokens-place.is c.index-actions-place.is
+    c.in-Reduce.prod at.exact at.within c.requires.fits c.in-Reduce.is in
+    let within : c.from.result < length c.loop-place.row = omega (arith, stored.token, c.from.ensures, c.requires.counts.room.tokens) in
+    omega (arith, within)
+
+pub returns-in-None-clause-longest : goal.returns-in-None-clause-longest
+returns-in-None-clause-longest g c =
     let index = g.StorageT.StorageIndex.index in
     let d = c.args.self.now in
     let at = c.actions_of.ensures in
     let start = index c.args.s.0 ∷ option_to_list (plain_goto index c.args.above) in
     let t = index c.index-tokens-place.result.0 in
-    let entry =
-    row_entry index d.grm.now d.stable.now c.loop-place.longest c.args.s c.unwrap_or-top.result c.args.above c.unwrap_or-top.ensures
-    c.actions_of.result.0.now c.actions_of.result.1.now at.entries at.actions at.exact c.loop-place.place c.loop-place.invariant.passes at.ascending at.within
-    c.index-tokens-place.result c.index-actions-place.result c.loop-place-test.true c.index-tokens-place.is c.index-actions-place.is in
-    (t, entry.within, counted_long d.grm.now d.stable.now t start d.cap c.in_ok-made.field-0 c.in_ok-made.ensures c.in-None.is)
+    let stored =
+    stored_reduction index d.grm.now d.stable.now (index c.unwrap_or-top.result.0) c.actions_of.result.0.now c.actions_of.result.1.now at.entries at.actions
+    c.loop-place.place c.index-tokens-place.result c.index-actions-place.result c.loop-place-test.true c.index-tokens-place.is c.index-actions-place.is
+    c.in-Reduce.prod at.exact at.within c.requires.fits c.in-Reduce.is in
+    (t, stored.token, counted_long d.grm.now d.stable.now t start d.cap c.in_ok-made.field-0 c.in_ok-made.ensures c.in-None.is)
 
 pub loop-place-preserved : goal.loop-place-preserved
 loop-place-preserved g c =
     let index = g.StorageT.StorageIndex.index in
     let d = c.args.self.now in
+    let grm = d.grm.now in
+    let table = d.stable.now in
     let at = c.actions_of.ensures in
     let start = index c.args.s.0 ∷ option_to_list (plain_goto index c.args.above) in
-    let es = actions_at d.stable.now (index (unwrap_or c.args.above c.args.s).0) in
+    let es = actions_at table (index (unwrap_or c.args.above c.args.s).0) in
     let t = index c.index-tokens-place.result.0 in
     let place = c.loop-place.place in
-    let old = c.loop-place.longest in
-    let new = c.if-is_reduction.longest in
-    let so_far = c.loop-place.invariant in
-    elim c.if-is_reduction.branch [
-      | then-is_reduction+in_ok-made+in-Some w ↦
+    let new = c.match-action.longest in
+    elim c.match-action.branch [
+      | in-Reduce+in_ok-made+in-Some w ↦
           let made = w.in-Some.made in
-          let is : new ≡ max old made = w.longest-is ∙ w.max-longest.ensures in
-          let over : old ≤ new = omega (arith, is, le-max_left old made) in
-          let covers : made ≤ new = omega (arith, is, le-max_right old made) in
-          let which : (new ≡ old) ⊎ (new ≡ made) = elim (max_one old made) as (λ _. (new ≡ old) ⊎ (new ≡ made)) [ inl e ↦ inl (is ∙ e) | inr e ↦ inr (is ∙ e) ] in
-          let counted = counted_length d.grm.now d.stable.now t start d.cap w.in_ok-made.field-0 made w.in_ok-made.ensures w.in-Some.is in
-          let entry =
-          row_entry index d.grm.now d.stable.now new c.args.s c.unwrap_or-top.result c.args.above c.unwrap_or-top.ensures
-          c.actions_of.result.0.now c.actions_of.result.1.now at.entries at.actions at.exact place
-          (until_passes d.grm.now d.stable.now d.cap start es c.args.from place old new over so_far) at.ascending at.within
-          c.index-tokens-place.result c.index-actions-place.result c.loop-place-test.true c.index-tokens-place.is c.index-actions-place.is in
-          until_more d.grm.now d.stable.now d.cap start es c.args.from place old made new t so_far entry.within counted over which
-          (entry.more_fail (fewer_not d.grm.now d.stable.now t (made + 1) (new + 1) start (omega (arith, covers)) counted.no_more))
-      | else-is_reduction w ↦
-          let entry =
-          row_entry index d.grm.now d.stable.now old c.args.s c.unwrap_or-top.result c.args.above c.unwrap_or-top.ensures
-          c.actions_of.result.0.now c.actions_of.result.1.now at.entries at.actions at.exact place so_far.passes at.ascending at.within
-          c.index-tokens-place.result c.index-actions-place.result c.loop-place-test.true c.index-tokens-place.is c.index-actions-place.is in
-          subst (λ (n : ℕ). IsLongestUntil d.grm.now d.stable.now d.cap start es c.args.from (place + 1) n) (sym w.longest-is)
-          (until_same d.grm.now d.stable.now d.cap start es c.args.from place old so_far
-          (entry.more_fail (λ long. iff_false c.is_reduction.ensures w.if-is_reduction.false (entry.reduces long))))
+          let greatest : new ≡ max c.loop-place.longest made = w.longest-is ∙ w.max-longest.ensures in
+          let counted = counted_length grm table t start d.cap w.in_ok-made.field-0 made w.in_ok-made.ensures w.in-Some.is in
+          let stored =
+          stored_reduction index grm table (index c.unwrap_or-top.result.0) c.actions_of.result.0.now c.actions_of.result.1.now at.entries at.actions
+          c.loop-place.place c.index-tokens-place.result c.index-actions-place.result c.loop-place-test.true c.index-tokens-place.is c.index-actions-place.is
+          w.in-Reduce.prod at.exact at.within c.requires.fits w.in-Reduce.is in
+          let within : t < length c.loop-place.row = omega (arith, stored.token, c.requires.counts.room.tokens) in
+          let more =
+          chain_more index grm table d.cap c.args.s c.unwrap_or-top.result c.args.above c.unwrap_or-top.ensures c.args.from
+          c.actions_of.result.0.now c.actions_of.result.1.now at.entries at.actions place c.index-tokens-place.result c.index-actions-place.result
+          c.loop-place-test.true c.index-tokens-place.is c.index-actions-place.is c.loop-place.longest made new c.loop-place.row stored.token within counted
+          greatest c.loop-place.invariant in
+          let row_is : set c.loop-place.row t made ≡ c.match-action.row = ap (λ (n : ℕ). set c.loop-place.row n made) (sym w.from.ensures) ∙ sym w.row-is in
+          subst (λ (r : List ℕ). IsRowUntil grm table d.cap start es c.args.from (place + 1) new r) row_is more
+      | in_default w ↦
+          let same =
+          chain_same index grm table d.cap c.args.s c.unwrap_or-top.result c.args.above c.unwrap_or-top.ensures c.args.from
+          c.actions_of.result.0.now c.actions_of.result.1.now at.entries at.actions place c.index-tokens-place.result c.index-actions-place.result
+          c.loop-place-test.true c.index-tokens-place.is c.index-actions-place.is c.loop-place.longest c.loop-place.row
+          (no_reduction index c.index-actions-place.result w.in_default.not-Reduce) c.loop-place.invariant in
+          subst (λ (r : List ℕ). IsRowUntil grm table d.cap start es c.args.from (place + 1) new r) (sym w.row-is)
+          (subst (λ (n : ℕ). IsRowUntil grm table d.cap start es c.args.from (place + 1) n c.loop-place.row) (sym w.longest-is) same)
     ]
 
-pub returns : goal.returns
-returns g c =
+pub returns-clause-longest : goal.returns-clause-longest
+returns-clause-longest g c =
     let index = g.StorageT.StorageIndex.index in
     let d = c.args.self.now in
     let at = c.actions_of.ensures in
-    let start = index c.args.s.0 ∷ option_to_list (plain_goto index c.args.above) in
-    let es = actions_at d.stable.now (index (unwrap_or c.args.above c.args.s).0) in
-    let ended =
-    row_ended index d.grm.now d.stable.now c.loop-place.longest c.args.s c.unwrap_or-top.result c.args.above c.unwrap_or-top.ensures
-    c.actions_of.result.0.now c.actions_of.result.1.now at.entries at.actions at.exact c.loop-place.place c.loop-place.invariant.passes c.loop-place-test.false in
-    until_all d.grm.now d.stable.now d.cap start es c.args.from c.loop-place.place c.loop-place.longest c.loop-place.invariant ended
+    chain_longest index d.grm.now d.stable.now d.cap c.args.s c.unwrap_or-top.result c.args.above c.unwrap_or-top.ensures c.args.from
+    c.actions_of.result.0.now c.actions_of.result.1.now at.entries at.actions c.loop-place.place c.loop-place.longest c.loop-place.row c.loop-place-test.false
+    c.loop-place.invariant
+
+pub returns-clause-row : goal.returns-clause-row
+returns-clause-row g c =
+    let index = g.StorageT.StorageIndex.index in
+    let d = c.args.self.now in
+    let at = c.actions_of.ensures in
+    chain_lengths index d.grm.now d.stable.now d.cap c.args.s c.unwrap_or-top.result c.args.above c.unwrap_or-top.ensures c.args.from
+    c.actions_of.result.0.now c.actions_of.result.1.now at.entries at.actions c.loop-place.place c.loop-place.longest c.loop-place.row c.loop-place-test.false
+    c.loop-place.invariant
