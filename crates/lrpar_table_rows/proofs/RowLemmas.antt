@@ -112,7 +112,7 @@ map-map f h [] = refl
 map-map f h (x ∷ xs) = ap (λ ys. h (f x) ∷ ys) (map-map f h xs)
 
 -- an image of rows has the image of each row, and the empty row if there is none
-row_of_image : {X Y : Type 0} (f : List X → List Y) → f [] ≡ [] → (rows : List (List X)) (s : ℕ)
+pub row_of_image : {X Y : Type 0} (f : List X → List Y) → f [] ≡ [] → (rows : List (List X)) (s : ℕ)
     → slice_index_or (map f rows) s [] ≡ f (slice_index_or rows s [])
 row_of_image f none [] s = sym none
 row_of_image f none (row ∷ rows) zero = refl

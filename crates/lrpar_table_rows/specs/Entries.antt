@@ -1,5 +1,5 @@
 -- Rows that lie one after the other in one list, with a list of the places where they begin.
-use Rattle.std.specs.Prelude.{◌≡◌, ◌<◌, ◌≤◌, ◌+◌, ◌-◌, ℕ, List, length, map, slice_index, slice_range}
+use Rattle.std.specs.Prelude.{◌≡◌, ◌<◌, ◌≤◌, ◌+◌, ◌-◌, ℕ, List, Contains, length, map, slice_index, slice_range}
 use Rattle.std.specs.List.{range_with_len}
 
 -- the rows of xs, where row s begins at place s of `starts`, and the last of `starts` is where the last row ends
@@ -17,3 +17,7 @@ pub record AreStarts (starts : List ℕ) (end : ℕ) : Type 0 where
 pub record AreParts {K V : Type 0} (starts : List ℕ) (keys : List K) (values : List V) : Type 0 where
   pub placed : AreStarts starts (length keys)
   pub paired : length values ≡ length keys
+
+-- an entry whose key has this number has this value
+abbrev pub HasValue : {K V : Type 0} → (K → ℕ) → List (K × V) → ℕ → V → Type 0
+HasValue {K} {V} number entries k v = Contains {X = ℕ × V} (map {B = ℕ × V} (λ entry. (number entry.0, entry.1)) entries) (k, v)

@@ -1,6 +1,7 @@
 pub mod Table
 pub mod Rows
 pub mod Entries
+pub mod Packed
 pub mod Graph
 pub mod Safe
 pub mod Conditions

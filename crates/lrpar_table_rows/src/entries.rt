@@ -1,35 +1,41 @@
 //! Rows of entries, laid out for a look-up of their keys.
 ghost use Rattle.std.specs.Prelude.{◌≡◌, ◌<◌, ◌≤◌, ◌+◌, ◌++◌, [], List, IfOk, IsTrue, OnOk, MatchOption, Contains, length, map, slice_index, slice_index_or, slice_range, sum_by, zip};
 ghost use Rattle.std.specs.List.Sorted.{IsStrictlyIncreasing};
+ghost use Rattle.lrpar_table_rows.specs.Entries.{HasValue};
 
-use crate::displacements::Displacements;
 use crate::key::Key;
+use crate::packed::Packed;
 use std::alloc::{AllocError, Global};
 use std::marker::Model;
 
-/// Rows of entries, each a key with its value. All keys are in one list, row after row, and the values in another. A
-/// displacement table speeds up the search for a key.
+/// How many slots packed rows may have for each entry.
+const SLOTS_OF_AN_ENTRY: usize = 2;
+
+/// Rows of entries, each a key with its value. All keys are in one list, row after row, and the values in another. Packed rows
+/// show the place of a key in its row; rows that aren't packed are searched.
 #[derive(Debug, Drop)]
-pub(crate) struct Entries<K, V> {
+pub(crate) struct Entries<K: Key, V> {
     starts: Vec<usize>,
     keys: Vec<K>,
     values: Vec<V>,
-    displacements: Displacements,
+    packed: Packed,
 }
 
-impl<K, V> Model for Entries<K, V> {
-    ghost use Rattle.std.specs.Prelude.{List, zip};
+impl<K: Key, V> Model for Entries<K, V> {
+    ghost use Rattle.std.specs.Prelude.{List, map, zip};
     ghost use Rattle.lrpar_table_rows.specs.Entries.{AreParts, cut};
+    ghost use Rattle.lrpar_table_rows.specs.Packed.{IsPacked};
 
     ghost Value = { List (List (K × V)) };
 
     ghost view = { λ e. cut e.starts.items (zip e.keys.items e.values.items) };
 
-    ghost invariant = { λ e. AreParts e.starts.items e.keys.items e.values.items };
+    ghost invariant = { λ e. AreParts e.starts.items e.keys.items e.values.items
+        × IsPacked (map (λ row. map (λ entry. K.number entry.0) row) (cut e.starts.items (zip e.keys.items e.values.items))) e.packed.bases.items e.packed.slots.items };
 }
 
 impl<K: Key, V: Copy> Entries<K, V> {
-    /// The entries of these rows, which are copied. The displacement table is right if the keys of each row ascend.
+    /// The entries of these rows, which are copied.
     pub(crate) fn from_rows(alloc: Global, rows: &[Vec<(K, V)>]) -> Result<Self, AllocError>
         ensures { IfOk result (λ entries. entries ≡ map (λ row. row.items) rows.now) }
     {
@@ -37,17 +43,17 @@ impl<K: Key, V: Copy> Entries<K, V> {
         starts.push(0)?;
         let mut keys = Vec::new(alloc);
         let mut values = Vec::new(alloc);
-        let mut displacements = Displacements::new(alloc);
         for row in rows {
             push_row(&mut keys, &mut values, row)?;
-            displacements.add_row(row)?;
             starts.push(keys.len())?;
         }
+        let most = keys.len().saturating_mul(SLOTS_OF_AN_ENTRY);
+        let packed = Packed::of_rows(alloc, rows, most)?;
         Ok(Entries {
             starts,
             keys,
             values,
-            displacements,
+            packed,
         })
     }
 
@@ -71,16 +77,41 @@ impl<K: Key, V: Copy> Entries<K, V> {
         requires { number < length self.now }
         ensures entries { zip result.0.now result.1.now ≡ slice_index_or self.now number [] }
         ensures values { length result.1.now ≡ length result.0.now }
+        ensures len { length result.1.now ≡ length (slice_index_or self.now number []) }
     {
         let start = self.starts[number];
         let end = self.starts[number + 1];
         parts(&self.keys, &self.values, start, end)
     }
 
-    /// The place at which the displacement table expects the key of this number in its row; it may be any place.
+    /// The value of the key in the row, if the row has the key. The keys of the row have to ascend.
     #[inline]
-    pub(crate) fn displaced(&self, number: usize, sought: usize) -> Option<usize> {
-        self.displacements.displaced(number, sought)
+    pub(crate) fn value_of(&self, number: usize, key: K) -> Option<V>
+        requires row { number < length self.now }
+        requires ascending { IsStrictlyIncreasing (map (λ entry. K.number entry.0) (slice_index_or self.now number [])) }
+        ensures { MatchOption result (¬ (Contains (map (λ entry. K.number entry.0) (slice_index_or self.now number [])) (K.number key)))
+            (λ value. HasValue K.number (slice_index_or self.now number []) (K.number key) value) }
+    {
+        match self.place_of(number, key) {
+            Some(place) => Some(self.row(number).1[place]),
+            None => None,
+        }
+    }
+
+    /// The place of the key in the row, if the row has the key. The keys of the row have to ascend. If the row is packed, its
+    /// slot shows the place; otherwise it is a binary search.
+    #[inline]
+    fn place_of(&self, number: usize, key: K) -> Option<usize>
+        requires row { number < length self.now }
+        requires ascending { IsStrictlyIncreasing (map (λ entry. K.number entry.0) (slice_index_or self.now number [])) }
+        ensures { MatchOption result (¬ (Contains (map (λ entry. K.number entry.0) (slice_index_or self.now number [])) (K.number key)))
+            (λ place. (place < length (slice_index_or self.now number []))
+            × (slice_index (map (λ entry. K.number entry.0) (slice_index_or self.now number [])) place ≡ K.number key)) }
+    {
+        match self.packed.base(number) {
+            Some(own) => self.packed.place(own, key.to_number()),
+            None => searched(self.row(number).0, key.to_number()),
+        }
     }
 }
 
@@ -115,50 +146,10 @@ fn push_row<K: Copy, V: Copy>(
     Ok(())
 }
 
-/// The place of the key of this number, if it is one of the keys, which ascend. The key at the displaced place is compared
-/// first.
-#[inline]
-pub(crate) fn place_by<K: Key>(keys: &[K], sought: usize, displaced: Option<usize>) -> Option<usize>
-    requires { IsStrictlyIncreasing (map K.number keys.now) }
-    ensures { MatchOption result (¬ (Contains (map K.number keys.now) sought))
-        (λ place. (place < length keys.now) × (slice_index (map K.number keys.now) place ≡ sought)) }
-{
-    match displaced {
-        Some(place) if place < keys.len() && keys[place].to_number() == sought => Some(place),
-        _ => place_beside(keys, sought, displaced),
-    }
-}
-
-/// The same, after the key at the displaced place was another. If that is the last key that is less, there is none of this
-/// number, as the next key shows; otherwise it is a binary search. It isn't inlined, as most look-ups don't come here.
-#[inline(never)]
-fn place_beside<K: Key>(keys: &[K], sought: usize, displaced: Option<usize>) -> Option<usize>
-    requires { IsStrictlyIncreasing (map K.number keys.now) }
-    ensures { MatchOption result (¬ (Contains (map K.number keys.now) sought))
-        (λ place. (place < length keys.now) × (slice_index (map K.number keys.now) place ≡ sought)) }
-{
-    match displaced {
-        Some(place) if is_between(keys, sought, place) => None,
-        _ => place_of(keys, sought),
-    }
-}
-
-/// Whether the number lies between the key at `place` and the next key. The keys ascend, so then it is none of them.
-fn is_between<K: Key>(keys: &[K], sought: usize, place: usize) -> bool
-    requires { IsStrictlyIncreasing (map K.number keys.now) }
-    ensures { IsTrue result → ¬ (Contains (map K.number keys.now) sought) }
-{
-    if place >= keys.len() || place + 1 >= keys.len() {
-        return false;
-    }
-    let below = keys[place].to_number();
-    let above = keys[place + 1].to_number();
-    below < sought && sought < above
-}
-
 /// The place of the key of this number, if it is one of the keys, which ascend: a binary search. It halves the part that is
-/// left until one key is left, without a branch on a comparison until then.
-fn place_of<K: Key>(keys: &[K], sought: usize) -> Option<usize>
+/// left until one key is left, without a branch on a comparison until then. It isn't inlined, as packed rows don't come here.
+#[inline(never)]
+fn searched<K: Key>(keys: &[K], sought: usize) -> Option<usize>
     requires { IsStrictlyIncreasing (map K.number keys.now) }
     ensures { MatchOption result (¬ (Contains (map K.number keys.now) sought))
         (λ place. (place < length keys.now) × (slice_index (map K.number keys.now) place ≡ sought)) }

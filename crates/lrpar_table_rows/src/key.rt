@@ -1,5 +1,5 @@
 //! The keys of entries: tokens and rules, by their numbers.
-ghost use Rattle.std.specs.Prelude.{◌≡◌, ℕ};
+ghost use Rattle.std.specs.Prelude.{◌≡◌, ◌<◌, ◌^◌, ℕ};
 
 use lrpar_grammar::span::{RIdx, StorageIndex, TIdx};
 
@@ -10,7 +10,8 @@ pub(crate) trait Key: Copy {
 
     /// The number.
     fn to_number(self) -> usize
-        ensures { result ≡ number self };
+        ensures value { result ≡ number self }
+        ensures fits { result < 2 ^ 32 };
 }
 
 impl<StorageT: StorageIndex> Key for TIdx<StorageT> {

@@ -2,9 +2,9 @@
 #![tactic(auto)]
 
 mod ascending;
+mod bases;
 pub mod condition;
 mod conflicts;
-mod displacements;
 mod entries;
 mod fault;
 mod full;
@@ -13,7 +13,9 @@ mod items;
 mod key;
 pub mod laws;
 mod numbers;
+mod packed;
 mod resolved;
 mod rows;
+mod slots;
 mod sparse;
 pub mod table;

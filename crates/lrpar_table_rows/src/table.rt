@@ -9,7 +9,7 @@ ghost use Rattle.lrpar_table_rows.specs.PlainRows.{action_entry, goto_entry, pla
 ghost use Rattle.lrpar_table_rows.specs.declared.fault.TableFault.{TableFault};
 
 pub use crate::conflicts::Conflicts;
-use crate::entries::{Entries, place_by};
+use crate::entries::Entries;
 pub use crate::fault::TableFault;
 use crate::full::{are_rows, stored_actions, stored_gotos};
 pub use crate::graph::{Core, Item, StateGraph};
@@ -174,9 +174,9 @@ impl<StorageT: StorageIndex> StateTable<StorageT> {
 
     /// The action of state `s` at token `t`.
     ///
-    /// If the state's tokens lie close together, such that the tokens from the first to the last are at most four times as
-    /// many as the state has entries, a displacement table leads to one or two of them. Otherwise, and for a token before the
-    /// first or after the last, it is a binary search, in O(log n) for the state's n entries.
+    /// A packed list, in which states with actions at the same tokens share their part, shows the place of the action, or that
+    /// there is none, by one compare. If that list would have more than two slots for each entry of the table, there is none;
+    /// then it is a binary search, in O(log n) for the state's n entries.
     #[inline]
     pub fn action(&self, s: StIdx<StorageT>, t: TIdx<StorageT>) -> Action<StorageT>
         requires state { StorageT.index s.0 < states_len self.now }
@@ -184,18 +184,15 @@ impl<StorageT: StorageIndex> StateTable<StorageT> {
         ensures action { plain_action StorageT.index result ≡ action_of self.now (StorageT.index s.0) (StorageT.index t.0) }
         ensures within { IsActionWithin (states_len self.now) (action_of self.now (StorageT.index s.0) (StorageT.index t.0)) }
     {
-        let (tokens, actions) = self.actions_of(s);
-        let token = usize::from(t);
-        match place_by(tokens, token, self.actions.displaced(usize::from(s), token)) {
-            Some(place) => actions[place],
+        match self.actions.value_of(usize::from(s), t) {
+            Some(action) => action,
             None => Action::Error,
         }
     }
 
     /// The goto of state `s` by rule `r`, if it has one.
     ///
-    /// It is found as an action is: by a displacement table if the state's rules lie close together, and otherwise by a binary
-    /// search.
+    /// It is found as an action is.
     #[inline]
     pub fn goto(&self, s: StIdx<StorageT>, r: RIdx<StorageT>) -> Option<StIdx<StorageT>>
         requires state { StorageT.index s.0 < states_len self.now }
@@ -203,12 +200,7 @@ impl<StorageT: StorageIndex> StateTable<StorageT> {
         ensures goto { plain_goto StorageT.index result ≡ goto_of self.now (StorageT.index s.0) (StorageT.index r.0) }
         ensures within { IsGotoWithin (states_len self.now) (goto_of self.now (StorageT.index s.0) (StorageT.index r.0)) }
     {
-        let (rules, states) = self.gotos_of(s);
-        let rule = usize::from(r);
-        match place_by(rules, rule, self.gotos.displaced(usize::from(s), rule)) {
-            Some(place) => Some(states[place]),
-            None => None,
-        }
+        self.gotos.value_of(usize::from(s), r)
     }
 
     /// The tokens at which state `s` has an action other than an error, ascending, and the action at each.

@@ -18,7 +18,7 @@ returns-then-to_number g c =
           let inside : place - 1 + 1 < length (map number row) = rw (next, length-map) below in
           let less = up (place - 1) inside in
           let less_here = rw next at less in
-          absurd (omega (arith, less_here, here, before, c.to_number.ensures, c.to_number-in-loop-place.ensures, c.if-to_number.true)),
+          absurd (omega (arith, less_here, here, before, c.to_number.ensures.value, c.to_number-in-loop-place.ensures.value, c.if-to_number.true)),
     )
 
 pub loop-place-preserved : goal.loop-place-preserved
@@ -36,7 +36,7 @@ loop-place-preserved g c =
       | inr last ↦
           let at : k ≡ place - 1 = omega (arith, inside, last) in
           let next : place - 1 + 1 ≡ place = omega (arith, one) in
-          rw (at, next) (omega (arith, here, before, c.to_number.ensures, c.to_number-in-loop-place.ensures, c.if-to_number.false))
+          rw (at, next) (omega (arith, here, before, c.to_number.ensures.value, c.to_number-in-loop-place.ensures.value, c.if-to_number.false))
     ]
 
 pub returns : goal.returns

@@ -1,6 +1,7 @@
 use Rattle.std.proofs.Common.{◌≡◌, ◌∙◌, ◌∷◌, ◌++◌, [], ap, length, arith}
 use Rattle.std.proofs.lemmas.List.{take_all}
 use Rattle.lrpar_table_rows.proofs.CutLemmas.{cut_first, cut_more}
+use Rattle.lrpar_table_rows.proofs.PackedLemmas.{packed_cut}
 use Rattle.lrpar_grammar_places.proofs.FaultLemmas.{no_value}
 use Rattle.lrpar_table_rows.proofs.entries.Entries.from_rows.Goals as goal
 
@@ -30,14 +31,19 @@ returns-in_err-push g c = no_value c.from_residual-in_err-push.result _ _ c.from
 pub returns-in_err-push_row : goal.returns-in_err-push_row
 returns-in_err-push_row g c = no_value c.from_residual-in_err-push_row.result _ _ c.from_residual-in_err-push_row.ensures.1
 
-pub returns-in_err-add_row : goal.returns-in_err-add_row
-returns-in_err-add_row g c = no_value c.from_residual-in_err-add_row.result _ _ c.from_residual-in_err-add_row.ensures.1
+pub returns-in_err-packed : goal.returns-in_err-packed
+returns-in_err-packed g c = no_value c.from_residual-in_err-packed.result _ _ c.from_residual-in_err-packed.ensures.1
 
 pub returns-in_err-push-2 : goal.returns-in_err-push-2
 returns-in_err-push-2 g c = no_value c.from_residual-in_err-push-2.result _ _ c.from_residual-in_err-push-2.ensures.1
 
 pub invariant_of-result : goal.invariant_of-result
-invariant_of-result g c = c.loop-row.invariant.parts
+invariant_of-result g c =
+    let all = rw (take_all c.loop-row.row-index c.args.rows.now c.loop-row-test.false) at c.loop-row.invariant.rows_so_far in (
+      c.loop-row.invariant.parts,
+      packed_cut c.args.rows.now (λ row. row.items) (λ entry. g.K.Key.number entry.0) _ c.in_ok-packed.packed.bases.items c.in_ok-packed.packed.slots.items all
+          c.in_ok-packed.ensures.packed,
+    )
 
 pub returns : goal.returns
 returns g c = rw (take_all c.loop-row.row-index c.args.rows.now c.loop-row-test.false) at c.loop-row.invariant.rows_so_far

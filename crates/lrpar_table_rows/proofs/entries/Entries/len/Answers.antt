@@ -6,4 +6,4 @@ pub returns : goal.returns
 returns g c =
     let inside = c.self.inside in
     rw (← c.self.view_is)
-    (c.len.ensures ∙ (inside.keys.ok.0 ∙ sym (pairs_len_is inside.starts.items inside.keys.items inside.values.items c.self.invariant)))
+    (c.len.ensures ∙ (inside.keys.ok.0 ∙ sym (pairs_len_is inside.starts.items inside.keys.items inside.values.items c.self.invariant.0)))

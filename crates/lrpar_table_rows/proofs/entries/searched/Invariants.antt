@@ -1,6 +1,6 @@
 use Rattle.std.proofs.Common.{map}
 use Rattle.lrpar_table_rows.proofs.SearchLemmas.{IsSearched}
-use Rattle.lrpar_table_rows.proofs.entries.place_of.Given as goal
+use Rattle.lrpar_table_rows.proofs.entries.searched.Given as goal
 
 -- the keys outside the part that is left are less or greater
 abbrev pub invariant-loop-size : goal.invariant-loop-size

@@ -1,8 +1,8 @@
 use Rattle.std.proofs.Common.{◌≡◌, ◌∙◌, ◌<◌, ◌+◌, ◌-◌, ◌/◌, ℕ, length, map, slice_index, subst, sym, arith}
 use Rattle.std.proofs.lemmas.List.{length-map}
 use Rattle.lrpar_table_rows.proofs.SearchLemmas.{IsSearched, number_read, searched_down, searched_first, searched_out, searched_up}
-use Rattle.lrpar_table_rows.proofs.entries.place_of.Goals as goal
-use Rattle.lrpar_table_rows.proofs.entries.place_of.Goals.{then-to_number-sought, else-to_number-sought, else-size-eq1-via-then-size-eq1+else-to_number-sought-2, else-size-eq1-via-else-size-eq1}
+use Rattle.lrpar_table_rows.proofs.entries.searched.Goals as goal
+use Rattle.lrpar_table_rows.proofs.entries.searched.Goals.{then-to_number-sought, else-to_number-sought, else-size-eq1-via-then-size-eq1+else-to_number-sought-2, else-size-eq1-via-else-size-eq1}
 
 pub loop-size-init : goal.loop-size-init
 loop-size-init g c = searched_first g.K.Key.number c.args.keys.now c.args.sought
@@ -22,7 +22,7 @@ loop-size-preserved g c =
     let inside : base + half < length c.args.keys.now =
     omega (arith, simp length-map at c.loop-size.invariant.within, c.loop-size-test.true) in
     let here : slice_index ns (base + half) ≡ c.to_number.result =
-    subst (λ (n : ℕ). slice_index ns (base + half) ≡ n) (sym c.to_number.ensures)
+    subst (λ (n : ℕ). slice_index ns (base + half) ≡ n) (sym c.to_number.ensures.value)
     (number_read g.K.Key.number c.args.keys.now (base + half) c.index-keys-middle.result inside c.index-keys-middle.is) in
     elim c.if-to_number-sought.branch [
       | then-to_number-sought w ↦
@@ -45,7 +45,7 @@ returns-else-size-eq1 g c =
       | else-size-eq1-via-then-size-eq1+else-to_number-sought-2 w ↦
           let inside : base < length c.args.keys.now = omega (arith, simp length-map at c.loop-size.invariant.within, one) in
           let here = number_read g.K.Key.number c.args.keys.now base w.index-keys-base.result inside w.index-keys-base.is in
-          absurd (omega (arith, here, is, w.to_number-then-size-eq1.ensures, w.if-to_number-sought-2.false))
+          absurd (omega (arith, here, is, w.to_number-then-size-eq1.ensures.value, w.if-to_number-sought-2.false))
       | else-size-eq1-via-else-size-eq1 w ↦ absurd (omega (arith, one, w.if-size-eq1.false))
     ])
 
@@ -57,4 +57,4 @@ returns-then-to_number-sought-2 g c =
     let inside : c.loop-size.base < length c.args.keys.now =
     omega (arith, simp length-map at c.loop-size.invariant.within, c.if-size-eq1.true) in
     let here = number_read g.K.Key.number c.args.keys.now c.loop-size.base c.index-keys-base.result inside c.index-keys-base.is in
-    (inside, here ∙ (sym c.to_number-then-size-eq1.ensures ∙ c.if-to_number-sought-2.true))
+    (inside, here ∙ (sym c.to_number-then-size-eq1.ensures.value ∙ c.if-to_number-sought-2.true))
