@@ -12,3 +12,4 @@ pub mod TableLemmas
 pub mod TestLemmas
 pub mod FaultLemmas
 pub mod StoredLemmas
+pub mod RunLemmas

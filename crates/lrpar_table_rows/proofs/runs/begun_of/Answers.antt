@@ -3,8 +3,8 @@ use Rattle.std.proofs.lemmas.List.{take_all, take_more}
 use Rattle.lrpar_table_rows.specs.PlainItems.{AreBegunOf}
 use Rattle.lrpar_table_rows.proofs.ItemLemmas.{begun_more, begun_no_more, cores_compare_exactly, exact_index}
 use Rattle.lrpar_grammar_places.proofs.FaultLemmas.{no_value}
-use Rattle.lrpar_table_rows.proofs.items.begun_of.Goals as goal
-use Rattle.lrpar_table_rows.proofs.items.begun_of.Goals.{then-core-gt0+in_ok-push, else-core-gt0}
+use Rattle.lrpar_table_rows.proofs.runs.begun_of.Goals as goal
+use Rattle.lrpar_table_rows.proofs.runs.begun_of.Goals.{then-core-gt0+in_ok-push, else-core-gt0}
 
 pub from_vec-requires : goal.from_vec-requires
 from_vec-requires g c =

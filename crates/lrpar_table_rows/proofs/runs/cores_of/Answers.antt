@@ -3,7 +3,7 @@ use Rattle.std.proofs.lemmas.List.{map-append, take_all, take_more}
 use Rattle.lrpar_table_rows.specs.Ascending.{HaveSame}
 use Rattle.lrpar_table_rows.proofs.ItemLemmas.{HaveSame-push, core_part, cores_compare_exactly, cores_from_same, cores_same_by_test, exact_index}
 use Rattle.lrpar_grammar_places.proofs.FaultLemmas.{no_value}
-use Rattle.lrpar_table_rows.proofs.items.cores_of.Goals as goal
+use Rattle.lrpar_table_rows.proofs.runs.cores_of.Goals as goal
 
 pub push_new-requires : goal.push_new-requires
 push_new-requires g c =
