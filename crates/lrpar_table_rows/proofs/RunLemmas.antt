@@ -15,7 +15,7 @@ use Rattle.lrpar_grammar_places.specs.declared.span.TIdx.{TIdx}
 use Rattle.lrpar_table_rows.specs.Ascending.{HaveSame, IsOnlyPlace}
 use Rattle.lrpar_table_rows.specs.Graph.{ItemOf, core_cmp, item_at, item_cmp}
 use Rattle.lrpar_table_rows.specs.PlainItems.{AreCoresOf, core_of, item_of}
-use Rattle.lrpar_table_rows.specs.Runs.{core_items, items_left, items_of_rows, run_items, tokens_of}
+use Rattle.lrpar_table_rows.specs.Runs.{core_items, items_left, items_of_rows, run_items, tokens_of, with_core}
 use Rattle.lrpar_table_rows.proofs.ItemLemmas.{Contains-image, Contains-preimage, HaveSame-map, item_by_numbers, sorted_image}
 
 -- nothing is in an empty list
@@ -54,15 +54,15 @@ same_swapped {X} xs ys zs =
     let other = swapped xs zs ys in
     λ x. (one x, other x)
   where
-    swapped : (as bs cs : List X) (x : X) → Contains ((as ++ bs) ++ cs) x → Contains ((as ++ cs) ++ bs) x
-    swapped as bs cs x h =
-        elim (Contains-append_cases (as ++ bs) cs x h) as (λ _. Contains ((as ++ cs) ++ bs) x) [
+    swapped : (ps qs rs : List X) (x : X) → Contains ((ps ++ qs) ++ rs) x → Contains ((ps ++ rs) ++ qs) x
+    swapped ps qs rs x h =
+        elim (Contains-append_cases (ps ++ qs) rs x h) as (λ _. Contains ((ps ++ rs) ++ qs) x) [
           | inl front ↦
-              elim (Contains-append_cases as bs x front) as (λ _. Contains ((as ++ cs) ++ bs) x) [
-                | inl first ↦ Contains-append_left (as ++ cs) bs x (Contains-append_left as cs x first)
-                | inr second ↦ Contains-append_right (as ++ cs) bs x second
+              elim (Contains-append_cases ps qs x front) as (λ _. Contains ((ps ++ rs) ++ qs) x) [
+                | inl first ↦ Contains-append_left (ps ++ rs) qs x (Contains-append_left ps rs x first)
+                | inr second ↦ Contains-append_right (ps ++ rs) qs x second
               ]
-          | inr last ↦ Contains-append_left (as ++ cs) bs x (Contains-append_right as cs x last)
+          | inr last ↦ Contains-append_left (ps ++ rs) qs x (Contains-append_right ps rs x last)
         ]
 
 -- an item of a core has this core, and one of its lookaheads
@@ -73,7 +73,7 @@ record IsItemOf {S : Type 0} (core : PIdx S × ℕ) (tokens : List (TIdx S)) (p 
 item_of_core : {S : Type 0} (core : PIdx S × ℕ) (tokens : List (TIdx S)) (p : PIdx S) (k : ℕ) (t : TIdx S)
     → Contains (core_items core tokens) (p, k, t) → IsItemOf core tokens p k t
 item_of_core {S} core tokens p k t h =
-    let u = Contains-preimage (λ (token : TIdx S). (core.0, core.1, token)) tokens (p, k, t) h in
+    let u = Contains-preimage (with_core core) tokens (p, k, t) h in
     let prod : core.0 ≡ p = ap (λ (x : PIdx S × ℕ × TIdx S). x.0) u.2 in
     let dot : core.1 ≡ k = ap (λ (x : PIdx S × ℕ × TIdx S). x.1) u.2 in
     let token : u.0 ≡ t = ap (λ (x : PIdx S × ℕ × TIdx S). x.2) u.2 in
@@ -83,7 +83,7 @@ core_of_item : {S : Type 0} (core : PIdx S × ℕ) (tokens : List (TIdx S)) (p :
     → Contains tokens t → Contains (core_items core tokens) (p, k, t)
 core_of_item {S} core tokens p k t is h =
     subst (λ (c : PIdx S × ℕ). Contains (core_items core tokens) (c.0, c.1, t)) is
-    (Contains-image (λ (token : TIdx S). (core.0, core.1, token)) tokens t h)
+    (Contains-image (with_core core) tokens t h)
 
 -- an item's core is one of the cores
 pub core_from_items : {S : Type 0} (cores : List (PIdx S × ℕ)) (runs : List (List (TIdx S))) (p : PIdx S) (k : ℕ) (t : TIdx S)
@@ -134,7 +134,7 @@ run_at cores runs place p k t at = (has_run cores runs place p k t at.within at.
 -- the same by numbers
 module _ {S : Type 0} (index : S → ℕ) (exact : (x y : S) → index x ≡ index y → x ≡ y) (cores : List (PIdx S × ℕ)) (runs : List (List (TIdx S))) (p : PIdx S) (k : ℕ) where
   pub lookaheads_by_numbers : (run : List (TIdx S)) → ((t : TIdx S) → Contains run t ↔ Contains (run_items cores runs) (p, k, t)) → (t : ℕ)
-      → Contains (map (λ token. index token.0) run) t ↔ Contains (map (item_of index) (run_items cores runs)) (item_at (index p.0) k t)
+      → Contains (map (λ (token : TIdx S). index token.0) run) t ↔ Contains (map (item_of index) (run_items cores runs)) (item_at (index p.0) k t)
   lookaheads_by_numbers run same t = (
     λ h.
         let u = Contains-preimage (λ (token : TIdx S). index token.0) run t h in
@@ -160,7 +160,7 @@ put_at [] runs place core new d tokens paired below is grown = absurd (omega (ar
 put_at (c ∷ cores) [] place core new d tokens paired below is grown = absurd (omega (arith, paired))
 put_at {S} (c ∷ cores) (run ∷ runs) zero core new d tokens paired below is grown =
     let rest = run_items cores (tokens_of runs) in
-    let f = λ (token : TIdx S). (c.0, c.1, token) in
+    let f = with_core c in
     let items : core_items c new.items ≡ core_items c run.items ++ core_items core tokens =
     ap (core_items c) grown ∙ map-append f run.items tokens ∙ ap (λ (x : PIdx S × ℕ). core_items c run.items ++ core_items x tokens) is in
     subst (λ (xs : List (PIdx S × ℕ × TIdx S)). HaveSame (xs ++ rest) ((core_items c run.items ++ rest) ++ core_items core tokens)) (sym items)
@@ -184,7 +184,7 @@ put_none {S} items core [] none = subst (HaveSame items) (sym (append-nil items)
 put_none items core (t ∷ ts) none = absurd (none (omega arith))
 
 -- empty runs have no items
-pub empty_runs : {S Z : Type 0} (cores : List (PIdx S × ℕ)) (runs : List (Vec (TIdx S) Z)) → All (λ run. run.items ≡ []) runs
+pub empty_runs : {S Z : Type 0} (cores : List (PIdx S × ℕ)) (runs : List (Vec (TIdx S) Z)) → All (λ (run : Vec (TIdx S) Z). run.items ≡ []) runs
     → (x : PIdx S × ℕ × TIdx S) → ¬ (Contains (run_items cores (tokens_of runs)) x)
 empty_runs [] runs none x h = none_in x h
 empty_runs (core ∷ cores) [] none x h = none_in x h
@@ -203,7 +203,7 @@ same_runs (core ∷ cores) [] (y ∷ ys) all = absurd all
 same_runs (core ∷ cores) (x ∷ xs) [] all = absurd all
 same_runs {S} (core ∷ cores) (x ∷ xs) (y ∷ ys) all =
     same_append (core_items core x) (core_items core y) (run_items cores xs) (run_items cores ys)
-    (HaveSame-map (λ (token : TIdx S). (core.0, core.1, token)) x y all.0) (same_runs cores xs ys all.1)
+    (HaveSame-map (with_core core) x y all.0) (same_runs cores xs ys all.1)
 
 -- cores of items are those of any list with the same items
 pub cores_of_same : {S : Type 0} (xs ys : List (PIdx S × ℕ × TIdx S)) (cores : List (PIdx S × ℕ)) → HaveSame xs ys → AreCoresOf ys cores → AreCoresOf xs cores
@@ -224,9 +224,9 @@ unfolding IsStrictlySortedBy
 sorted_append R [] ys first second before = second
 sorted_append R (x ∷ xs) ys first second before = (all_append (λ y. R x y ≡ Less) xs ys first.0 before.0, sorted_append R xs ys first.1 second before.1)
   where
-    all_append : {Y : Type 0} (P : Y → Type 0) (as bs : List Y) → AllByRecursion P as → AllByRecursion P bs → AllByRecursion P (as ++ bs)
-    all_append P [] bs h k = k
-    all_append P (a ∷ as) bs h k = (h.0, all_append P as bs h.1 k)
+    all_append : {Y : Type 0} (P : Y → Type 0) (ps qs : List Y) → AllByRecursion P ps → AllByRecursion P qs → AllByRecursion P (ps ++ qs)
+    all_append P [] qs h k = k
+    all_append P (p ∷ ps) qs h k = (h.0, all_append P ps qs h.1 k)
 
 -- one core with ascending lookaheads has ascending items
 core_sorted : (p k : ℕ) (ts : List ℕ) → IsStrictlySortedBy nat_cmp ts → IsStrictlySortedBy item_cmp (map (item_at p k) ts)
@@ -240,7 +240,7 @@ core_sorted p k ts sorted =
 
 module _ {S : Type 0} (index : S → ℕ) where
   -- the items of a core by numbers
-  core_numbers : (core : PIdx S × ℕ) (tokens : List (TIdx S)) → map (item_of index) (core_items core tokens) ≡ map (item_at (index core.0.0) core.1) (map (λ token. index token.0) tokens)
+  core_numbers : (core : PIdx S × ℕ) (tokens : List (TIdx S)) → map (item_of index) (core_items core tokens) ≡ map (item_at (index core.0.0) core.1) (map (λ (token : TIdx S). index token.0) tokens)
   core_numbers core [] = refl
   core_numbers core (t ∷ ts) = ap (λ (xs : List ItemOf). item_at (index core.0.0) core.1 (index t.0) ∷ xs) (core_numbers core ts)
 
@@ -263,9 +263,9 @@ module _ {S : Type 0} (index : S → ℕ) where
       (both (λ y. item_cmp (item_at (index core.0.0) core.1 t) y ≡ Less) (map (item_of index) (core_items c run)) (map (item_of index) (run_items cores runs))
       (before_run core c t run less.0) (before_items core t cores runs less.1))
     where
-      both : {Y : Type 0} (P : Y → Type 0) (as bs : List Y) → AllByRecursion P as → AllByRecursion P bs → AllByRecursion P (as ++ bs)
-      both P [] bs h k = k
-      both P (a ∷ as) bs h k = (h.0, both P as bs h.1 k)
+      both : {Y : Type 0} (P : Y → Type 0) (ps qs : List Y) → AllByRecursion P ps → AllByRecursion P qs → AllByRecursion P (ps ++ qs)
+      both P [] qs h k = k
+      both P (p ∷ ps) qs h k = (h.0, both P ps qs h.1 k)
 
   each_before : (core : PIdx S × ℕ) (tokens : List (TIdx S)) (cores : List (PIdx S × ℕ)) (runs : List (List (TIdx S)))
       → AllByRecursion (λ c. core_cmp (core_of index core) c ≡ Less) (map (core_of index) cores)
@@ -275,7 +275,7 @@ module _ {S : Type 0} (index : S → ℕ) where
 
   -- ascending cores with ascending runs have ascending items
   sorted_each : (cores : List (PIdx S × ℕ)) (runs : List (List (TIdx S))) → IsStrictlySortedBy core_cmp (map (core_of index) cores)
-      → AllByRecursion (λ run. IsStrictlySortedBy nat_cmp (map (λ token. index token.0) run)) runs
+      → AllByRecursion (λ (run : List (TIdx S)). IsStrictlySortedBy nat_cmp (map (λ (token : TIdx S). index token.0) run)) runs
       → IsStrictlySortedBy item_cmp (map (item_of index) (run_items cores runs))
   unfolding IsStrictlySortedBy
   sorted_each [] runs order each = tt
@@ -287,9 +287,9 @@ module _ {S : Type 0} (index : S → ℕ) where
       (sorted_each cores runs order.1 each.1) (each_before core run cores runs order.0))
 
   pub items_sorted : (cores : List (PIdx S × ℕ)) (runs : List (List (TIdx S))) → IsStrictlySortedBy core_cmp (map (core_of index) cores)
-      → All (λ run. IsStrictlySortedBy nat_cmp (map (λ token. index token.0) run)) runs → IsStrictlySortedBy item_cmp (map (item_of index) (run_items cores runs))
+      → All (λ (run : List (TIdx S)). IsStrictlySortedBy nat_cmp (map (λ (token : TIdx S). index token.0) run)) runs → IsStrictlySortedBy item_cmp (map (item_of index) (run_items cores runs))
   items_sorted cores runs order each =
-      sorted_each cores runs order (recursion_from_All (λ (run : List (TIdx S)). IsStrictlySortedBy nat_cmp (map (λ token. index token.0) run)) runs each)
+      sorted_each cores runs order (recursion_from_All (λ (run : List (TIdx S)). IsStrictlySortedBy nat_cmp (map (λ (token : TIdx S). index token.0) run)) runs each)
 
 -- at the start all items are left
 pub left_first : {S : Type 0} (cores : List (PIdx S × ℕ)) (runs : List (List (TIdx S))) → items_left cores runs 0 0 ≡ run_items cores runs
@@ -330,7 +330,7 @@ pub left_one : {S : Type 0} (cores : List (PIdx S × ℕ)) (runs : List (List (T
 left_one [] runs place token core t paired below within is at = absurd (omega (arith, paired, below))
 left_one (c ∷ cores) [] place token core t paired below within is at = absurd (omega (arith, below))
 left_one {S} (c ∷ cores) (run ∷ runs) zero token core t paired below within is at =
-    let first : (c.0, c.1, t) ≡ (core.0, core.1, t) = ap (λ (x : PIdx S × ℕ). (x.0, x.1, t)) (sym is) in
+    let first : (c.0, c.1, t) ≡ (core.0, core.1, t) = ap (λ (x : PIdx S × ℕ). with_core x t) (sym is) in
     ap (λ (ts : List (TIdx S)). core_items c ts ++ run_items cores runs) (drop_one run token t within at)
     ∙ ap (λ (x : PIdx S × ℕ × TIdx S). x ∷ (core_items c (drop (token + 1) run) ++ run_items cores runs)) first
 left_one (c ∷ cores) (run ∷ runs) (suc place) token core t paired below within is at =

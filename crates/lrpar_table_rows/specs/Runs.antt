@@ -8,9 +8,13 @@ use Rattle.lrpar_grammar_places.specs.declared.span.TIdx.{TIdx}
 use Rattle.lrpar_table_rows.specs.Graph.{ItemOf, item_cmp}
 use Rattle.lrpar_table_rows.specs.PlainItems.{AreBegunOf, AreCoresOf, item_of}
 
+-- the item with this core and this lookahead
+abbrev pub with_core : {S : Type 0} → PIdx S × ℕ → TIdx S → PIdx S × ℕ × TIdx S
+with_core core token = (core.0, core.1, token)
+
 -- the items with this core and these lookaheads
 abbrev pub core_items : {S : Type 0} → PIdx S × ℕ → List (TIdx S) → List (PIdx S × ℕ × TIdx S)
-core_items core tokens = map (λ token. (core.0, core.1, token)) tokens
+core_items core tokens = map (with_core core) tokens
 
 -- the items of cores, each with its run of lookaheads
 abbrev pub run_items : {S : Type 0} → List (PIdx S × ℕ) → List (List (TIdx S)) → List (PIdx S × ℕ × TIdx S)
@@ -47,5 +51,5 @@ pub record IsSet {S : Type 0} (index : S → ℕ) (cores : List (PIdx S × ℕ))
 -- the place of a run and of one of its lookaheads from which on the same items are left
 pub record IsNextPlace {S : Type 0} (cores : List (PIdx S × ℕ)) (runs : List (List (TIdx S))) (place token : ℕ) (at : ℕ × ℕ) : Type 0 where
   pub same : items_left cores runs at.0 at.1 ≡ items_left cores runs place token
-  pub place : at.0 < length runs
-  pub token : at.1 < length (slice_index_or runs at.0 [])
+  pub within : at.0 < length runs
+  pub below : at.1 < length (slice_index_or runs at.0 [])

@@ -83,7 +83,9 @@ fn next_place<StorageT: StorageIndex>(
     let mut place = place;
     let mut token = token;
     'runs: while place < runs.len() {
-        if token < runs[place].as_slice().len() {
+        let run = runs[place].as_slice();
+        let count = run.len();
+        if token < count {
             return Some((place, token));
         }
         place += 1;

@@ -24,14 +24,10 @@ fn built(rt: &impl Abort, alloc: Global, text: &str) -> (StateGraph<u8>, StateTa
 
 // Whether the graph lists the item in the state. A state out of range has none.
 fn lists(graph: &StateGraph<u8>, state: u8, item: Item<u8>) -> bool {
-    usize::from(state) < graph.states_len() && is_among(graph, StIdx(state), item)
-}
-
-// Whether the item is among those of the state.
-fn is_among(graph: &StateGraph<u8>, state: StIdx<u8>, item: Item<u8>) -> bool
-    requires { state.0 < graph_len graph.now }
-{
-    for other in graph.items(state) {
+    if usize::from(state) >= graph.states_len() {
+        return false;
+    }
+    for other in graph.items(StIdx(state)) {
         if other == item {
             return true;
         }

@@ -5,5 +5,8 @@ use Rattle.lrpar_table_rows.specs.Runs.{items_left}
 use Rattle.lrpar_table_rows.proofs.RunLemmas.{left_one}
 use Rattle.lrpar_table_rows.proofs.item_iter.ItemsIterator.next.Goals as goal
 
-pub returns-in-None-clause-steps : goal.returns-in-None-clause-steps
-returns-in-None-clause-steps g c = ?
+pub returns-in-None : goal.returns-in-None
+returns-in-None g c = ?
+
+pub returns-in-Some : goal.returns-in-Some
+returns-in-Some g c = ?
