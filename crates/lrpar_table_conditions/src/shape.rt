@@ -87,12 +87,7 @@ impl<'a, StorageT: StorageIndex> Checkable<'a, StorageT> {
     }
 
     // Whether each item of the state with the core is of the grammar.
-    fn items_with_are_in_range(
-        &self,
-        s: StIdx<StorageT>,
-        pidx: PIdx<StorageT>,
-        dot: usize,
-    ) -> bool
+    fn items_with_are_in_range(&self, s: StIdx<StorageT>, pidx: PIdx<StorageT>, dot: usize) -> bool
         ensures { IsTrue result ↔ ((t : ℕ) → HasItem self.now.sgraph.now (StorageT.index s.0) (StorageT.index pidx.0) dot t
             → IsItem self.now.grm.now (StorageT.index pidx.0) dot t) }
     {

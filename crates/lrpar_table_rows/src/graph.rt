@@ -127,12 +127,7 @@ impl<StorageT: StorageIndex> StateGraph<StorageT> {
 
     /// The lookaheads of the LR(1) items of state `s` with the LR(0) core of production `p` with `dot` symbols before the dot,
     /// ascending, each once. A state out of range has none. It is a binary search for the core.
-    pub fn lookaheads(
-        &self,
-        s: StIdx<StorageT>,
-        p: PIdx<StorageT>,
-        dot: usize,
-    ) -> &[TIdx<StorageT>]
+    pub fn lookaheads(&self, s: StIdx<StorageT>, p: PIdx<StorageT>, dot: usize) -> &[TIdx<StorageT>]
         ensures all { (t : ℕ) → Contains (map (λ token. StorageT.index token.0) result.now) t
             ↔ HasItem self.now (StorageT.index s.0) (StorageT.index p.0) dot t }
         ensures ascending { IsStrictlySortedBy nat_cmp (map (λ token. StorageT.index token.0) result.now) }

@@ -33,10 +33,7 @@ impl<'a, StorageT: StorageIndex> Model for Items<'a, StorageT> {
 
 impl<'a, StorageT: StorageIndex> Items<'a, StorageT> {
     // The items of these cores with these runs.
-    pub(crate) fn new(
-        cores: &'a [Core<StorageT>],
-        runs: &'a [Ascending<TIdx<StorageT>>],
-    ) -> Self
+    pub(crate) fn new(cores: &'a [Core<StorageT>], runs: &'a [Ascending<TIdx<StorageT>>]) -> Self
         requires { length runs.now ≡ length cores.now }
         ensures { result ≡ map (item_of StorageT.index) (run_items cores.now runs.now) }
     {

@@ -20,14 +20,14 @@ returns-then-not-has_near g c =
     let index = g.StorageT.StorageIndex.index in
     let P = HasItem c.args.self.now.sgraph.now (index c.args.next.0) (index c.args.pidx.0) (c.args.dot + 1) in
     refused (λ all. iff_false c.has_near.ensures.found c.if-not-has_near.true
-    (lookahead_at index P c.args.tokens.now c.loop-place.place c.index-tokens-place-token.result c.loop-place-test.true c.index-tokens-place-token.is all))
+    (lookahead_at index P c.args.tokens.now c.loop-place.place c.index-tokens-place.result c.loop-place-test.true c.index-tokens-place.is all))
 
 pub loop-place-preserved : goal.loop-place-preserved
 loop-place-preserved g c =
     let index = g.StorageT.StorageIndex.index in
     let has = c.has_near.ensures.found.0 c.if-not-has_near.false in
     each_more (λ x. HasItem c.args.self.now.sgraph.now (index c.args.next.0) (index c.args.pidx.0) (c.args.dot + 1) (index x.0)) c.args.tokens.now
-    c.loop-place.place c.index-tokens-place-token.result c.loop-place-test.true c.index-tokens-place-token.is has
+    c.loop-place.place c.index-tokens-place.result c.loop-place-test.true c.index-tokens-place.is has
     c.loop-place.invariant
 
 pub returns : goal.returns

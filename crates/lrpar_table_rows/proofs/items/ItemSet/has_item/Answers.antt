@@ -23,9 +23,9 @@ returns-in-Some g c =
     c.index.ensures ∙ get_or_default runs c.in-Some.place c.index.result.now [] below in
     record {
       found = rw (← c.self.view_is) (
-            λ h. numbers.0 (at.0 (subst (λ run. Contains run c.args.token) read (c.contains.ensures.found.0 h))),
-            λ h. c.contains.ensures.found.1 (subst (λ run. Contains run c.args.token) (sym read) (at.1 (numbers.1 h))),
-          );
+        λ h. numbers.0 (at.0 (subst (λ run. Contains run c.args.token) read (c.contains.ensures.found.0 h))),
+        λ h. c.contains.ensures.found.1 (subst (λ run. Contains run c.args.token) (sym read) (at.1 (numbers.1 h))),
+      );
     }
 
 pub returns-in-None : goal.returns-in-None
@@ -37,7 +37,7 @@ returns-in-None g c =
     let numbers = item_by_numbers g.StorageT.StorageIndex.index exact (run_items cores runs) c.args.prod c.args.dot c.args.token in
     record {
       found = rw (← c.self.view_is) (
-            λ h. absurd (false≢true h),
-            λ h. absurd (c.in-None.ensures (core_from_items cores runs c.args.prod c.args.dot c.args.token (numbers.1 h))),
-          );
+        λ h. absurd (false≢true h),
+        λ h. absurd (c.in-None.ensures (core_from_items cores runs c.args.prod c.args.dot c.args.token (numbers.1 h))),
+      );
     }
