@@ -1,5 +1,5 @@
 -- Cores with the runs of their lookaheads, and the items that these are.
-use Rattle.std.proofs.Common.{◌≡◌, ◌<◌, ◌≤◌, ◌+◌, ◌++◌, ◌↔◌, ◌⊎◌, ◌∙◌, ℕ, zero, suc, IsTrue, Bool, false, List, [], ◌∷◌, All, Bor, drop, length, map, set, slice_index_or, subst, ap, refl, sym, arith, inl, inr, Option, Some, None, MatchOption, Result, Ok, Err}
+use Rattle.std.proofs.Common.{◌≡◌, ◌<◌, ◌≤◌, ◌+◌, ◌++◌, ◌↔◌, ◌⊎◌, ◌∙◌, ℕ, zero, suc, IsTrue, Bool, false, List, [], ◌∷◌, All, Bor, drop, length, map, set, slice_index_or, subst, ap, refl, sym, arith, inl, inr, Option, Some, None, MatchOption, Result, Ok, Err, IfOk}
 use Rattle.std.specs.List.{AllByRecursion, AllZip, Contains, flat_map}
 use Rattle.std.specs.List.Sorted.{IsStrictlySortedBy}
 use Rattle.std.specs.Ordering.{nat_cmp, ordering_then}
@@ -9,7 +9,7 @@ use Rattle.std.specs.declared.vec.Vec.{Vec}
 use Rattle.std.proofs.lemmas.Bool.{false≢true}
 use Rattle.std.proofs.lemmas.Cmp.{nat_cmp_total, tied_itself}
 use Rattle.std.proofs.lemmas.List.{append-nil, append_assoc, drop_all, map-append, take_more}
-use Rattle.std.proofs.lemmas.List.Elements.{All-from_recursion, Contains-append_cases, Contains-append_left, Contains-append_right, Contains-push, Contains-push_cases, recursion_from_All, All-head, All-tail}
+use Rattle.std.proofs.lemmas.List.Elements.{All-from_recursion, Contains-append_cases, Contains-append_left, Contains-append_right, Contains-push, Contains-push_cases, recursion_from_All, All-head, All-push, All-tail}
 use Rattle.lrpar_grammar_places.specs.declared.span.PIdx.{PIdx}
 use Rattle.lrpar_grammar_places.specs.declared.span.TIdx.{TIdx}
 use Rattle.lrpar_table_rows.specs.Ascending.{HaveSame, IsOnlyPlace}
@@ -182,6 +182,11 @@ pub put_none : {S : Type 0} (items : List (PIdx S × ℕ × TIdx S)) (core : PId
     → HaveSame items (items ++ core_items core tokens)
 put_none {S} items core [] none = subst (HaveSame items) (sym (append-nil items)) (same_self items)
 put_none items core (t ∷ ts) none = absurd (none (omega arith))
+
+-- one more empty run
+pub empty_more : {S Z : Type 0} (runs : List (Vec (TIdx S) Z)) (run : Vec (TIdx S) Z) → All (λ (r : Vec (TIdx S) Z). r.items ≡ []) runs → run.items ≡ []
+    → All (λ (r : Vec (TIdx S) Z). r.items ≡ []) (runs ++ run ∷ [])
+empty_more {S} {Z} runs run all none = All-push (λ (r : Vec (TIdx S) Z). r.items ≡ []) runs run all none
 
 -- empty runs have no items
 pub empty_runs : {S Z : Type 0} (cores : List (PIdx S × ℕ)) (runs : List (Vec (TIdx S) Z)) → All (λ (run : Vec (TIdx S) Z). run.items ≡ []) runs
@@ -397,3 +402,14 @@ same_more xs ys zs more same pushed = same_trans zs (xs ++ more) (ys ++ more) pu
 -- no lookahead and no item is there
 pub no_tokens_there : (t : ℕ) (x : ItemOf) → Contains [] t ↔ Contains [] x
 no_tokens_there t x = (λ h. absurd (none_in t h), λ h. absurd (none_in x h))
+
+-- an empty list ascends
+pub none_sorted : {X : Type 0} (R : X → X → Ordering) → IsStrictlySortedBy R []
+unfolding IsStrictlySortedBy
+none_sorted R = tt
+
+-- a set that was made of items has those of any list with the same
+pub made_same : {E : Type 0} (made : Result (List ItemOf) E) (xs ys : List ItemOf) → IfOk made (λ set. set ≡ xs) → HaveSame xs ys
+    → IfOk made (λ set. HaveSame set ys)
+made_same (Ok set) xs ys is same = subst (λ (items : List ItemOf). HaveSame items ys) (sym is) same
+made_same (Err fault) xs ys is same = tt

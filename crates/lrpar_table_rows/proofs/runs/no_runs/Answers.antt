@@ -1,7 +1,7 @@
 use Rattle.std.proofs.Common.{◌≡◌, ◌∙◌, ◌+◌, [], All, ap, arith, length, refl}
 use Rattle.std.proofs.lemmas.List.{length_push}
-use Rattle.std.proofs.lemmas.List.Elements.{All-nil, All-push}
-use Rattle.lrpar_table_rows.proofs.RunLemmas.{empty_runs}
+use Rattle.std.proofs.lemmas.List.Elements.{All-nil}
+use Rattle.lrpar_table_rows.proofs.RunLemmas.{empty_more, empty_runs}
 use Rattle.lrpar_table_rows.proofs.runs.no_runs.Goals as goal
 
 pub loop-init : goal.loop-init
@@ -10,7 +10,7 @@ loop-init g c = (rw c.in_ok-runs.ensures.items refl, rw c.in_ok-runs.ensures.ite
 pub loop-preserved : goal.loop-preserved
 loop-preserved g c = (
   ap (λ xs. length xs) c.in_ok-push.ensures.items ∙ length_push c.loop.runs.items c.new.result ∙ ap (λ n. n + 1) c.loop.invariant.0,
-  rw c.in_ok-push.ensures.items (All-push _ c.loop.runs.items c.new.result c.loop.invariant.1 c.new.ensures.items),
+  rw c.in_ok-push.ensures.items (empty_more c.loop.runs.items c.new.result c.loop.invariant.1 c.new.ensures.items),
 )
 
 pub returns-clause-paired : goal.returns-clause-paired

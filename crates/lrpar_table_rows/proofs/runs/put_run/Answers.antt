@@ -7,8 +7,8 @@ use Rattle.lrpar_table_rows.proofs.runs.put_run.Goals as goal
 pub index_mut-run-requires : goal.index_mut-run-requires
 index_mut-run-requires g c = omega (arith, c.in-Some.ensures.within, c.requires.paired)
 
-pub returns-in_ok-extend_from_slice-clause-same : goal.returns-in_ok-extend_from_slice-clause-same
-returns-in_ok-extend_from_slice-clause-same g c =
+pub returns-clause-same : goal.returns-clause-same
+returns-clause-same g c =
     put_same c.args.cores.now c.args.runs.now.items c.in-Some.place c.args.core c.extend_from_slice.new.self c.index_mut-run.result.now c.args.tokens.now
     c.requires.paired c.in-Some.ensures (c.in_ok-extend_from_slice.ensures.items ∙ ap (λ v. v.items ++ c.args.tokens.now) c.index_mut-run.ensures.value)
 

@@ -8,7 +8,10 @@ use Rattle.lrpar_table_rows.proofs.RunLemmas.{core_known, same_runs, same_trans}
 use Rattle.lrpar_table_rows.proofs.runs.runs_of.Goals as goal
 
 pub loop-item-init : goal.loop-item-init
-loop-item-init g c = (c.in_ok-runs.ensures.paired, λ x. (λ h. absurd (c.in_ok-runs.ensures.none x h), λ h. absurd (omega (arith, h.1))))
+loop-item-init g c =
+    let paired = rw c.as_slice.ensures.all at c.in_ok-runs.ensures.paired in
+    let none = rw c.as_slice.ensures.all at c.in_ok-runs.ensures.none in
+    (paired, λ x. (λ h. absurd (none x h), λ h. absurd (omega (arith, h.1))))
 
 pub put_token-requires-clause-known : goal.put_token-requires-clause-known
 put_token-requires-clause-known g c =

@@ -7,7 +7,10 @@ use Rattle.lrpar_table_rows.proofs.RunLemmas.{row_known, row_more, same_more, sa
 use Rattle.lrpar_table_rows.proofs.runs.runs_of_rows.Goals as goal
 
 pub loop-row-init : goal.loop-row-init
-loop-row-init g c = (c.in_ok-runs.ensures.paired, λ x. (λ h. absurd (c.in_ok-runs.ensures.none x h), λ h. absurd (omega (arith, h.1))))
+loop-row-init g c =
+    let paired = rw c.as_slice.ensures.all at c.in_ok-runs.ensures.paired in
+    let none = rw c.as_slice.ensures.all at c.in_ok-runs.ensures.none in
+    (paired, λ x. (λ h. absurd (none x h), λ h. absurd (omega (arith, h.1))))
 
 pub put_run-requires-clause-known : goal.put_run-requires-clause-known
 put_run-requires-clause-known g c = λ some.

@@ -5,7 +5,7 @@ use Rattle.std.proofs.lemmas.List.{get_or_default}
 use Rattle.lrpar_grammar_places.specs.declared.span.TIdx.{TIdx}
 use Rattle.lrpar_table_rows.specs.Runs.{run_items}
 use Rattle.lrpar_table_rows.proofs.ItemLemmas.{exact_index, sorted_image}
-use Rattle.lrpar_table_rows.proofs.RunLemmas.{lookaheads_by_numbers, no_lookaheads, run_at}
+use Rattle.lrpar_table_rows.proofs.RunLemmas.{lookaheads_by_numbers, no_lookaheads, none_sorted, run_at}
 use Rattle.lrpar_table_rows.proofs.items.ItemSet.lookaheads.Goals as goal
 
 pub index-requires : goal.index-requires
@@ -39,3 +39,6 @@ returns-in-None-clause-all g c = λ t.
     let exact = exact_index index g.StorageT.StorageIndex.at_index g.met.StorageT.StorageIndex.at_index_law in
     rw (← c.self.view_is)
     (lookaheads_by_numbers index exact cores runs c.args.prod c.args.dot [] (no_lookaheads index exact cores runs c.args.prod c.args.dot c.in-None.ensures) t)
+
+pub returns-in-None-clause-ascending : goal.returns-in-None-clause-ascending
+returns-in-None-clause-ascending g c = none_sorted nat_cmp
