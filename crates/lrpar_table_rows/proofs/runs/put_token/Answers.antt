@@ -9,4 +9,4 @@ pub returns-clause-same : goal.returns-clause-same
 returns-clause-same g c =
     let item = c.args.item.now in
     put_same c.args.cores.now c.args.runs.now.items c.in-Some.place (item.0, item.1) c.push.new.self c.index_mut-run.result.now (item.2 ∷ [])
-    c.requires.paired c.in-Some.ensures (c.in_ok-push.ensures.items ∙ ap (λ v. v.items ++ item.2 ∷ []) c.index_mut-run.ensures.value)
+    c.requires.paired c.in-Some.ensures (c.in_ok-push-in-Some.ensures.items ∙ ap (λ v. v.items ++ item.2 ∷ []) c.index_mut-run.ensures.value)
