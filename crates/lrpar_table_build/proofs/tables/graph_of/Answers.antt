@@ -15,5 +15,5 @@ returns-in-Ok-clause-items g c =
     λ s p k t. subst (λ (graph : Graph). HasItem graph s p k t ↔ HasItem rows s p k t) (sym c.in-Ok.ensures.made)
     (same_at_each c.in_ok-sets.sets.items rows c.in_ok-sets.ensures s (item_at p k t))
 
-pub returns-in-Ok-clause-len : goal.returns-in-Ok-clause-len
-returns-in-Ok-clause-len g c = ?
+
+

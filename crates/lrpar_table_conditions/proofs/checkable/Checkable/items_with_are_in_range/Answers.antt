@@ -13,7 +13,7 @@ returns-then-not-is_item g c =
     let tokens = c.lookaheads-tidx-items.result.now in
     let P = IsItem c.args.self.now.grm.now (index c.args.pidx.0) c.args.dot in
     refused (λ all. iff_false c.is_item.ensures c.if-not-is_item.true
-    (lookahead_at index P tokens c.loop-tidx.tidx-index c.loop-tidx-item.result c.loop-tidx-test.true c.loop-tidx-item.is
+    (lookahead_at index P tokens c.loop-tidx.tidx-index c.tidx-item.result c.loop-tidx-test.true c.tidx-item.is
     ((each_token P (HasItem c.args.self.now.sgraph.now (index c.args.s.0) (index c.args.pidx.0) c.args.dot) (lookaheads_of index tokens)
     c.lookaheads-tidx-items.ensures.all).1 all)))
 
@@ -21,7 +21,7 @@ pub loop-tidx-preserved : goal.loop-tidx-preserved
 loop-tidx-preserved g c =
     let index = g.StorageT.StorageIndex.index in
     each_more (λ x. IsItem c.args.self.now.grm.now (index c.args.pidx.0) c.args.dot (index x.0)) c.lookaheads-tidx-items.result.now c.loop-tidx.tidx-index
-    c.loop-tidx-item.result c.loop-tidx-test.true c.loop-tidx-item.is (c.is_item.ensures.0 c.if-not-is_item.false) c.loop-tidx.invariant
+    c.tidx-item.result c.loop-tidx-test.true c.tidx-item.is (c.is_item.ensures.0 c.if-not-is_item.false) c.loop-tidx.invariant
 
 pub returns : goal.returns
 returns g c =

@@ -9,7 +9,9 @@ use Rattle.lrpar_table_conditions.proofs.completeness_test.Completeness.put_star
 
 pub loop-pidx-init : goal.loop-pidx-init
 loop-pidx-init g c =
-    (search rules, search rules, c.requires.room, c.items-pidx-iterator.ensures.all, starts_none (rows_of c.args.starts.now) c.requires.none)
+    let all : c.into_iter-pidx-iterator.result ≡ items_of c.args.self.now.sgraph.now (g.StorageT.StorageIndex.index c.args.s.0) =
+    cc (c.into_iter-pidx-iterator.ensures.into_iter_gives, c.items-pidx-items.ensures.all) in
+    (search rules, search rules, c.requires.room, all, starts_none (rows_of c.args.starts.now) c.requires.none)
 
 pub put_start-requires-clause-item : goal.put_start-requires-clause-item
 put_start-requires-clause-item g c =

@@ -7,14 +7,15 @@ use Rattle.lrpar_table_conditions.proofs.ItemwiseLemmas.{HaveFirstsAmong, next_a
 use Rattle.lrpar_table_conditions.proofs.completeness_test.Completeness.take_starts.Goals as goal
 
 pub loop-pidx-init : goal.loop-pidx-init
-loop-pidx-init g c = (
-  search rules,
-  search rules,
-  c.requires.room,
-  c.items-pidx-iterator.ensures.all,
-  subst (λ (items : List ItemOf). HaveFirstsAmong items (rows_of c.args.starts.now)) (sym c.items-pidx-iterator.ensures.all)
-      (λ q t h. (c.requires.starts q t).0 h),
-)
+loop-pidx-init g c =
+    let all : c.into_iter-pidx-iterator.result ≡ items_of c.args.self.now.sgraph.now (g.StorageT.StorageIndex.index c.args.s.0) =
+    cc (c.into_iter-pidx-iterator.ensures.into_iter_gives, c.items-pidx-items.ensures.all) in (
+      search rules,
+      search rules,
+      c.requires.room,
+      all,
+      subst (λ (items : List ItemOf). HaveFirstsAmong items (rows_of c.args.starts.now)) (sym all) (λ q t h. (c.requires.starts q t).0 h),
+    )
 
 pub take_start-requires-clause-item : goal.take_start-requires-clause-item
 take_start-requires-clause-item g c =

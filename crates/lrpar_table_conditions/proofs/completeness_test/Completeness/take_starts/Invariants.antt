@@ -12,5 +12,5 @@ invariant-loop-pidx g l =
     let index = g.StorageT.StorageIndex.index in
     (goal.iterator-loop-pidx g).can_next l.pidx-iterator × (goal.iterator-loop-pidx g).is_finite l.pidx-iterator
     × HaveStarts l.self.grm.now (rows_of l.starts)
-    × (map (item_of index) l.yielded ++ l.pidx-iterator ≡ items_of l.self.sgraph.now (index l.s.0))
+    × (map (item_of index) l.yielded ++ l.pidx-iterator ≡ items_of l.self.sgraph.now (index l.fn.s.0))
     × HaveFirstsAmong l.pidx-iterator (rows_of l.starts)
