@@ -21,7 +21,7 @@ loop-state-preserved g c =
     let state = c.state-item.result in
     let own = items_of_cores (tokens_len grm) (map (core_set index) state.items.items) in
     let rows : _ ≡ own = c.in_ok-rows.ensures ∙ ap (λ cores. items_of_cores (tokens_len grm) (map (core_set index) cores)) c.deref.ensures.value in
-    let same : HaveSame c.in_ok-set.set own = rw (c.deref-2.ensures.value, rows) at c.in_ok-set.ensures.same in
+    let same : HaveSame c.in_ok-set.set own = rw (c.deref-in-loop-state.ensures.value, rows) at c.in_ok-set.ensures.same in
     subst (AllZip HaveSame c.push.new.self.items) (sym (states_more index grm states i state c.loop-state-test.true c.state-item.is))
     (rw c.in_ok-push.ensures.items
     (all_zipped_more HaveSame c.loop-state.sets.items (item_rows grm (map (state_of index) (take i states))) c.in_ok-set.set own c.loop-state.invariant same))
