@@ -16,7 +16,7 @@ ghost use Rattle.lrpar_table_rows.specs.declared.fault.TableFault.{TableFault};
 use lrpar_grammar::grammar::YaccGrammar;
 use lrpar_grammar::span::{RIdx, StIdx, StorageIndex, TIdx};
 use lrpar_table_items::fault::BuildFault;
-use lrpar_table_items::item_rows::rows_of_items;
+use lrpar_table_items::item_rows::item_sets;
 use lrpar_table_items::item_set::State;
 use lrpar_table_items::resolution::{ReduceReduce, ShiftReduce};
 use lrpar_table_items::state_row::state_row;
@@ -152,8 +152,8 @@ fn graph_of<StorageT: StorageIndex>(
         → HasItem graph s p k t ↔ HasItem (item_rows grm.now (map (state_of StorageT.index) states.now)) s p k t) }
     ensures refused { IfErr result (λ fault. fault ≡ Memory) }
 {
-    let rows = rows_of_items(alloc, grm, states)?;
-    match StateGraph::from_rows(alloc, rows) {
+    let sets = item_sets(alloc, grm, states)?;
+    match StateGraph::from_sets(sets) {
         Ok(graph) => Ok(graph),
         Err(fault) => Err(out_of_memory(fault)),
     }

@@ -6,11 +6,10 @@ use Rattle.std.specs.Option.{is_some, option_map}
 use Rattle.lrpar_grammar.specs.Grammar.{Grammar, GrammarSymbol, Nonterminal, Terminal, prods_len, prod_len, symbols_of}
 use Rattle.lrpar_grammar.specs.Symbols.{symbol_of}
 use Rattle.lrpar_grammar_places.specs.declared.span.PIdx.{PIdx}
-use Rattle.lrpar_grammar_places.specs.declared.span.TIdx.{TIdx}
 use Rattle.lrpar_grammar_places.specs.declared.span.StIdx.{StIdx}
 use Rattle.lrpar_grammar_places.specs.declared.span.Symbol.{Symbol}
-use Rattle.lrpar_table_rows.specs.Graph.{Graph, HasCore, HasItem, ItemOf, items_of}
-use Rattle.lrpar_table_rows.specs.PlainItems.{core_of, item_of}
+use Rattle.lrpar_table_rows.specs.Graph.{Graph, HasCore}
+use Rattle.lrpar_table_rows.specs.PlainItems.{core_of}
 use Rattle.lrpar_table_rows.specs.PlainRows.{plain_goto}
 use Rattle.lrpar_table_rows.specs.Safe.{CoresFollow, GoesBy, HasShape, StepsFromCores}
 use Rattle.lrpar_table_rows.specs.Table.{Table, ShiftTo, action_of, goto_of}
@@ -33,13 +32,6 @@ begun_read index graph s cores i core all below read =
 pub core_in_shape : (g : Grammar) (graph : Graph) (table : Table) (s p k : ℕ) → HasShape g graph table → HasCore graph s p k
     → (p < prods_len g) × (k ≤ prod_len g p)
 core_in_shape g graph table s p k shape has = let item = shape.items s p k has.0 has.1 in (item.prod, item.dot)
-
--- an item that was read is one of the state
-pub item_read : {S : Type 0} (index : S → ℕ) (graph : Graph) (s : ℕ) (items : List (PIdx S × ℕ × TIdx S)) (i : ℕ) (item : PIdx S × ℕ × TIdx S)
-    → map (item_of index) items ≡ items_of graph s → i < length items → item ≡ slice_index_or items i item
-    → HasItem graph s (index item.0.0) item.1 (index item.2.0)
-item_read index graph s items i item all below read =
-    subst (λ (is : List ItemOf). Contains is (item_of index item)) all (Contains-image (item_of index) items item (i, below, sym read))
 
 -- a symbol that was read is the symbol of the right side
 pub symbol_read : {S : Type 0} (index : S → ℕ) (xs : List (Symbol S)) (ys : List GrammarSymbol) (k : ℕ) (x : Symbol S)

@@ -2,7 +2,7 @@
 -- by their lookaheads.
 use Rattle.std.proofs.Common.{◌≡◌, ◌≢◌, ◌<◌, ◌≤◌, ◌+◌, ◌-◌, ◌↔◌, ◌∙◌, ◌⊎◌, ◌||◌, ◌&&◌, ◌==◌, inl, inr, refl, sym, ap, subst, arith, ℕ, zero, suc, Bool, true, false, IsTrue, not, List, [], ◌∷◌, ◌++◌, All, length, map, drop, take, get_or, set, slice_get, Some, Option, cond, eqb, Bor, IfSome, MatchOption, None}
 use Rattle.std.proofs.lemmas.Bool.{and_parts, both_ways, cases_eq, cases_lt, eq-eqb, eqb-true, false≢true, false_from_ne_true, not-true, or_cases, or_left, or_right}
-use Rattle.std.proofs.lemmas.List.{drop_more, get_or-drop, get_or-map, get_or-set_other, get_or-set_same, get_or-take, get_or_default, length-drop, length-map, length-set, length-take-le, take_all}
+use Rattle.std.proofs.lemmas.List.{append-nil, append_assoc, drop_more, get_or-drop, get_or-map, get_or-set_other, get_or-set_same, get_or-take, get_or_default, length-drop, length-map, length-set, length-take-le, take_all}
 use Rattle.std.proofs.lemmas.List.Elements.{All-contains, All-contains_itself, All-map, All-set, All-weaker, Contains-append_left, Contains-push, Contains-push_cases}
 use Rattle.std.proofs.lemmas.Option.{get_or_from_slice_get, slice_get-map, slice_get_within}
 use Rattle.std.specs.List.{Contains, HoldsAt}
@@ -20,33 +20,52 @@ use Rattle.lrpar_grammar.specs.Tokens.{has}
 use Rattle.lrpar_grammar.specs.declared.token_set.TokenSet.{TokenSet}
 use Rattle.lrpar_table_first.proofs.GrowthLemmas.{row_in, rows-set}
 use Rattle.lrpar_table_first.proofs.SymbolLemmas.{prod_symbols}
-use Rattle.lrpar_table_rows.specs.Graph.{Graph, HasItem, ItemOf, item_at, items_of}
-use Rattle.lrpar_table_rows.specs.PlainItems.{item_of}
+use Rattle.lrpar_table_rows.specs.Graph.{Graph, HasCore, HasItem, ItemOf, item_at, items_of}
 use Rattle.lrpar_table_rows.specs.Safe.{GoesBy}
 use Rattle.lrpar_table_rows.specs.PlainRows.{plain_action}
 use Rattle.lrpar_table_rows.specs.Table.{Table, TableAction, ShiftTo, ReduceBy, Accepts, Fails, action_of}
 use Rattle.lrpar_table_rows.specs.declared.rows.Action.{Action}
 use Rattle.lrpar_table_rows.specs.declared.rows.Action.TheVariants.{Shift, Reduce, Accept, Error}
 use Rattle.lrpar_table_conditions.specs.Complete.{CarriesItem, ClosesItem, EndsItem, ShiftsItem, StepsOn, EachItem, IsCompleteAt}
-use Rattle.lrpar_table_conditions.specs.Itemwise.{AreOfCore, AreStartsOf, ClosesAmong, EndsBy, HaveStarts, ItemHolds, lookaheads_of}
+use Rattle.lrpar_table_conditions.specs.Itemwise.{AreStartsOf, ClosesAmong, EndsBy, HaveStarts, ItemHolds, lookaheads_of}
 use Rattle.lrpar_table_conditions.specs.declared.completeness.CompletenessCondition.{CompletenessCondition}
 use Rattle.lrpar_table_conditions.specs.declared.completeness.CompletenessCondition.TheVariants.{C1, C2, C3, C4, C5}
 use Rattle.lrpar_table_conditions.proofs.FirstTokenLemmas.{at_drop}
+use Rattle.lrpar_table_rows.proofs.ItemLemmas.{Contains-image}
 use Rattle.lrpar_table_rows.proofs.TestLemmas.{accepted, refused}
 use Rattle.lrpar_table_conditions.specs.Completeness.{condition_number}
 use Rattle.lrpar_table_conditions.specs.declared.completeness.TheConstants.CompletenessCondition.{ALL}
 
--- what holds of each item's lookahead holds of all lookaheads
-pub each_lookahead : {S : Type 0} (index : S → ℕ) (P : ℕ → Type 0) (items : List (PIdx S × ℕ × TIdx S)) (i : ℕ) → length items ≤ i
-    → ((k : ℕ) (d : PIdx S × ℕ × TIdx S) → k < i → P (index (get_or items k d).2.0)) → All P (lookaheads_of index items)
-each_lookahead {S} index P items i past holds =
-    All-map P (λ (item : PIdx S × ℕ × TIdx S). index item.2.0) items (λ k d below. holds k d (omega (arith, past, below)))
+-- what holds of each lookahead that was read holds of all lookaheads
+pub each_lookahead : {S : Type 0} (index : S → ℕ) (P : ℕ → Type 0) (tokens : List (TIdx S)) (i : ℕ) → length tokens ≤ i
+    → ((k : ℕ) (d : TIdx S) → k < i → P (index (get_or tokens k d).0)) → All P (lookaheads_of index tokens)
+each_lookahead {S} index P tokens i past holds =
+    All-map P (λ (token : TIdx S). index token.0) tokens (λ k d below. holds k d (omega (arith, past, below)))
 
 -- conversely
-pub lookahead_at : {S : Type 0} (index : S → ℕ) (P : ℕ → Type 0) (items : List (PIdx S × ℕ × TIdx S)) (i : ℕ) (item : PIdx S × ℕ × TIdx S)
-    → i < length items → item ≡ get_or items i item → All P (lookaheads_of index items) → P (index item.2.0)
-lookahead_at {S} index P items i item within is all =
-    subst (λ (x : PIdx S × ℕ × TIdx S). P (index x.2.0)) (sym is) (All-map-at P (λ (x : PIdx S × ℕ × TIdx S). index x.2.0) items all i item within)
+pub lookahead_at : {S : Type 0} (index : S → ℕ) (P : ℕ → Type 0) (tokens : List (TIdx S)) (i : ℕ) (token : TIdx S)
+    → i < length tokens → token ≡ get_or tokens i token → All P (lookaheads_of index tokens) → P (index token.0)
+lookahead_at {S} index P tokens i token within is all =
+    subst (λ (x : TIdx S). P (index x.0)) (sym is) (All-map-at P (λ (x : TIdx S). index x.0) tokens all i token within)
+
+-- something holds of all lookaheads of a core exactly if it holds for each item with the core
+pub each_token : (P H : ℕ → Type 0) (tokens : List ℕ) → ((t : ℕ) → Contains tokens t ↔ H t) → All P tokens ↔ ((t : ℕ) → H t → P t)
+each_token P H tokens is = (
+  λ all t h. All-contains P tokens t all ((is t).1 h),
+  λ each i d below. each (get_or tokens i d) ((is (get_or tokens i d)).0 (All-contains_itself tokens i d below)),
+)
+
+-- what holds of each item with the core holds of each of its lookaheads
+pub all_of_core : {S : Type 0} (index : S → ℕ) (H : ℕ → Type 0) (tokens : List (TIdx S)) → ((t : ℕ) → Contains (lookaheads_of index tokens) t ↔ H t)
+    → All (λ (x : TIdx S). H (index x.0)) tokens
+all_of_core {S} index H tokens is i d below =
+    let x = get_or tokens i d in
+    let here = All-contains_itself tokens i d below in
+    (is (index x.0)).0 (Contains-image (λ (y : TIdx S). index y.0) tokens x here)
+
+-- a core of a state has a lookahead
+pub some_token : (graph : Graph) (s p k : ℕ) (tokens : List ℕ) → ((t : ℕ) → Contains tokens t ↔ HasItem graph s p k t) → HasCore graph s p k → 0 < length tokens
+some_token graph s p k tokens is core = let h = (is core.0).1 core.1 in omega (arith, h.1)
 
 -- what holds of each element holds of the one that is found at a place
 pub found_holds : {X : Type 0} (P : X → Type 0) (xs : List X) (k : ℕ) (found : Option (Bor X)) → All P xs
@@ -245,53 +264,6 @@ pub nothing_to_end : (g : Grammar) (table : Table) (s p k : ℕ) (tokens : List 
 nothing_to_end g table s p k tokens other =
     accepted (λ i d below. record { reduces = λ all. absurd (other all); accepts = λ all. absurd (other all) })
 
--- an element of a part of a list is one of the list
-get_or-part : {X : Type 0} (xs : List X) (place end k : ℕ) (d : X) → k < end - place → get_or (take (end - place) (drop place xs)) k d ≡ get_or xs (place + k) d
-get_or-part xs place end k d below = get_or-take (end - place) (drop place xs) k d below ∙ get_or-drop place xs k d
-
-module _ {S : Type 0} (index : S → ℕ) (items : List (PIdx S × ℕ × TIdx S)) (place end : ℕ) (core : AreOfCore index items place end)
-    (P : ℕ → ℕ → ℕ → Type 0) (p k : ℕ) (prod_is : (d : PIdx S × ℕ × TIdx S) → index (get_or items place d).0.0 ≡ p)
-    (dot_is : (d : PIdx S × ℕ × TIdx S) → (get_or items place d).1 ≡ k) where
-  abbrev part : List (PIdx S × ℕ × TIdx S)
-  part = take (end - place) (drop place items)
-
-  abbrev Holds : PIdx S × ℕ × TIdx S → Type 0
-  Holds item = P (index item.0.0) item.1 (index item.2.0)
-
-  part_len : length part ≡ end - place
-  part_len =
-      let within = core.within in
-      length-take-le (end - place) (drop place items) (omega (arith, within, length-drop place items))
-
-  -- what holds of the items of a core, by their lookaheads
-  pub core_each : All (P p k) (lookaheads_of index part) → (n : ℕ) (d : PIdx S × ℕ × TIdx S) → place ≤ n → n < end → Holds (get_or items n d)
-  core_each all n d from below =
-      let j = n - place in
-      let low : j < end - place = omega (arith, from, below) in
-      let whole : place + j ≡ n = omega (arith, from) in
-      let is : get_or part j d ≡ get_or items n d = get_or-part items place end j d low ∙ ap (λ (m : ℕ). get_or items m d) whole in
-      let here : P p k (index (get_or part j d).2.0) = All-map-at (P p k) (λ (x : PIdx S × ℕ × TIdx S). index x.2.0) part all j d (rw part_len low) in
-      let now : P p k (index (get_or items n d).2.0) = subst (λ (x : PIdx S × ℕ × TIdx S). P p k (index x.2.0)) is here in
-      let prod : p ≡ index (get_or items n d).0.0 = sym (core.prods n d from below ∙ prod_is d) in
-      let dot : k ≡ (get_or items n d).1 = sym (core.dots n d from below ∙ dot_is d) in
-      subst (λ (m : ℕ). P (index (get_or items n d).0.0) m (index (get_or items n d).2.0)) dot
-      (subst (λ (m : ℕ). P m k (index (get_or items n d).2.0)) prod now)
-
-  -- conversely
-  pub core_all : ((n : ℕ) (d : PIdx S × ℕ × TIdx S) → n < length items → Holds (get_or items n d)) → All (P p k) (lookaheads_of index part)
-  core_all each =
-      All-map (P p k) (λ (x : PIdx S × ℕ × TIdx S). index x.2.0) part (λ j d inside.
-      let low : j < end - place = rw part_len at inside in
-      let n = place + j in
-      let within = core.within in
-      let from : place ≤ n = omega arith in
-      let below : n < end = omega (arith, low) in
-      let is : get_or items n d ≡ get_or part j d = sym (get_or-part items place end j d low) in
-      let here = each n d (omega (arith, below, within)) in
-      let first = subst (λ (m : ℕ). P m (get_or items n d).1 (index (get_or items n d).2.0)) (core.prods n d from below ∙ prod_is d) here in
-      let both = subst (λ (m : ℕ). P p m (index (get_or items n d).2.0)) (core.dots n d from below ∙ dot_is d) first in
-      subst (λ (x : PIdx S × ℕ × TIdx S). P p k (index x.2.0)) is both)
-
 -- a condition holds for each item exactly if it holds at the state
 pub asked_at : (g : Grammar) (graph : Graph) (table : Table) (condition : CompletenessCondition) (s : ℕ) → condition ≢ C1 → condition ≢ C2
     → EachItem graph s (ItemHolds g graph table condition s) ↔ IsCompleteAt g graph table condition s
@@ -306,33 +278,33 @@ pub none_put : (bits : List Bool) → ((t : ℕ) → has bits t ≡ false) → (
 none_put bits none t = (λ h. absurd (false≢true (sym (none t) ∙ h)), λ h. absurd (omega (arith, h.1)))
 
 -- one more lookahead
-pub one_put : {S : Type 0} (index : S → ℕ) (items : List (PIdx S × ℕ × TIdx S)) (i : ℕ) (item : PIdx S × ℕ × TIdx S) (old new : List Bool) (token : ℕ)
-    → i < length items → item ≡ get_or items i item → token ≡ index item.2.0
+pub one_put : {S : Type 0} (index : S → ℕ) (items : List (TIdx S)) (i : ℕ) (item : TIdx S) (old new : List Bool) (token : ℕ)
+    → i < length items → item ≡ get_or items i item → token ≡ index item.0
     → ((t : ℕ) → IsTrue (has old t) ↔ Contains (lookaheads_of index (take i items)) t) → ((t : ℕ) → has new t ≡ (has old t || t == token))
     → (t : ℕ) → IsTrue (has new t) ↔ Contains (lookaheads_of index (take (i + 1) items)) t
 one_put {S} index items i item old new token within is token_is so_far put t =
-    let f : PIdx S × ℕ × TIdx S → ℕ = λ x. index x.2.0 in
-    let more : lookaheads_of index (take (i + 1) items) ≡ lookaheads_of index (take i items) ++ index item.2.0 ∷ [] = map-take_more f items i item within is in
+    let f : TIdx S → ℕ = λ x. index x.0 in
+    let more : lookaheads_of index (take (i + 1) items) ≡ lookaheads_of index (take i items) ++ index item.0 ∷ [] = map-take_more f items i item within is in
     let front = lookaheads_of index (take i items) in (
       λ h. subst (λ (ts : List ℕ). Contains ts t) (sym more)
-          (elim (or_cases (has old t) (t == token) (sym (put t) ∙ h)) as (λ _. Contains (front ++ index item.2.0 ∷ []) t) [
-            | inl before ↦ Contains-append_left front (index item.2.0 ∷ []) t ((so_far t).0 before)
+          (elim (or_cases (has old t) (t == token) (sym (put t) ∙ h)) as (λ _. Contains (front ++ index item.0 ∷ []) t) [
+            | inl before ↦ Contains-append_left front (index item.0 ∷ []) t ((so_far t).0 before)
             | inr now ↦
-                let same : index item.2.0 ≡ t = sym (eqb-true t token now ∙ token_is) in
-                subst (Contains (front ++ index item.2.0 ∷ [])) same (Contains-push front (index item.2.0))
+                let same : index item.0 ≡ t = sym (eqb-true t token now ∙ token_is) in
+                subst (Contains (front ++ index item.0 ∷ [])) same (Contains-push front (index item.0))
           ]),
       λ h.
-          put t ∙ elim (Contains-push_cases front (index item.2.0) t (subst (λ (ts : List ℕ). Contains ts t) more h)) as (λ _. (has old t || t == token) ≡ true) [
+          put t ∙ elim (Contains-push_cases front (index item.0) t (subst (λ (ts : List ℕ). Contains ts t) more h)) as (λ _. (has old t || t == token) ≡ true) [
             | inl before ↦ or_left (has old t) (t == token) ((so_far t).1 before)
             | inr now ↦ or_right (has old t) (t == token) (eq-eqb t token (sym now ∙ sym token_is))
           ],
     )
 
 -- all of them
-pub all_put : {S : Type 0} (index : S → ℕ) (items : List (PIdx S × ℕ × TIdx S)) (i : ℕ) (bits : List Bool) → length items ≤ i
+pub all_put : {S : Type 0} (index : S → ℕ) (items : List (TIdx S)) (i : ℕ) (bits : List Bool) → length items ≤ i
     → ((t : ℕ) → IsTrue (has bits t) ↔ Contains (lookaheads_of index (take i items)) t) → (t : ℕ) → IsTrue (has bits t) ↔ Contains (lookaheads_of index items) t
 all_put {S} index items i bits past put t =
-    subst (λ (xs : List (PIdx S × ℕ × TIdx S)). IsTrue (has bits t) ↔ Contains (lookaheads_of index xs) t) (take_all i items past) (put t)
+    subst (λ (xs : List (TIdx S)). IsTrue (has bits t) ↔ Contains (lookaheads_of index xs) t) (take_all i items past) (put t)
 
 -- what holds of all symbols holds of the one at a place
 at_place : {X : Type 0} (P : X → Type 0) (xs : List X) (k : ℕ) (x : X) → All P xs → slice_get xs k ≡ Some x → P x
@@ -367,9 +339,13 @@ no_rule_at g p k none r at =
     let here = get_or_from_slice_get (symbols_of g p) k (Nonterminal r) (Nonterminal r) at in
     none r (drop (k + 1) (symbols_of g p)) (drop_more (symbols_of g p) k (Nonterminal r) within ∙ ap (λ (x : GrammarSymbol). x ∷ drop (k + 1) (symbols_of g p)) here)
 
--- if there are items, there are lookaheads
-pub some_lookaheads : {S : Type 0} (index : S → ℕ) (items : List (PIdx S × ℕ × TIdx S)) → 0 < length items → 0 < length (lookaheads_of index items)
-some_lookaheads {S} index items some = omega (arith, some, length-map items (λ (x : PIdx S × ℕ × TIdx S). index x.2.0))
+-- there are as many numbers as lookaheads
+pub some_lookaheads : {S : Type 0} (index : S → ℕ) (tokens : List (TIdx S)) → 0 < length tokens → 0 < length (lookaheads_of index tokens)
+some_lookaheads {S} index tokens some = omega (arith, some, length-map tokens (λ (x : TIdx S). index x.0))
+
+-- conversely
+pub some_of_lookaheads : {S : Type 0} (index : S → ℕ) (tokens : List (TIdx S)) → 0 < length (lookaheads_of index tokens) → 0 < length tokens
+some_of_lookaheads {S} index tokens some = omega (arith, some, length-map tokens (λ (x : TIdx S). index x.0))
 
 -- an action that is none of the code's shifts is no shift
 pub no_shift : {S : Type 0} (index : S → ℕ) (action : Action S) (is : TableAction) → plain_action index action ≡ is → ((next : StIdx S) → action ≢ Shift next)
@@ -382,70 +358,6 @@ no_shift index Error is e none n shifts = let no : Fails ≡ ShiftTo n = e ∙ s
 -- a test that decides a fact decides an equivalent fact
 pub decided_as : {A B : Type 0} (b : Bool) → IsTrue b ↔ A → A ↔ B → IsTrue b ↔ B
 decided_as b test same = (λ h. same.0 (test.0 h), λ holds. test.1 (same.1 holds))
-
--- one more item of a core
-pub core_more : {S : Type 0} (index : S → ℕ) (items : List (PIdx S × ℕ × TIdx S)) (place end : ℕ) (a b x y : PIdx S × ℕ × TIdx S) → AreOfCore index items place end
-    → end < length items → index (get_or items end a).0.0 ≡ index (get_or items place b).0.0 → (get_or items end x).1 ≡ (get_or items place y).1
-    → AreOfCore index items place (end + 1)
-core_more {S} index items place end a b x y core more prod dot =
-    let some = core.some in
-    let low : place < length items = omega (arith, some, more) in
-    record {
-      some = omega (arith, some);
-      within = omega (arith, more);
-      prods = λ k d from below.
-          let P : ℕ → Type 0 = λ n. index (get_or items n d).0.0 ≡ index (get_or items place d).0.0 in
-          elim (cases_lt k end) as (λ _. index (get_or items k d).0.0 ≡ index (get_or items place d).0.0) [
-            | inl before ↦ core.prods k d from before
-            | inr last ↦
-                let same : end ≡ k = omega (arith, last, below) in
-                let here : index (get_or items end d).0.0 ≡ index (get_or items place d).0.0 =
-                ap (λ (i : PIdx S × ℕ × TIdx S). index i.0.0) (get_or_default items end d a more) ∙ prod
-                ∙ ap (λ (i : PIdx S × ℕ × TIdx S). index i.0.0) (get_or_default items place b d low) in
-                subst P same here
-          ];
-      dots = λ k d from below.
-          let P : ℕ → Type 0 = λ n. (get_or items n d).1 ≡ (get_or items place d).1 in
-          elim (cases_lt k end) as (λ _. (get_or items k d).1 ≡ (get_or items place d).1) [
-            | inl before ↦ core.dots k d from before
-            | inr last ↦
-                let same : end ≡ k = omega (arith, last, below) in
-                let here : (get_or items end d).1 ≡ (get_or items place d).1 =
-                ap (λ (i : PIdx S × ℕ × TIdx S). i.1) (get_or_default items end d x more) ∙ dot ∙ ap (λ (i : PIdx S × ℕ × TIdx S). i.1) (get_or_default items place y d low) in
-                subst P same here
-          ];
-    }
-
-module _ {S : Type 0} (index : S → ℕ) (items : List (PIdx S × ℕ × TIdx S)) (place end : ℕ) (core : AreOfCore index items place end) (a b : PIdx S × ℕ × TIdx S)
-    (P : ℕ → ℕ → ℕ → Type 0) where
-  abbrev prod_at : ℕ
-  prod_at = index (get_or items place a).0.0
-
-  abbrev dot_at : ℕ
-  dot_at = (get_or items place b).1
-
-  here_within : place < length items
-  here_within = let some = core.some in let within = core.within in omega (arith, some, within)
-
-  prod_same : (d : PIdx S × ℕ × TIdx S) → index (get_or items place d).0.0 ≡ prod_at
-  prod_same d = ap (λ (i : PIdx S × ℕ × TIdx S). index i.0.0) (get_or_default items place d a here_within)
-
-  dot_same : (d : PIdx S × ℕ × TIdx S) → (get_or items place d).1 ≡ dot_at
-  dot_same d = ap (λ (i : PIdx S × ℕ × TIdx S). i.1) (get_or_default items place d b here_within)
-
-  -- what holds of the items before a core, and of the core's items by their lookaheads, holds of the items up to the core's end
-  pub core_holds_on : ((n : ℕ) (d : PIdx S × ℕ × TIdx S) → n < place → P (index (get_or items n d).0.0) (get_or items n d).1 (index (get_or items n d).2.0))
-      → All (P prod_at dot_at) (lookaheads_of index (take (end - place) (drop place items)))
-      → (n : ℕ) (d : PIdx S × ℕ × TIdx S) → n < end → P (index (get_or items n d).0.0) (get_or items n d).1 (index (get_or items n d).2.0)
-  core_holds_on before all n d below =
-      elim (cases_lt n place) as (λ _. P (index (get_or items n d).0.0) (get_or items n d).1 (index (get_or items n d).2.0)) [
-        | inl early ↦ before n d early
-        | inr from ↦ core_each index items place end core P prod_at dot_at prod_same dot_same all n d from below
-      ]
-
-  -- what holds of each item holds of those of the core, by their lookaheads
-  pub core_holds_all : All (λ x. P (index x.0.0) x.1 (index x.2.0)) items → All (P prod_at dot_at) (lookaheads_of index (take (end - place) (drop place items)))
-  core_holds_all each = core_all index items place end core P prod_at dot_at prod_same dot_same each
 
 -- there are as many sets as productions
 pub starts_len : (g : Grammar) (sets : List TokenSet) → HaveStarts g (rows_of sets) → length sets ≡ prods_len g
@@ -567,17 +479,11 @@ abbrev pub HaveFirstsAmong : List ItemOf → List (List Bool) → Type 0
 HaveFirstsAmong items rows = (q t : ℕ) → IsTrue (has (row_at rows q) t) → Contains items (item_at q 0 t)
 
 -- one item fewer
-pub starts_fewer : {S : Type 0} (index : S → ℕ) (items : List (PIdx S × ℕ × TIdx S)) (i : ℕ) (item : PIdx S × ℕ × TIdx S) (old new : List (List Bool))
-    → i < length items → item ≡ get_or items i item → HaveFirstsAmong (map (item_of index) (drop i items)) old
-    → ((q t : ℕ) → IsTrue (has (row_at new q) t) → IsTrue (has (row_at old q) t) × (item_of index item ≢ item_at q 0 t))
-    → HaveFirstsAmong (map (item_of index) (drop (i + 1) items)) new
-starts_fewer {S} index items i item old new within is so_far left q t h =
-    let rest = map (item_of index) (drop (i + 1) items) in
-    let more : map (item_of index) (drop i items) ≡ item_of index item ∷ rest =
-    ap (map (item_of index)) (drop_more items i item within) ∙ ap (λ x. item_of index x ∷ rest) (sym is) in
-    let among : Contains (item_of index item ∷ rest) (item_at q 0 t) =
-    subst (λ (xs : List ItemOf). Contains xs (item_at q 0 t)) more (so_far q t (left q t h).0) in
-    later_among (item_of index item) (item_at q 0 t) rest (left q t h).1 among
+pub starts_fewer : (item : ItemOf) (items rest : List ItemOf) (old new : List (List Bool)) → items ≡ item ∷ rest → HaveFirstsAmong items old
+    → ((q t : ℕ) → IsTrue (has (row_at new q) t) → IsTrue (has (row_at old q) t) × (item ≢ item_at q 0 t)) → HaveFirstsAmong rest new
+starts_fewer item items rest old new is so_far left q t h =
+    let among : Contains (item ∷ rest) (item_at q 0 t) = subst (λ (xs : List ItemOf). Contains xs (item_at q 0 t)) is (so_far q t (left q t h).0) in
+    later_among item (item_at q 0 t) rest (left q t h).1 among
 
 -- if no item is left, the sets are empty
 pub starts_gone : (rows : List (List Bool)) → HaveFirstsAmong [] rows → (q t : ℕ) → has (row_at rows q) t ≡ false
@@ -588,31 +494,34 @@ pub starts_none : (rows : List (List Bool)) → ((q t : ℕ) → has (row_at row
 starts_none rows none q t = (λ h. absurd (false≢true (sym (none q t) ∙ h)), λ h. absurd (omega (arith, h.1)))
 
 -- one more item
-pub starts_more : {S : Type 0} (index : S → ℕ) (items : List (PIdx S × ℕ × TIdx S)) (i : ℕ) (item : PIdx S × ℕ × TIdx S) (old new : List (List Bool))
-    → i < length items → item ≡ get_or items i item → AreStartsOf (map (item_of index) (take i items)) old
-    → ((q t : ℕ) → IsTrue (has (row_at new q) t) ↔ (IsTrue (has (row_at old q) t) ⊎ (item_of index item ≡ item_at q 0 t)))
-    → AreStartsOf (map (item_of index) (take (i + 1) items)) new
-starts_more {S} index items i item old new within is so_far put q t =
-    let more = map-take_more (item_of index) items i item within is in
-    let front = map (item_of index) (take i items) in (
-      λ h. subst (λ (xs : List ItemOf). Contains xs (item_at q 0 t)) (sym more)
-          (elim ((put q t).0 h) as (λ _. Contains (front ++ item_of index item ∷ []) (item_at q 0 t)) [
-            | inl before ↦ Contains-append_left front (item_of index item ∷ []) (item_at q 0 t) ((so_far q t).0 before)
-            | inr now ↦ subst (Contains (front ++ item_of index item ∷ [])) now (Contains-push front (item_of index item))
-          ]),
-      λ h.
-          elim (Contains-push_cases front (item_of index item) (item_at q 0 t) (subst (λ (xs : List ItemOf). Contains xs (item_at q 0 t)) more h))
-          as (λ _. IsTrue (has (row_at new q) t)) [
-            | inl before ↦ (put q t).1 (inl ((so_far q t).1 before))
-            | inr now ↦ (put q t).1 (inr now)
-          ],
-    )
+pub starts_more : (items : List ItemOf) (item : ItemOf) (old new : List (List Bool)) → AreStartsOf items old
+    → ((q t : ℕ) → IsTrue (has (row_at new q) t) ↔ (IsTrue (has (row_at old q) t) ⊎ (item ≡ item_at q 0 t))) → AreStartsOf (items ++ item ∷ []) new
+starts_more items item old new so_far put q t = (
+  λ h.
+      elim ((put q t).0 h) as (λ _. Contains (items ++ item ∷ []) (item_at q 0 t)) [
+        | inl before ↦ Contains-append_left items (item ∷ []) (item_at q 0 t) ((so_far q t).0 before)
+        | inr now ↦ subst (Contains (items ++ item ∷ [])) now (Contains-push items item)
+      ],
+  λ h.
+      elim (Contains-push_cases items item (item_at q 0 t) h) as (λ _. IsTrue (has (row_at new q) t)) [
+        | inl before ↦ (put q t).1 (inl ((so_far q t).1 before))
+        | inr now ↦ (put q t).1 (inr now)
+      ],
+)
 
--- all of them
-pub starts_all : {S : Type 0} (index : S → ℕ) (items : List (PIdx S × ℕ × TIdx S)) (i : ℕ) (rows : List (List Bool)) → length items ≤ i
-    → AreStartsOf (map (item_of index) (take i items)) rows → AreStartsOf (map (item_of index) items) rows
-starts_all {S} index items i rows past starts =
-    subst (λ (xs : List (PIdx S × ℕ × TIdx S)). AreStartsOf (map (item_of index) xs) rows) (take_all i items past) starts
+-- the items so far and the next one, then those that are left
+pub one_read : (seen : List ItemOf) (item : ItemOf) (left rest all : List ItemOf) → left ≡ item ∷ rest → seen ++ left ≡ all → (seen ++ item ∷ []) ++ rest ≡ all
+one_read seen item left rest all is so_far = append_assoc seen (item ∷ []) rest ∙ ap (λ (xs : List ItemOf). seen ++ xs) (sym is) ∙ so_far
+
+-- the next item is one of all
+pub next_among : (seen : List ItemOf) (item : ItemOf) (left rest all : List ItemOf) → left ≡ item ∷ rest → seen ++ left ≡ all → Contains all item
+next_among seen item left rest all is so_far =
+    subst (λ (xs : List ItemOf). Contains xs item) (one_read seen item left rest all is so_far)
+    (Contains-append_left (seen ++ item ∷ []) rest item (Contains-push seen item))
+
+-- if none is left, those so far are all
+pub all_read : (seen left all : List ItemOf) → left ≡ [] → seen ++ left ≡ all → seen ≡ all
+all_read seen left all none so_far = sym (append-nil seen) ∙ ap (λ (xs : List ItemOf). seen ++ xs) (sym none) ∙ so_far
 
 -- the productions of a rule, as numbers of the code, are of the grammar
 pub of_rule_known : {S : Type 0} (index : S → ℕ) (g : Grammar) (r : ℕ) (prods : List (PIdx S)) (i : ℕ) (pidx : PIdx S) → map (λ p. index p.0) prods ≡ prods_of g r

@@ -1,6 +1,5 @@
 -- The conditions of completeness at a state, for the items of one core; and what is known when they are tested.
 use Rattle.std.specs.Prelude.{◌≡◌, ◌≢◌, ◌≤◌, ◌<◌, ◌+◌, ◌↔◌, ℕ, Bool, IsTrue, List, ◌∷◌, All, Contains, drop, length, map, slice_index_or}
-use Rattle.lrpar_grammar_places.specs.declared.span.PIdx.{PIdx}
 use Rattle.lrpar_grammar_places.specs.declared.span.TIdx.{TIdx}
 use Rattle.lrpar_grammar.specs.Grammar.{Grammar, GrammarSymbol, IsWellFormed, Nonterminal, prods_len, rule_of, start_prod, symbols_of}
 use Rattle.lrpar_table_first.specs.First.{IsFirst}
@@ -47,9 +46,9 @@ ClosesAmong g rows p k t =
     (r : ℕ) (w : List GrammarSymbol) → drop k (symbols_of g p) ≡ Nonterminal r ∷ w
     → (q b : ℕ) → q < prods_len g → rule_of g q ≡ r → IsFirst g t w b → IsTrue (has (row_at rows q) b)
 
--- the lookaheads of items
-abbrev pub lookaheads_of : {S : Type 0} → (S → ℕ) → List (PIdx S × ℕ × TIdx S) → List ℕ
-lookaheads_of index items = map (λ item. index item.2.0) items
+-- lookaheads by their numbers
+abbrev pub lookaheads_of : {S : Type 0} → (S → ℕ) → List (TIdx S) → List ℕ
+lookaheads_of index tokens = map (λ token. index token.0) tokens
 
 -- what a condition other than C1 and C2 requires of state s for an item
 abbrev pub ItemHolds : Grammar → Graph → Table → CompletenessCondition → ℕ → ℕ → ℕ → ℕ → Type 0
@@ -62,10 +61,3 @@ ItemHolds g graph table _ s p k t = Unit {0}
 pub record EndsBy (g : Grammar) (p : ℕ) (action : TableAction) : Type 0 where
   pub reduces : p ≢ start_prod g → action ≡ ReduceBy p
   pub accepts : p ≡ start_prod g → action ≡ Accepts
-
--- the items from a place up to an end, at least one, all have the same core
-pub record AreOfCore {S : Type 0} (index : S → ℕ) (items : List (PIdx S × ℕ × TIdx S)) (place end : ℕ) : Type 0 where
-  pub some : place < end
-  pub within : end ≤ length items
-  pub prods : (k : ℕ) (d : PIdx S × ℕ × TIdx S) → place ≤ k → k < end → index (slice_index_or items k d).0.0 ≡ index (slice_index_or items place d).0.0
-  pub dots : (k : ℕ) (d : PIdx S × ℕ × TIdx S) → place ≤ k → k < end → (slice_index_or items k d).1 ≡ (slice_index_or items place d).1

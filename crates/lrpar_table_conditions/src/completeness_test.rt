@@ -2,10 +2,10 @@
 ghost use Rattle.std.specs.Prelude.{◌≡◌, ◌<◌, ◌≤◌, ◌+◌, ◌↔◌, ℕ, IfErr, IsTrue, MatchOption, OnOk, All, length};
 ghost use Rattle.lrpar_grammar.specs.Grammar.{IsWellFormed, prod_len, prods_len, tokens_len};
 ghost use Rattle.lrpar_table_first.specs.FirstRows.{rows_of};
-ghost use Rattle.lrpar_table_rows.specs.Safe.{HasShape, IsItem};
+ghost use Rattle.lrpar_table_rows.specs.Safe.{HasShape};
 ghost use Rattle.lrpar_table_rows.specs.Table.{states_len};
 ghost use Rattle.lrpar_table_conditions.specs.Complete.{ClosesItem, EachItem, FailsFirstAt, HasStartItem, IsComplete, IsCompleteAt, IsCompleteFault, IsFirstFault};
-ghost use Rattle.lrpar_table_conditions.specs.Itemwise.{AreOfCore, AreReady, ClosesAmong, HaveRoomFor, IsKnown, ItemHolds, lookaheads_of};
+ghost use Rattle.lrpar_table_conditions.specs.Itemwise.{AreReady, ClosesAmong, HaveRoomFor, IsKnown, ItemHolds, lookaheads_of};
 ghost use Rattle.lrpar_table_conditions.specs.declared.completeness_fault.CompleteFault.TheVariants.{Memory};
 
 mod cores;
@@ -14,10 +14,10 @@ mod sets;
 use crate::completeness::CompletenessCondition;
 use crate::completeness_fault::CompleteFault;
 use lrpar_grammar::grammar::YaccGrammar;
-use lrpar_grammar::span::{PIdx, StIdx, StorageIndex};
+use lrpar_grammar::span::{PIdx, StIdx, StorageIndex, TIdx};
 use lrpar_grammar::token_set::TokenSet;
 use lrpar_table_first::first::first_sets;
-use lrpar_table_rows::table::{Item, StateGraph, StateTable};
+use lrpar_table_rows::table::{StateGraph, StateTable};
 use sets::WorkSets;
 use std::alloc::Global;
 
@@ -153,32 +153,28 @@ impl<'a, StorageT: StorageIndex> Completeness<'a, StorageT> {
         ensures test { IsTrue result ↔ EachItem self.now.sgraph.now (StorageT.index s.0)
             (ClosesItem self.now.grm.now self.now.sgraph.now (StorageT.index s.0)) }
     {
-        let items = self.sgraph.items(s);
-        self.put_starts(items, &mut sets.starts);
-        let closed = self.closes_each(items, sets);
-        self.take_starts(items, &mut sets.starts);
+        self.put_starts(s, &mut sets.starts);
+        let closed = self.closes_each(s, sets);
+        self.take_starts(s, &mut sets.starts);
         closed
     }
 
-    // C2, closure: for each of the items. The items with dot 0 are in `starts`, as the lookaheads of each production. Items of one core
-    // are neighbours, and are tested together.
-    fn closes_each(&self, items: &[Item<StorageT>], sets: &mut WorkSets) -> bool
+    // C2, closure: for each item of the state. The items with dot 0 are in `starts`, as the lookaheads of each production. The items of
+    // one core are tested together.
+    fn closes_each(&self, s: StIdx<StorageT>, sets: &mut WorkSets) -> bool
         requires known { IsKnown self.now.grm.now self.now.sgraph.now self.now.stable.now (rows_of self.now.firsts.now) }
-        requires items { All (λ item. IsItem self.now.grm.now (StorageT.index item.0.0) item.1 (StorageT.index item.2.0)) items.now }
+        requires state { StorageT.index s.0 < states_len self.now.stable.now }
         requires room { HaveRoomFor self.now.grm.now sets.old }
         ensures room { HaveRoomFor self.now.grm.now sets.new }
         ensures kept { sets.new.starts.items ≡ sets.old.starts.items }
-        ensures test { IsTrue result ↔ All (λ item. ClosesAmong self.now.grm.now (rows_of sets.old.starts.items)
-            (StorageT.index item.0.0) item.1 (StorageT.index item.2.0)) items.now }
+        ensures test { IsTrue result ↔ EachItem self.now.sgraph.now (StorageT.index s.0)
+            (ClosesAmong self.now.grm.now (rows_of sets.old.starts.items)) }
     {
-        let mut place = 0;
-        'cores: while place < items.len() {
-            let end = core_end(items, place);
-            let (pidx, dot, _) = items[place];
-            if !self.closes_core(pidx, dot, &items[place..end], sets) {
+        for (pidx, dot) in self.sgraph.cores(s) {
+            let tokens = self.sgraph.lookaheads(s, *pidx, *dot);
+            if !self.closes_core(*pidx, *dot, tokens, sets) {
                 return false;
             }
-            place = end;
         }
         true
     }
@@ -190,59 +186,38 @@ impl<'a, StorageT: StorageIndex> Completeness<'a, StorageT> {
         ensures { IsTrue result ↔ EachItem self.now.sgraph.now (StorageT.index s.0)
             (ItemHolds self.now.grm.now self.now.sgraph.now self.now.stable.now condition (StorageT.index s.0)) }
     {
-        let items = self.sgraph.items(s);
-        let mut place = 0;
-        'cores: while place < items.len() {
-            let end = core_end(items, place);
-            let (pidx, dot, _) = items[place];
-            if !self.core_holds(condition, s, pidx, dot, &items[place..end]) {
+        for (pidx, dot) in self.sgraph.cores(s) {
+            let tokens = self.sgraph.lookaheads(s, *pidx, *dot);
+            if !self.core_holds(condition, s, *pidx, *dot, tokens) {
                 return false;
             }
-            place = end;
         }
         true
     }
 
-    // Whether the condition holds for the items with this production and dot, and with these items' lookaheads.
+    // Whether the condition holds for the items with this production, this dot and these lookaheads.
     fn core_holds(
         &self,
         condition: CompletenessCondition,
         s: StIdx<StorageT>,
         pidx: PIdx<StorageT>,
         dot: usize,
-        items: &[Item<StorageT>],
+        tokens: &[TIdx<StorageT>],
     ) -> bool
         requires known { IsKnown self.now.grm.now self.now.sgraph.now self.now.stable.now (rows_of self.now.firsts.now) }
         requires state { StorageT.index s.0 < states_len self.now.stable.now }
         requires prod { StorageT.index pidx.0 < prods_len self.now.grm.now }
         requires dot { dot ≤ prod_len self.now.grm.now (StorageT.index pidx.0) }
-        requires tokens { All (λ t. t < tokens_len self.now.grm.now) (lookaheads_of StorageT.index items.now) }
-        requires some { 0 < length items.now }
+        requires tokens { All (λ t. t < tokens_len self.now.grm.now) (lookaheads_of StorageT.index tokens.now) }
+        requires some { 0 < length tokens.now }
         ensures { let g = self.now.grm.now in let graph = self.now.sgraph.now in let table = self.now.stable.now in IsTrue result
-            ↔ All (ItemHolds g graph table condition (StorageT.index s.0) (StorageT.index pidx.0) dot) (lookaheads_of StorageT.index items.now) }
+            ↔ All (ItemHolds g graph table condition (StorageT.index s.0) (StorageT.index pidx.0) dot) (lookaheads_of StorageT.index tokens.now) }
     {
         match condition {
             CompletenessCondition::C1 | CompletenessCondition::C2 => true,
-            CompletenessCondition::C3 => self.shifts_core(s, pidx, dot, items),
-            CompletenessCondition::C4 => self.carries_core(s, pidx, dot, items),
-            CompletenessCondition::C5 => self.ends_core(s, pidx, dot, items),
+            CompletenessCondition::C3 => self.shifts_core(s, pidx, dot, tokens),
+            CompletenessCondition::C4 => self.carries_core(s, pidx, dot, tokens),
+            CompletenessCondition::C5 => self.ends_core(s, pidx, dot, tokens),
         }
     }
-}
-
-// The end of the items that have the same core as the one at a place.
-fn core_end<StorageT: StorageIndex>(items: &[Item<StorageT>], place: usize) -> usize
-    requires { place < length items.now }
-    ensures { AreOfCore StorageT.index items.now place result }
-{
-    let (pidx, dot, _) = items[place];
-    let mut end = place + 1;
-    'same: while end < items.len() {
-        let (other, at, _) = items[end];
-        if usize::from(other) != usize::from(pidx) || at != dot {
-            return end;
-        }
-        end += 1;
-    }
-    end
 }

@@ -78,8 +78,21 @@ impl<'a, StorageT: StorageIndex> Checkable<'a, StorageT> {
         requires { StorageT.index s.0 < graph_len self.now.sgraph.now }
         ensures { IsTrue result ↔ ((p k t : ℕ) → HasItem self.now.sgraph.now (StorageT.index s.0) p k t → IsItem self.now.grm.now p k t) }
     {
-        for (pidx, dot, tidx) in self.sgraph.items(s) {
-            if !self.is_item(*pidx, *dot, *tidx) {
+        for (pidx, dot) in self.sgraph.cores(s) {
+            if !self.items_with_are_in_range(s, *pidx, *dot) {
+                return false;
+            }
+        }
+        true
+    }
+
+    // Whether each item of the state with the core is of the grammar.
+    fn items_with_are_in_range(&self, s: StIdx<StorageT>, pidx: PIdx<StorageT>, dot: usize) -> bool
+        ensures { IsTrue result ↔ ((t : ℕ) → HasItem self.now.sgraph.now (StorageT.index s.0) (StorageT.index pidx.0) dot t
+            → IsItem self.now.grm.now (StorageT.index pidx.0) dot t) }
+    {
+        for tidx in self.sgraph.lookaheads(s, pidx, dot) {
+            if !self.is_item(pidx, dot, *tidx) {
                 return false;
             }
         }

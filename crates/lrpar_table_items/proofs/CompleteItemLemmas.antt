@@ -1,14 +1,26 @@
 -- The lists that the loops over cores and tokens build, by what one more core or token adds.
-use Rattle.std.proofs.Common.{◌≡◌, ◌<◌, ◌+◌, ◌==◌, ◌&&◌, ◌||◌, ◌++◌, ◌∷◌, ◌∙◌, ℕ, Bool, true, false, not, cond, List, [], sym, ap, arith, length, map, take, get_or, filter, zero-add}
+use Rattle.std.proofs.Common.{◌≡◌, ◌<◌, ◌+◌, ◌==◌, ◌&&◌, ◌||◌, ◌++◌, ◌∷◌, ◌∙◌, ℕ, Bool, true, false, not, cond, List, [], sym, ap, arith, length, map, take, get_or, filter, refl, zero-add}
 use Rattle.std.specs.List.{range_with_len}
-use Rattle.std.proofs.lemmas.List.{append-nil, append_assoc, get_or-map, length-map, map-append}
+use Rattle.std.proofs.lemmas.List.{append-nil, append_assoc, get_or-map, length-map, map-append, map-id}
 use Rattle.std.proofs.lemmas.List.Concat.{flat_map-append}
 use Rattle.std.proofs.lemmas.List.Elements.{filter-append}
 use Rattle.std.proofs.lemmas.List.Folds.{list_any-append, list_any_at}
 use Rattle.lrpar_grammar_places.proofs.ListLemmas.{map-take_more, range_more}
+use Rattle.lrpar_grammar.specs.Grammar.{Grammar, tokens_len}
 use Rattle.lrpar_grammar.specs.Tokens.{has}
+use Rattle.lrpar_grammar_places.specs.declared.span.PIdx.{PIdx}
+use Rattle.lrpar_grammar_places.specs.declared.span.TIdx.{TIdx}
+use Rattle.std.specs.declared.vec.Vec.{Vec}
+use Rattle.lrpar_table_rows.specs.Graph.{ItemOf, item_at}
+use Rattle.lrpar_table_rows.specs.PlainItems.{item_of}
+use Rattle.lrpar_table_rows.specs.Runs.{core_items, items_of_rows, set_of_rows}
+use Rattle.lrpar_table_rows.proofs.RunLemmas.{row_more}
+use Rattle.lrpar_table_items.specs.StateRows.{item_rows}
+use Rattle.lrpar_table_items.specs.States.{StateOf, state_of}
+use Rattle.lrpar_table_items.specs.declared.cores.CoreItems.{CoreItems}
+use Rattle.lrpar_table_items.specs.declared.item_set.State.{State}
 use Rattle.lrpar_table_items.specs.CompleteItems.{accepts_at, items_of_core, items_of_cores, prods_at}
-use Rattle.lrpar_table_items.specs.Cores.{CoreSet}
+use Rattle.lrpar_table_items.specs.Cores.{CoreSet, core_set}
 
 -- the numbers below n + 1 that pass a test
 filter_one : {Y : Type 0} (h : ℕ → Y) (p : ℕ → Bool) (n : ℕ)
@@ -93,3 +105,38 @@ module _ {X Y : Type 0} (f : X → Y) (test : Y → Bool) (xs : List X) (i : ℕ
   pub passing_no : test (f x) ≡ false → filter test (map f (take (i + 1) xs)) ≡ filter test (map f (take i xs))
   passing_no fails =
       passing_more ∙ ap (λ b. filter test (map f (take i xs)) ++ cond b (f x ∷ []) []) fails ∙ append-nil (filter test (map f (take i xs)))
+
+-- a loop over numbers pushes those that pass the test
+pub kept_yes : {X : Type 0} (f : X → ℕ) (p : ℕ → Bool) (made pushed : List X) (x : X) (n : ℕ) → map f made ≡ filter p (range_with_len 0 n)
+    → pushed ≡ made ++ x ∷ [] → f x ≡ n → p n ≡ true → map f pushed ≡ filter p (range_with_len 0 (n + 1))
+kept_yes f p made pushed x n so_far more same passes =
+    pushed_yes f (λ k. k) p made pushed [] x n (so_far ∙ sym (map-id (filter p (range_with_len 0 n)))) more same passes ∙ map-id (filter p (range_with_len 0 (n + 1)))
+
+-- and no others
+pub kept_no : (p : ℕ → Bool) (n : ℕ) → p n ≡ false → filter p (range_with_len 0 (n + 1)) ≡ filter p (range_with_len 0 n)
+kept_no p n fails = sym (map-id (filter p (range_with_len 0 (n + 1)))) ∙ filter_no (λ k. k) p n fails ∙ map-id (filter p (range_with_len 0 n))
+
+-- the items of a core by their numbers
+core_row : {S : Type 0} (index : S → ℕ) (core : PIdx S × ℕ) (tokens : List (TIdx S))
+    → map (item_of index) (core_items core tokens) ≡ map (item_at (index core.0.0) core.1) (map (λ token. index token.0) tokens)
+core_row index core [] = refl
+core_row index core (t ∷ ts) = ap (λ (xs : List ItemOf). item_at (index core.0.0) core.1 (index t.0) ∷ xs) (core_row index core ts)
+
+-- a row with the lookaheads of a core adds its items
+pub row_pushed : {S Z : Type 0} (index : S → ℕ) (len : ℕ) (rows : List (PIdx S × ℕ × Vec (TIdx S) Z)) (core : CoreItems S) (tokens : Vec (TIdx S) Z)
+    → map (λ token. index token.0) tokens.items ≡ filter (has core.tokens.bits.items) (range_with_len 0 len)
+    → set_of_rows index (rows ++ (core.prod, core.dot, tokens) ∷ []) ≡ set_of_rows index rows ++ items_of_core len (core_set index core)
+row_pushed {S} index len rows core tokens are =
+    ap (map (item_of index)) (row_more rows (core.prod, core.dot, tokens))
+    ∙ map-append (item_of index) (items_of_rows rows) (core_items (core.prod, core.dot) tokens.items)
+    ∙ ap (λ (xs : List ItemOf). set_of_rows index rows ++ xs)
+    (core_row index (core.prod, core.dot) tokens.items ∙ ap (map (item_at (index core.prod.0) core.dot)) are)
+
+-- the items of one more state
+pub states_more : {S : Type 0} (index : S → ℕ) (g : Grammar) (states : List (State S)) (i : ℕ) (state : State S) → i < length states
+    → state ≡ get_or states i state
+    → item_rows g (map (state_of index) (take (i + 1) states))
+    ≡ item_rows g (map (state_of index) (take i states)) ++ items_of_cores (tokens_len g) (map (core_set index) state.items.items) ∷ []
+states_more index g states i state within is =
+    ap (item_rows g) (map-take_more (state_of index) states i state within is)
+    ∙ map-append (λ (x : StateOf). items_of_cores (tokens_len g) x.cores) (map (state_of index) (take i states)) (state_of index state ∷ [])

@@ -1,12 +1,12 @@
 -- Rows that are sorted and searched.
-use Rattle.std.proofs.Common.{◌≡◌, ◌+◌, ◌-◌, ◌++◌, ◌∷◌, ◌↔◌, ℕ, Bor, List, [], Option, Some, None, slice_get, length, slice_index_or, IsTrue, Bool, true, false, refl, sym, ◌∙◌, subst, inl, inr, arith, Ok, Err, Result}
+use Rattle.std.proofs.Common.{◌≡◌, ◌<◌, ◌+◌, ◌-◌, ◌++◌, ◌∷◌, ◌↔◌, ℕ, Bor, List, [], Option, Some, None, slice_get, length, slice_index_or, IsTrue, Bool, true, false, refl, sym, ◌∙◌, subst, inl, inr, arith, Ok, Err, Result, MatchOption}
 use Rattle.std.specs.Cmp.{IsTotalOrder, IsEquivalence, Equal-is}
 use Rattle.std.specs.List.{Contains}
 use Rattle.std.specs.List.Sorted.{IsStrictlySortedBy, IsSorted, IsBinarySearchResult, IsSearchInRange, IsPermutation, IsPartitionPoint}
 use Rattle.std.specs.List.Retain.{IsFiltered, DiffersFromLast}
 use Rattle.std.specs.Option.{option_copied, option_eq}
 use Rattle.std.specs.Ordering.{is_lt, eq_by_cmp}
-use Rattle.std.specs.Result.{is_ok}
+use Rattle.std.specs.Result.{is_ok, result_ok}
 use Rattle.std.specs.declared.cmp.Ordering.{Ordering}
 use Rattle.std.specs.declared.cmp.Ordering.TheVariants.{Less, Equal, Greater}
 use Rattle.std.proofs.lemmas.Bool.{cases_lt}
@@ -17,7 +17,7 @@ use Rattle.std.proofs.lemmas.List.Sorted.{searchable_from_sorted, Contains-permu
 use Rattle.std.proofs.lemmas.List.Filters.{dedup_is}
 use Rattle.std.proofs.lemmas.List.Kept.{Contains-dedup, Contains-from_dedup, IsStrictlySortedBy-dedup}
 use Rattle.std.proofs.lemmas.Map.Keys.{Less-from_sorted}
-use Rattle.lrpar_table_rows.specs.Ascending.{ComparesExactly, HaveSame, IsAscending}
+use Rattle.lrpar_table_rows.specs.Ascending.{ComparesExactly, HaveSame, IsAscending, IsOnlyPlace}
 
 -- what comes after isn't less
 after_not_less : {X : Type 0} {R : X → X → Ordering} → IsTotalOrder R → (x y : X) → R x y ≡ Less → is_lt (R y x) ≡ false
@@ -83,3 +83,30 @@ same_from_last E exact xs (Some last) more r read reported passed =
             )
           ],
     )
+
+-- an element is at one place alone
+only_place : {X : Type 0} {R : X → X → Ordering} → IsTotalOrder R → (xs : List X) (x : X) (i : ℕ) → IsStrictlySortedBy R xs → i < length xs
+    → slice_index_or xs i x ≡ x → (k : ℕ) → k < length xs → slice_index_or xs k x ≡ x → k ≡ i
+only_place {X} {R} o xs x i sorted within is k below at =
+    let tied : R x x ≡ Equal = tied_itself o x in
+    elim (cases_lt k i) as (λ _. k ≡ i) [
+      | inl before ↦
+          let less : R (slice_index_or xs k x) (slice_index_or xs i x) ≡ Less = Less-from_sorted R xs k i x sorted before within in
+          let same : R x x ≡ Less = subst (λ (y : X). R y x ≡ Less) at (subst (λ (y : X). R (slice_index_or xs k x) y ≡ Less) is less) in absurd (cc)
+      | inr from ↦
+          elim (cases_lt i k) as (λ _. k ≡ i) [
+            | inl after ↦
+                let less : R (slice_index_or xs i x) (slice_index_or xs k x) ≡ Less = Less-from_sorted R xs i k x sorted after below in
+                let same : R x x ≡ Less = subst (λ (y : X). R y x ≡ Less) is (subst (λ (y : X). R (slice_index_or xs i x) y ≡ Less) at less) in absurd (cc)
+            | inr upto ↦ omega (arith, from, upto)
+          ]
+    ]
+
+-- a binary search finds the place of what is there
+pub place_in_row : {X : Type 0} {R : X → X → Ordering} → IsTotalOrder R → (xs : List X) (x : X) (r : Result ℕ ℕ) → IsAscending R xs
+    → IsSearchInRange r (length xs) → IsBinarySearchResult (λ y. R y x) xs r → MatchOption (result_ok r) (¬ (Contains xs x)) (IsOnlyPlace xs x)
+place_in_row o xs x (Ok i) row within found =
+    let is = row.exact (slice_index_or xs i x) x (found x) in
+    record { within = within; is = is; only = only_place o xs x i row.sorted within is }
+place_in_row {R = R} o xs x (Err i) row within parted =
+    λ h. not_here o xs x i (parted (searchable_from_sorted o (λ y. y) xs x (sorted_from_strict o xs row.sorted))) h

@@ -13,3 +13,4 @@ pub mod TestLemmas
 pub mod FaultLemmas
 pub mod StoredLemmas
 pub mod PackedLemmas
+pub mod RunLemmas

@@ -1,5 +1,5 @@
 -- Rows in ascending order.
-use Rattle.std.specs.Prelude.{◌≡◌, ◌↔◌, List}
+use Rattle.std.specs.Prelude.{◌≡◌, ◌<◌, ◌↔◌, ℕ, List, length, slice_index_or}
 use Rattle.std.specs.List.{Contains}
 use Rattle.std.specs.List.Sorted.{IsStrictlySortedBy}
 use Rattle.std.specs.declared.cmp.Ordering.{Ordering}
@@ -17,3 +17,9 @@ pub record IsAscending {X : Type 0} (cmp : X → X → Ordering) (xs : List X) :
 -- the same elements, in any order and each any number of times
 abbrev pub HaveSame : {X : Type 0} → List X → List X → Type 0
 HaveSame {X} xs ys = (x : X) → Contains xs x ↔ Contains ys x
+
+-- the element is at the place, and at no other
+pub record IsOnlyPlace {X : Type 0} (xs : List X) (x : X) (place : ℕ) : Type 0 where
+  pub within : place < length xs
+  pub is : slice_index_or xs place x ≡ x
+  pub only : (k : ℕ) → k < length xs → slice_index_or xs k x ≡ x → k ≡ place

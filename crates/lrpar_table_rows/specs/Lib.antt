@@ -12,3 +12,4 @@ pub mod PlainRows
 pub mod PlainTable
 pub mod PlainItems
 pub mod Ascending
+pub mod Runs

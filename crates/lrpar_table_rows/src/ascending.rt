@@ -1,8 +1,8 @@
 //! Rows in ascending order, each element once.
-ghost use Rattle.std.specs.Prelude.{◌≡◌, ◌↔◌, ◌∷◌, ◌++◌, [], true, IsTrue, OnOk};
+ghost use Rattle.std.specs.Prelude.{◌≡◌, ◌↔◌, ◌∷◌, ◌++◌, [], true, IsTrue, MatchOption, OnOk};
 ghost use Rattle.std.specs.List.{Contains};
 ghost use Rattle.std.specs.List.Sorted.{IsStrictlySortedBy};
-ghost use Rattle.lrpar_table_rows.specs.Ascending.{ComparesExactly, HaveSame};
+ghost use Rattle.lrpar_table_rows.specs.Ascending.{ComparesExactly, HaveSame, IsOnlyPlace};
 
 use std::alloc::AllocError;
 use std::marker::Model;
@@ -29,6 +29,7 @@ impl<T: Ord + Drop> Ascending<T> {
     pub(crate) fn from_vec(elements: Vec<T>) -> Self
         requires exact { ComparesExactly T.cmp }
         ensures same { HaveSame result elements.items }
+        ensures sorted { IsStrictlySortedBy T.cmp result }
     {
         let mut elements = elements;
         elements.sort_unstable();
@@ -41,6 +42,13 @@ impl<T: Ord + Drop> Ascending<T> {
         ensures found { IsTrue result ↔ Contains self.now element.now }
     {
         self.elements.binary_search(element).is_ok()
+    }
+
+    /// The place of the element, if the row has it: a binary search.
+    pub(crate) fn place(&self, element: &T) -> Option<usize>
+        ensures { MatchOption result (¬ (Contains self.now element.now)) (IsOnlyPlace self.now element.now) }
+    {
+        self.elements.binary_search(element).ok()
     }
 
     /// The elements, ascending.

@@ -1,14 +1,16 @@
 //! State graphs: the sets of LR(1) items of the states of an LR automaton.
-ghost use Rattle.std.specs.Prelude.{◌≡◌, ◌<◌, ◌≤◌, ◌↔◌, ℕ, IsTrue, IfOk, IsErrOf, length, map};
+ghost use Rattle.std.specs.Prelude.{◌≡◌, ◌<◌, ◌≤◌, ◌↔◌, ℕ, IsTrue, IfErr, IfOk, IsErrOf, length, map};
 ghost use Rattle.std.specs.List.{Contains, AllZip};
 ghost use Rattle.std.specs.List.Sorted.{IsStrictlySortedBy};
+ghost use Rattle.std.specs.Ordering.{nat_cmp};
 ghost use Rattle.lrpar_table_rows.specs.Ascending.{HaveSame};
 ghost use Rattle.lrpar_table_rows.specs.Graph.{HasCore, HasItem, core_cmp, graph_len, item_cmp, items_of};
-ghost use Rattle.lrpar_table_rows.specs.PlainItems.{core_of, item_of, graph_of_rows};
+ghost use Rattle.lrpar_table_rows.specs.PlainItems.{core_of, graph_of_rows};
+ghost use Rattle.lrpar_table_rows.specs.declared.fault.TableFault.{TableFault};
 
 use crate::fault::TableFault;
-use crate::items::ItemSet;
-pub use crate::items::{Core, Item};
+pub use crate::item_iter::Items;
+pub use crate::items::{Core, CoreRow, Item, ItemSet};
 use crate::numbers::can_number;
 use lrpar_grammar::span::{PIdx, StIdx, StorageIndex, TIdx};
 use std::alloc::{AllocError, Global};
@@ -45,7 +47,8 @@ impl<StorageT: StorageIndex> StateGraph<StorageT> {
     ///
     /// It returns `BadIndex` exactly if there are more states than `StorageT` has numbers, before any allocation, and
     /// `Memory` if an allocation fails. The rows are moved in and sorted in place, in O(n log n) for n items. Besides them
-    /// the graph stores each core once, and once more if its dot isn't at the start. After an `Err` the rows are dropped.
+    /// the graph stores each core once, with the run of its lookaheads, and once more if its dot isn't at the start. After an `Err` the
+    /// rows are dropped.
     pub fn from_rows(
         alloc: Global,
         rows: Vec<Vec<(PIdx<StorageT>, usize, TIdx<StorageT>)>>,
@@ -63,6 +66,20 @@ impl<StorageT: StorageIndex> StateGraph<StorageT> {
         }
     }
 
+    /// The graph of these sets: for each state, by its number, its items. It returns `BadIndex` if there are more states than
+    /// `StorageT` has numbers. No memory is allocated.
+    pub fn from_sets(sets: Vec<ItemSet<StorageT>>) -> Result<Self, TableFault>
+        ensures made { IfOk result (λ graph. graph ≡ sets.items) }
+        ensures refused { IfErr result (λ fault. fault ≡ TableFault.BadIndex) }
+        ensures exact { IsErrOf result TableFault.BadIndex ↔ (StorageT.limit < length sets.items) }
+    {
+        if can_number::<StorageT>(sets.len()) {
+            Ok(StateGraph { sets })
+        } else {
+            Err(TableFault::BadIndex)
+        }
+    }
+
     /// The number of states.
     pub fn states_len(&self) -> usize
         ensures states { result ≡ graph_len self.now }
@@ -72,7 +89,7 @@ impl<StorageT: StorageIndex> StateGraph<StorageT> {
     }
 
     /// Whether state `s` has the LR(1) item of production `p` with `dot` symbols before the dot and lookahead `t`. A state
-    /// out of range has none. It is a binary search, in O(log n) for the state's n items.
+    /// out of range has none. It is a binary search for the core, and one for the lookahead, in O(log n) for the state's n items.
     pub fn has_item(
         &self,
         s: StIdx<StorageT>,
@@ -100,12 +117,25 @@ impl<StorageT: StorageIndex> StateGraph<StorageT> {
     }
 
     /// The LR(1) items of state `s`, ascending, each once.
-    pub fn items(&self, s: StIdx<StorageT>) -> &[Item<StorageT>]
+    pub fn items(&self, s: StIdx<StorageT>) -> Items<'_, StorageT>
         requires { StorageT.index s.0 < graph_len self.now }
-        ensures all { map (item_of StorageT.index) result.now ≡ items_of self.now (StorageT.index s.0) }
+        ensures all { result ≡ items_of self.now (StorageT.index s.0) }
         ensures ascending { IsStrictlySortedBy item_cmp (items_of self.now (StorageT.index s.0)) }
     {
         self.sets[usize::from(s)].items()
+    }
+
+    /// The lookaheads of the LR(1) items of state `s` with the LR(0) core of production `p` with `dot` symbols before the dot,
+    /// ascending, each once. A state out of range has none. It is a binary search for the core.
+    pub fn lookaheads(&self, s: StIdx<StorageT>, p: PIdx<StorageT>, dot: usize) -> &[TIdx<StorageT>]
+        ensures all { (t : ℕ) → Contains (map (λ token. StorageT.index token.0) result.now) t
+            ↔ HasItem self.now (StorageT.index s.0) (StorageT.index p.0) dot t }
+        ensures ascending { IsStrictlySortedBy nat_cmp (map (λ token. StorageT.index token.0) result.now) }
+    {
+        match self.sets.get(usize::from(s)) {
+            Some(set) => set.lookaheads(p, dot),
+            None => &[],
+        }
     }
 
     /// The LR(0) cores of the items of state `s`, ascending, each once.

@@ -1,12 +1,16 @@
-//! The LR(1) items of one state, their LR(0) cores, and the cores of the kernel items.
-ghost use Rattle.std.specs.Prelude.{◌≡◌, ◌<◌, ◌↔◌, ℕ, IsTrue, IfOk, map};
+//! The LR(1) items of one state: its LR(0) cores, each with the run of its lookaheads.
+ghost use Rattle.std.specs.Prelude.{◌≡◌, ◌<◌, ◌↔◌, ℕ, [], All, IsTrue, IfOk, length, map};
 ghost use Rattle.std.specs.List.{Contains};
 ghost use Rattle.std.specs.List.Sorted.{IsStrictlySortedBy};
+ghost use Rattle.std.specs.Ordering.{nat_cmp};
 ghost use Rattle.lrpar_table_rows.specs.Ascending.{HaveSame};
 ghost use Rattle.lrpar_table_rows.specs.Graph.{AreWithCore, core_cmp, item_at, item_cmp};
-ghost use Rattle.lrpar_table_rows.specs.PlainItems.{AreBegunOf, AreCoresOf, core_of, item_of, row_of};
+ghost use Rattle.lrpar_table_rows.specs.PlainItems.{AreCoresOf, core_of, item_of, row_of};
+ghost use Rattle.lrpar_table_rows.specs.Runs.{run_items, set_of_rows};
 
-use crate::ascending::{Ascending, push_new};
+use crate::ascending::Ascending;
+use crate::item_iter::Items;
+use crate::runs::{begun_of, cores_of, cores_of_rows, runs_of, runs_of_rows};
 use lrpar_grammar::span::{PIdx, StorageIndex, TIdx};
 use std::alloc::{AllocError, Global};
 use std::marker::Model;
@@ -17,46 +21,75 @@ pub type Item<StorageT> = (PIdx<StorageT>, usize, TIdx<StorageT>);
 /// The LR(0) core of an item: its production, and how many of its symbols are before the dot.
 pub type Core<StorageT> = (PIdx<StorageT>, usize);
 
-/// The items of a state, their cores, and the cores of the kernel items: those whose dot isn't at the start.
+/// The items of a core: its production, how many of its symbols are before the dot, and the items' lookaheads.
+pub type CoreRow<StorageT> = (PIdx<StorageT>, usize, Vec<TIdx<StorageT>>);
+
+/// The items of a state. Each of their cores is stored once, with the run of its lookaheads; and once more if its dot isn't at
+/// the start.
 #[derive(Debug, Drop)]
-pub(crate) struct ItemSet<StorageT: StorageIndex> {
-    items: Ascending<Item<StorageT>>,
+pub struct ItemSet<StorageT: StorageIndex> {
     cores: Ascending<Core<StorageT>>,
+    runs: Vec<Ascending<TIdx<StorageT>>>,
     begun: Ascending<Core<StorageT>>,
 }
 
 impl<StorageT: StorageIndex> Model for ItemSet<StorageT> {
     ghost use Rattle.std.specs.Prelude.{List, map};
     ghost use Rattle.lrpar_table_rows.specs.Graph.{ItemOf};
-    ghost use Rattle.lrpar_table_rows.specs.PlainItems.{AreBegunOf, AreCoresOf, item_of};
+    ghost use Rattle.lrpar_table_rows.specs.PlainItems.{item_of};
+    ghost use Rattle.lrpar_table_rows.specs.Runs.{IsSet, run_items};
 
     ghost Value = { List ItemOf };
 
-    ghost view = { λ set. map (item_of StorageT.index) set.items };
+    ghost view = { λ set. map (item_of StorageT.index) (run_items set.cores set.runs.items) };
 
-    ghost invariant = { λ set. AreCoresOf set.items set.cores × AreBegunOf set.cores set.begun };
+    ghost invariant = { λ set. IsSet StorageT.index set.cores set.runs.items set.begun };
 }
 
 impl<StorageT: StorageIndex> ItemSet<StorageT> {
-    /// The set of the row's items. The row is sorted in place; memory is allocated for the cores.
+    /// The set of the items of these rows, each a core with lookaheads: rows, and the lookaheads of a row, in any order, repeated
+    /// or not. A row without lookaheads has no items. What is out of range of any grammar is kept as it is.
+    pub fn from_rows(alloc: Global, rows: &[CoreRow<StorageT>]) -> Result<Self, AllocError>
+        ensures same { IfOk result (λ set. HaveSame set (set_of_rows StorageT.index rows.now)) }
+    {
+        let cores = cores_of_rows(alloc, rows)?;
+        let runs = runs_of_rows(alloc, &cores, rows)?;
+        ItemSet::from_parts(alloc, cores, runs)
+    }
+
+    /// The set of the row's items. The row is sorted in place; memory is allocated for the cores and their runs.
     pub(crate) fn from_row(alloc: Global, row: Vec<Item<StorageT>>) -> Result<Self, AllocError>
         ensures same { IfOk result (λ set. HaveSame set (row_of StorageT.index row)) }
     {
         let items = Ascending::from_vec(row);
         let cores = cores_of(alloc, items.as_slice())?;
-        let begun = begun_of(alloc, cores.as_slice())?;
-        Ok(ItemSet {
-            items,
-            cores,
-            begun,
-        })
+        let runs = runs_of(alloc, &cores, items.as_slice())?;
+        ItemSet::from_parts(alloc, cores, runs)
     }
 
-    /// Whether the item is in the set: a binary search.
+    // The set of these cores with these runs.
+    fn from_parts(
+        alloc: Global,
+        cores: Ascending<Core<StorageT>>,
+        runs: Vec<Ascending<TIdx<StorageT>>>,
+    ) -> Result<Self, AllocError>
+        requires paired { length runs.items ≡ length cores }
+        requires cores { AreCoresOf (run_items cores runs.items) cores }
+        requires sorted { All (λ run. IsStrictlySortedBy nat_cmp (map (λ token. StorageT.index token.0) run)) runs.items }
+        ensures { IfOk result (λ set. set ≡ map (item_of StorageT.index) (run_items cores runs.items)) }
+    {
+        let begun = begun_of(alloc, cores.as_slice())?;
+        Ok(ItemSet { cores, runs, begun })
+    }
+
+    /// Whether the item is in the set: a binary search for its core, and one for its lookahead.
     pub(crate) fn has_item(&self, prod: PIdx<StorageT>, dot: usize, token: TIdx<StorageT>) -> bool
         ensures found { IsTrue result ↔ Contains self.now (item_at (StorageT.index prod.0) dot (StorageT.index token.0)) }
     {
-        self.items.contains(&(prod, dot, token))
+        match self.cores.place(&(prod, dot)) {
+            Some(place) => self.runs[place].contains(&token),
+            None => false,
+        }
     }
 
     /// Whether an item of the set has the core: a binary search.
@@ -66,12 +99,24 @@ impl<StorageT: StorageIndex> ItemSet<StorageT> {
         self.cores.contains(&(prod, dot))
     }
 
+    /// The lookaheads of the items with the core, ascending, each once.
+    pub(crate) fn lookaheads(&self, prod: PIdx<StorageT>, dot: usize) -> &[TIdx<StorageT>]
+        ensures all { (t : ℕ) → Contains (map (λ token. StorageT.index token.0) result.now) t
+            ↔ Contains self.now (item_at (StorageT.index prod.0) dot t) }
+        ensures ascending { IsStrictlySortedBy nat_cmp (map (λ token. StorageT.index token.0) result.now) }
+    {
+        match self.cores.place(&(prod, dot)) {
+            Some(place) => self.runs[place].as_slice(),
+            None => &[],
+        }
+    }
+
     /// The items, ascending, each once.
-    pub(crate) fn items(&self) -> &[Item<StorageT>]
-        ensures all { map (item_of StorageT.index) result.now ≡ self.now }
+    pub(crate) fn items(&self) -> Items<'_, StorageT>
+        ensures all { result ≡ self.now }
         ensures ascending { IsStrictlySortedBy item_cmp self.now }
     {
-        self.items.as_slice()
+        Items::new(self.cores.as_slice(), &self.runs)
     }
 
     /// The cores, ascending, each once.
@@ -89,34 +134,4 @@ impl<StorageT: StorageIndex> ItemSet<StorageT> {
     {
         self.begun.as_slice()
     }
-}
-
-/// The cores of the items.
-fn cores_of<StorageT: StorageIndex>(
-    alloc: Global,
-    items: &[Item<StorageT>],
-) -> Result<Ascending<Core<StorageT>>, AllocError>
-    ensures { IfOk result (λ cores. AreCoresOf items.now cores) }
-{
-    let mut cores: Vec<Core<StorageT>> = Vec::new(alloc);
-    for item in items {
-        push_new(&mut cores, (item.0, item.1))?;
-    }
-    Ok(Ascending::from_vec(cores))
-}
-
-/// The cores of the kernel items: those whose dot isn't at the start.
-fn begun_of<StorageT: StorageIndex>(
-    alloc: Global,
-    cores: &[Core<StorageT>],
-) -> Result<Ascending<Core<StorageT>>, AllocError>
-    ensures { IfOk result (λ begun. AreBegunOf cores.now begun) }
-{
-    let mut begun: Vec<Core<StorageT>> = Vec::new(alloc);
-    for core in cores {
-        if core.1 > 0 {
-            begun.push(*core)?;
-        }
-    }
-    Ok(Ascending::from_vec(begun))
 }

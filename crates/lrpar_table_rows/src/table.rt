@@ -12,7 +12,7 @@ pub use crate::conflicts::Conflicts;
 use crate::entries::Entries;
 pub use crate::fault::TableFault;
 use crate::full::{are_rows, stored_actions, stored_gotos};
-pub use crate::graph::{Core, Item, StateGraph};
+pub use crate::graph::{Core, CoreRow, Item, ItemSet, Items, StateGraph};
 pub use crate::resolved::{Resolved, ResolvedConflict};
 pub use crate::rows::{Action, SparseRows, TableRows};
 use crate::sparse::is_sparse_table;

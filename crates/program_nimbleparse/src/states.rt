@@ -46,17 +46,17 @@ fn push_kernel(
 {
     let mut last = None;
     for (prod, dot, token) in sgraph.items(state) {
-        if *dot == 0 && *prod != grm.start_prod() {
+        if dot == 0 && prod != grm.start_prod() {
             continue;
         }
-        if last == Some((*prod, *dot)) {
+        if last == Some((prod, dot)) {
             out.push_str(", ")?;
         } else {
             out.push_str(before_item(last.is_some()))?;
-            push_core(out, grm, *prod, *dot)?;
-            last = Some((*prod, *dot));
+            push_core(out, grm, prod, dot)?;
+            last = Some((prod, dot));
         }
-        push_token(out, grm, *token)?;
+        push_token(out, grm, token)?;
     }
     out.push_str("}]\n")
 }

@@ -84,9 +84,9 @@ fn push_items<S: StorageIndex>(
     let mut line = Entries::new("items", usize::from(state));
     for (prod, dot, token) in graph.items(state) {
         line.begin(out);
-        out.number(" ", usize::from(*prod));
-        out.number(".", *dot);
-        push_token(out, grm, *token);
+        out.number(" ", usize::from(prod));
+        out.number(".", dot);
+        push_token(out, grm, token);
     }
     line.end(out);
 }

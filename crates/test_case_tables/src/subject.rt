@@ -226,15 +226,25 @@ fn goto_at(table: &StateTable<u32>, state: StIdx<u32>, rule: usize) -> Option<St
 fn items_of(alloc: Global, graph: &StateGraph<u32>) -> Result<Vec<Vec<Item<u32>>>, Fault> {
     let mut rows = Vec::new(alloc);
     for number in 0..graph.states_len() {
-        rows.push(Vec::from_slice(alloc, items_at(graph, number))?)?;
+        rows.push(items_at(alloc, graph, number)?)?;
     }
     Ok(rows)
 }
 
 // The items of the state of this number.
-fn items_at(graph: &StateGraph<u32>, number: usize) -> &[Item<u32>] {
+fn items_at(
+    alloc: Global,
+    graph: &StateGraph<u32>,
+    number: usize,
+) -> Result<Vec<Item<u32>>, Fault> {
+    let mut row = Vec::new(alloc);
     match u32::try_from(number) {
-        Ok(state) if number < graph.states_len() => graph.items(StIdx(state)),
-        _ => &[],
+        Ok(state) if number < graph.states_len() => {
+            for item in graph.items(StIdx(state)) {
+                row.push(item)?;
+            }
+        }
+        _ => {}
     }
+    Ok(row)
 }

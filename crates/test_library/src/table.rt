@@ -24,7 +24,15 @@ fn built(rt: &impl Abort, alloc: Global, text: &str) -> (StateGraph<u8>, StateTa
 
 // Whether the graph lists the item in the state. A state out of range has none.
 fn lists(graph: &StateGraph<u8>, state: u8, item: Item<u8>) -> bool {
-    usize::from(state) < graph.states_len() && graph.items(StIdx(state)).contains(&item)
+    if usize::from(state) >= graph.states_len() {
+        return false;
+    }
+    for other in graph.items(StIdx(state)) {
+        if other == item {
+            return true;
+        }
+    }
+    false
 }
 
 // Whether the graph has, at this production and dot of the state, the items that it lists and no others, and the core if it has one.

@@ -3,8 +3,7 @@ ghost use Rattle.std.specs.Prelude.{◌≡◌, ◌≢◌, ◌<◌, ◌≤◌, �
 ghost use Rattle.lrpar_grammar.specs.Grammar.{Nonterminal, Terminal, prod_len, prods_len, rule_of, rules_len, symbols_of, tokens_len};
 ghost use Rattle.lrpar_table_first.specs.FirstRows.{HoldNothing, dummy_lookahead, row_at, rows_of};
 ghost use Rattle.lrpar_grammar.specs.Tokens.{has};
-ghost use Rattle.lrpar_table_rows.specs.Graph.{HasItem, item_at};
-ghost use Rattle.lrpar_table_rows.specs.PlainItems.{item_of};
+ghost use Rattle.lrpar_table_rows.specs.Graph.{HasItem, item_at, items_of};
 ghost use Rattle.lrpar_table_rows.specs.Safe.{IsItem};
 ghost use Rattle.lrpar_table_rows.specs.Table.{action_of, states_len};
 ghost use Rattle.lrpar_table_conditions.specs.Complete.{CarriesItem, EndsItem, ShiftsItem, StepsOn};
@@ -16,7 +15,7 @@ use lrpar_grammar::span::{PIdx, RIdx, StIdx, StorageIndex, Symbol, TIdx};
 use lrpar_grammar::token_set::TokenSet;
 use lrpar_table_first::after_dot::rule_after;
 use lrpar_table_first::first::add_first_before;
-use lrpar_table_rows::table::{Action, Item};
+use lrpar_table_rows::table::Action;
 
 impl<'a, StorageT: StorageIndex> Completeness<'a, StorageT> {
     // C2, closure: if a rule is after the dot, with the symbols w after it, whether the state has an item with dot 0 for each of its
@@ -25,23 +24,23 @@ impl<'a, StorageT: StorageIndex> Completeness<'a, StorageT> {
         &self,
         pidx: PIdx<StorageT>,
         dot: usize,
-        items: &[Item<StorageT>],
+        tokens: &[TIdx<StorageT>],
         sets: &mut WorkSets,
     ) -> bool
         requires known { IsKnown self.now.grm.now self.now.sgraph.now self.now.stable.now (rows_of self.now.firsts.now) }
         requires prod { StorageT.index pidx.0 < prods_len self.now.grm.now }
         requires dot { dot ≤ prod_len self.now.grm.now (StorageT.index pidx.0) }
-        requires tokens { All (λ t. t < tokens_len self.now.grm.now) (lookaheads_of StorageT.index items.now) }
+        requires tokens { All (λ t. t < tokens_len self.now.grm.now) (lookaheads_of StorageT.index tokens.now) }
         requires room { HaveRoomFor self.now.grm.now sets.old }
         ensures room { HaveRoomFor self.now.grm.now sets.new }
         ensures kept { sets.new.starts.items ≡ sets.old.starts.items }
         ensures test { IsTrue result ↔ All (ClosesAmong self.now.grm.now (rows_of sets.old.starts.items) (StorageT.index pidx.0) dot)
-            (lookaheads_of StorageT.index items.now) }
+            (lookaheads_of StorageT.index tokens.now) }
     {
         match rule_after(self.grm, pidx, dot) {
             None => true,
             Some((rule, rest)) => {
-                put_lookaheads(items, &mut sets.after);
+                put_lookaheads(tokens, &mut sets.after);
                 sets.begun.clear();
                 add_first_before(
                     self.grm,
@@ -75,16 +74,17 @@ impl<'a, StorageT: StorageIndex> Completeness<'a, StorageT> {
         true
     }
 
-    // Adds to each production's set, which is empty, the lookaheads of its items with dot 0.
-    pub(super) fn put_starts(&self, items: &[Item<StorageT>], starts: &mut [TokenSet])
-        requires items { All (λ item. IsItem self.now.grm.now (StorageT.index item.0.0) item.1 (StorageT.index item.2.0)) items.now }
+    // Adds to each production's set, which is empty, the lookaheads of the state's items with dot 0.
+    pub(super) fn put_starts(&self, s: StIdx<StorageT>, starts: &mut [TokenSet])
+        requires known { IsKnown self.now.grm.now self.now.sgraph.now self.now.stable.now (rows_of self.now.firsts.now) }
+        requires state { StorageT.index s.0 < states_len self.now.stable.now }
         requires room { HaveStarts self.now.grm.now (rows_of starts.old) }
         requires none { HoldNothing (rows_of starts.old) }
         ensures room { HaveStarts self.now.grm.now (rows_of starts.new) }
-        ensures starts { AreStartsOf (map (item_of StorageT.index) items.now) (rows_of starts.new) }
+        ensures starts { AreStartsOf (items_of self.now.sgraph.now (StorageT.index s.0)) (rows_of starts.new) }
     {
-        for (pidx, dot, token) in items {
-            self.put_start(*pidx, *dot, *token, starts);
+        for (pidx, dot, token) in self.sgraph.items(s) {
+            self.put_start(pidx, dot, token, starts);
         }
     }
 
@@ -109,16 +109,17 @@ impl<'a, StorageT: StorageIndex> Completeness<'a, StorageT> {
         starts[prod].insert(usize::from(token));
     }
 
-    // Removes the lookaheads of the items with dot 0 from the sets, which are then empty.
-    pub(super) fn take_starts(&self, items: &[Item<StorageT>], starts: &mut [TokenSet])
-        requires items { All (λ item. IsItem self.now.grm.now (StorageT.index item.0.0) item.1 (StorageT.index item.2.0)) items.now }
+    // Removes the lookaheads of the state's items with dot 0 from the sets, which are then empty.
+    pub(super) fn take_starts(&self, s: StIdx<StorageT>, starts: &mut [TokenSet])
+        requires known { IsKnown self.now.grm.now self.now.sgraph.now self.now.stable.now (rows_of self.now.firsts.now) }
+        requires state { StorageT.index s.0 < states_len self.now.stable.now }
         requires room { HaveStarts self.now.grm.now (rows_of starts.old) }
-        requires starts { AreStartsOf (map (item_of StorageT.index) items.now) (rows_of starts.old) }
+        requires starts { AreStartsOf (items_of self.now.sgraph.now (StorageT.index s.0)) (rows_of starts.old) }
         ensures room { HaveStarts self.now.grm.now (rows_of starts.new) }
         ensures none { HoldNothing (rows_of starts.new) }
     {
-        for (pidx, dot, token) in items {
-            self.take_start(*pidx, *dot, *token, starts);
+        for (pidx, dot, token) in self.sgraph.items(s) {
+            self.take_start(pidx, dot, token, starts);
         }
     }
 
@@ -149,17 +150,17 @@ impl<'a, StorageT: StorageIndex> Completeness<'a, StorageT> {
         s: StIdx<StorageT>,
         pidx: PIdx<StorageT>,
         dot: usize,
-        items: &[Item<StorageT>],
+        tokens: &[TIdx<StorageT>],
     ) -> bool
         requires known { IsKnown self.now.grm.now self.now.sgraph.now self.now.stable.now (rows_of self.now.firsts.now) }
         requires state { StorageT.index s.0 < states_len self.now.stable.now }
         requires prod { StorageT.index pidx.0 < prods_len self.now.grm.now }
-        requires some { 0 < length items.now }
+        requires some { 0 < length tokens.now }
         ensures { IsTrue result ↔ All (ShiftsItem self.now.grm.now self.now.sgraph.now self.now.stable.now (StorageT.index s.0) (StorageT.index pidx.0) dot)
-            (lookaheads_of StorageT.index items.now) }
+            (lookaheads_of StorageT.index tokens.now) }
     {
         match self.token_after(pidx, dot) {
-            Some(token) => self.shifts_to(s, token, pidx, dot, items),
+            Some(token) => self.shifts_to(s, token, pidx, dot, tokens),
             None => true,
         }
     }
@@ -186,18 +187,18 @@ impl<'a, StorageT: StorageIndex> Completeness<'a, StorageT> {
         token: TIdx<StorageT>,
         pidx: PIdx<StorageT>,
         dot: usize,
-        items: &[Item<StorageT>],
+        tokens: &[TIdx<StorageT>],
     ) -> bool
         requires state { StorageT.index s.0 < states_len self.now.stable.now }
         requires token { StorageT.index token.0 < self.now.stable.now.tokens }
-        requires some { 0 < length items.now }
+        requires some { 0 < length tokens.now }
         requires prod { StorageT.index pidx.0 < prods_len self.now.grm.now }
         requires dot { dot < prod_len self.now.grm.now (StorageT.index pidx.0) }
         ensures { IsTrue result ↔ All (StepsOn self.now.sgraph.now self.now.stable.now (StorageT.index s.0) (Terminal (StorageT.index token.0)) (StorageT.index pidx.0) dot)
-            (lookaheads_of StorageT.index items.now) }
+            (lookaheads_of StorageT.index tokens.now) }
     {
         match self.stable.action(s, token) {
-            Action::Shift(next) => self.has_advanced(next, pidx, dot, items),
+            Action::Shift(next) => self.has_advanced(next, pidx, dot, tokens),
             _ => false,
         }
     }
@@ -208,18 +209,18 @@ impl<'a, StorageT: StorageIndex> Completeness<'a, StorageT> {
         s: StIdx<StorageT>,
         pidx: PIdx<StorageT>,
         dot: usize,
-        items: &[Item<StorageT>],
+        tokens: &[TIdx<StorageT>],
     ) -> bool
         requires known { IsKnown self.now.grm.now self.now.sgraph.now self.now.stable.now (rows_of self.now.firsts.now) }
         requires state { StorageT.index s.0 < states_len self.now.stable.now }
         requires prod { StorageT.index pidx.0 < prods_len self.now.grm.now }
         requires dot { dot ≤ prod_len self.now.grm.now (StorageT.index pidx.0) }
-        requires some { 0 < length items.now }
+        requires some { 0 < length tokens.now }
         ensures { IsTrue result ↔ All (CarriesItem self.now.grm.now self.now.sgraph.now self.now.stable.now (StorageT.index s.0) (StorageT.index pidx.0) dot)
-            (lookaheads_of StorageT.index items.now) }
+            (lookaheads_of StorageT.index tokens.now) }
     {
         match rule_after(self.grm, pidx, dot) {
-            Some((rule, _)) => self.goes_to(s, rule, pidx, dot, items),
+            Some((rule, _)) => self.goes_to(s, rule, pidx, dot, tokens),
             None => true,
         }
     }
@@ -231,41 +232,41 @@ impl<'a, StorageT: StorageIndex> Completeness<'a, StorageT> {
         rule: RIdx<StorageT>,
         pidx: PIdx<StorageT>,
         dot: usize,
-        items: &[Item<StorageT>],
+        tokens: &[TIdx<StorageT>],
     ) -> bool
         requires state { StorageT.index s.0 < states_len self.now.stable.now }
         requires rule { StorageT.index rule.0 < self.now.stable.now.rules }
-        requires some { 0 < length items.now }
+        requires some { 0 < length tokens.now }
         requires prod { StorageT.index pidx.0 < prods_len self.now.grm.now }
         requires dot { dot < prod_len self.now.grm.now (StorageT.index pidx.0) }
         ensures { IsTrue result ↔ All (StepsOn self.now.sgraph.now self.now.stable.now (StorageT.index s.0) (Nonterminal (StorageT.index rule.0)) (StorageT.index pidx.0) dot)
-            (lookaheads_of StorageT.index items.now) }
+            (lookaheads_of StorageT.index tokens.now) }
     {
         match self.stable.goto(s, rule) {
-            Some(next) => self.has_advanced(next, pidx, dot, items),
+            Some(next) => self.has_advanced(next, pidx, dot, tokens),
             None => false,
         }
     }
 
-    // Whether the state has the advanced items: with this production, the dot one further, and these items' lookaheads. They are
-    // neighbours if the state has the same lookaheads and no others, as most states of a built table do. So each is looked for at its
-    // place after the first one, and by a binary search if another item is there.
+    // Whether the state has the advanced items: with this production, the dot one further, and these lookaheads. If the state has
+    // the same lookaheads and no others, as most states of a built table do, each is at its own place there. So it is looked for
+    // at its place, and by a binary search if another one is there.
     fn has_advanced(
         &self,
         next: StIdx<StorageT>,
         pidx: PIdx<StorageT>,
         dot: usize,
-        items: &[Item<StorageT>],
+        tokens: &[TIdx<StorageT>],
     ) -> bool
         requires prod { StorageT.index pidx.0 < prods_len self.now.grm.now }
         requires dot { dot < prod_len self.now.grm.now (StorageT.index pidx.0) }
         ensures { IsTrue result ↔ All (HasItem self.now.sgraph.now (StorageT.index next.0) (StorageT.index pidx.0) (dot + 1))
-            (lookaheads_of StorageT.index items.now) }
+            (lookaheads_of StorageT.index tokens.now) }
     {
         let _symbols = self.grm.prod(pidx);
-        let near = self.items_from(next, pidx, dot + 1);
-        for place in 0..items.len() {
-            let (_, _, token) = items[place];
+        let near = self.sgraph.lookaheads(next, pidx, dot + 1);
+        for place in 0..tokens.len() {
+            let token = tokens[place];
             if !self.has_near(near.get(place), next, pidx, dot + 1, token) {
                 return false;
             }
@@ -273,38 +274,20 @@ impl<'a, StorageT: StorageIndex> Completeness<'a, StorageT> {
         true
     }
 
-    // Items of the state: if it has some with this production and this dot, those from the first of these on.
-    fn items_from(
-        &self,
-        s: StIdx<StorageT>,
-        pidx: PIdx<StorageT>,
-        dot: usize,
-    ) -> &'a [Item<StorageT>]
-        ensures { All (λ item. HasItem self.now.sgraph.now (StorageT.index s.0) (StorageT.index item.0.0) item.1 (StorageT.index item.2.0)) result.now }
-    {
-        if usize::from(s) >= self.sgraph.states_len() {
-            return &[];
-        }
-        let items = self.sgraph.items(s);
-        let core = (usize::from(pidx), dot);
-        let start = items.partition_point(|item| (usize::from(item.0), item.1) < core);
-        &items[start..]
-    }
-
-    // Whether the state has the item; `near` is one of the state's items, and may be this one.
+    // Whether the state has the item; `near` is a lookahead of one of the state's items with the same core, and may be this one.
     fn has_near(
         &self,
-        near: Option<&Item<StorageT>>,
+        near: Option<&TIdx<StorageT>>,
         s: StIdx<StorageT>,
         pidx: PIdx<StorageT>,
         dot: usize,
         token: TIdx<StorageT>,
     ) -> bool
-        requires { IfSome near (λ item. HasItem self.now.sgraph.now (StorageT.index s.0) (StorageT.index item.now.0.0) item.now.1 (StorageT.index item.now.2.0)) }
+        requires { IfSome near (λ other. HasItem self.now.sgraph.now (StorageT.index s.0) (StorageT.index pidx.0) dot (StorageT.index other.now.0)) }
         ensures found { IsTrue result ↔ HasItem self.now.sgraph.now (StorageT.index s.0) (StorageT.index pidx.0) dot (StorageT.index token.0) }
     {
         match near {
-            Some(item) if is_same(item, pidx, dot, token) => true,
+            Some(other) if usize::from(*other) == usize::from(token) => true,
             _ => self.sgraph.has_item(s, pidx, dot, token),
         }
     }
@@ -315,26 +298,26 @@ impl<'a, StorageT: StorageIndex> Completeness<'a, StorageT> {
         s: StIdx<StorageT>,
         pidx: PIdx<StorageT>,
         dot: usize,
-        items: &[Item<StorageT>],
+        tokens: &[TIdx<StorageT>],
     ) -> bool
         requires known { IsKnown self.now.grm.now self.now.sgraph.now self.now.stable.now (rows_of self.now.firsts.now) }
         requires state { StorageT.index s.0 < states_len self.now.stable.now }
         requires prod { StorageT.index pidx.0 < prods_len self.now.grm.now }
-        requires tokens { All (λ t. t < tokens_len self.now.grm.now) (lookaheads_of StorageT.index items.now) }
+        requires tokens { All (λ t. t < tokens_len self.now.grm.now) (lookaheads_of StorageT.index tokens.now) }
         ensures { IsTrue result ↔ All (EndsItem self.now.grm.now self.now.stable.now (StorageT.index s.0) (StorageT.index pidx.0) dot)
-            (lookaheads_of StorageT.index items.now) }
+            (lookaheads_of StorageT.index tokens.now) }
     {
-        dot != self.grm.prod(pidx).len() || self.ends_each(s, pidx, items)
+        dot != self.grm.prod(pidx).len() || self.ends_each(s, pidx, tokens)
     }
 
     // Whether the state ends the production at each of these items' lookaheads.
-    fn ends_each(&self, s: StIdx<StorageT>, pidx: PIdx<StorageT>, items: &[Item<StorageT>]) -> bool
+    fn ends_each(&self, s: StIdx<StorageT>, pidx: PIdx<StorageT>, tokens: &[TIdx<StorageT>]) -> bool
         requires state { StorageT.index s.0 < states_len self.now.stable.now }
-        requires tokens { All (λ t. t < self.now.stable.now.tokens) (lookaheads_of StorageT.index items.now) }
+        requires tokens { All (λ t. t < self.now.stable.now.tokens) (lookaheads_of StorageT.index tokens.now) }
         ensures { IsTrue result ↔ All (λ t. EndsBy self.now.grm.now (StorageT.index pidx.0) (action_of self.now.stable.now (StorageT.index s.0) t))
-            (lookaheads_of StorageT.index items.now) }
+            (lookaheads_of StorageT.index tokens.now) }
     {
-        for (_, _, token) in items {
+        for token in tokens {
             if !self.ends_at(s, pidx, *token) {
                 return false;
             }
@@ -357,28 +340,14 @@ impl<'a, StorageT: StorageIndex> Completeness<'a, StorageT> {
     }
 }
 
-// Whether the item has this production, this dot and this lookahead.
-fn is_same<StorageT: StorageIndex>(
-    item: &Item<StorageT>,
-    pidx: PIdx<StorageT>,
-    dot: usize,
-    token: TIdx<StorageT>,
-) -> bool
-    ensures { IsTrue result ↔ (item_of StorageT.index item.now ≡ item_at (StorageT.index pidx.0) dot (StorageT.index token.0)) }
-{
-    usize::from(item.2) == usize::from(token)
-        && item.1 == dot
-        && usize::from(item.0) == usize::from(pidx)
-}
-
-// Sets the set to the lookaheads of the items.
-fn put_lookaheads<StorageT: StorageIndex>(items: &[Item<StorageT>], set: &mut TokenSet)
-    requires { All (λ t. t < length set.old.bits.items) (lookaheads_of StorageT.index items.now) }
+// Sets the set to these lookaheads.
+fn put_lookaheads<StorageT: StorageIndex>(tokens: &[TIdx<StorageT>], set: &mut TokenSet)
+    requires { All (λ t. t < length set.old.bits.items) (lookaheads_of StorageT.index tokens.now) }
     ensures room { length set.new.bits.items ≡ length set.old.bits.items }
-    ensures tokens { (t : ℕ) → IsTrue (has set.new.bits.items t) ↔ Contains (lookaheads_of StorageT.index items.now) t }
+    ensures tokens { (t : ℕ) → IsTrue (has set.new.bits.items t) ↔ Contains (lookaheads_of StorageT.index tokens.now) t }
 {
     set.clear();
-    for (_, _, token) in items {
+    for token in tokens {
         set.insert(usize::from(*token));
     }
 }

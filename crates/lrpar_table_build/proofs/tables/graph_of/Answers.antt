@@ -1,7 +1,19 @@
-use Rattle.std.proofs.Common.{◌↔◌, subst}
-use Rattle.lrpar_table_rows.specs.Graph.{Graph, HasItem}
+use Rattle.std.proofs.Common.{◌≡◌, ◌∙◌, ◌↔◌, arith, length, map, subst, sym}
+use Rattle.std.proofs.lemmas.List.{length-map}
+use Rattle.std.proofs.lemmas.List.Elements.{length_all_zip}
+use Rattle.lrpar_table_rows.specs.Ascending.{HaveSame}
+use Rattle.lrpar_table_rows.specs.Graph.{Graph, HasItem, item_at}
+use Rattle.lrpar_table_rows.proofs.ItemLemmas.{same_at_each}
+use Rattle.lrpar_table_items.specs.StateRows.{item_rows}
+use Rattle.lrpar_table_items.specs.States.{state_of}
 use Rattle.lrpar_table_build.proofs.tables.graph_of.Goals as goal
 
 pub returns-in-Ok-clause-items : goal.returns-in-Ok-clause-items
 returns-in-Ok-clause-items g c =
-    λ s p k t. subst (λ (rows : Graph). HasItem c.in-Ok.graph s p k t ↔ HasItem rows s p k t) c.in_ok-rows.ensures (c.in-Ok.ensures.items s p k t)
+    let index = g.StorageT.StorageIndex.index in
+    let rows = item_rows c.args.grm.now (map (state_of index) c.args.states.now) in
+    λ s p k t. subst (λ (graph : Graph). HasItem graph s p k t ↔ HasItem rows s p k t) (sym c.in-Ok.ensures.made)
+    (same_at_each c.in_ok-sets.sets.items rows c.in_ok-sets.ensures s (item_at p k t))
+
+
+

@@ -13,7 +13,7 @@ returns-in-Some g c =
     let index = g.StorageT.StorageIndex.index in
     let grm = c.args.self.now.grm.now in
     let p = index c.args.pidx.0 in
-    carries_each grm c.args.self.now.sgraph.now c.args.self.now.stable.now (index c.args.s.0) p c.args.dot (index c.in-Some.rule.0) (lookaheads_of index c.args.items.now)
+    carries_each grm c.args.self.now.sgraph.now c.args.self.now.stable.now (index c.args.s.0) p c.args.dot (index c.in-Some.rule.0) (lookaheads_of index c.args.tokens.now)
     c.goes_to.result (rule_at grm p c.args.dot (index c.in-Some.rule.0) _ c.in-Some.ensures.rule) c.goes_to.ensures
 
 pub returns-in-None : goal.returns-in-None
@@ -21,4 +21,4 @@ returns-in-None g c =
     let index = g.StorageT.StorageIndex.index in
     let grm = c.args.self.now.grm.now in
     nothing_to_carry grm c.args.self.now.sgraph.now c.args.self.now.stable.now (index c.args.s.0) (index c.args.pidx.0) c.args.dot
-    (lookaheads_of index c.args.items.now) (no_rule_at grm (index c.args.pidx.0) c.args.dot c.in-None.ensures.rule)
+    (lookaheads_of index c.args.tokens.now) (no_rule_at grm (index c.args.pidx.0) c.args.dot c.in-None.ensures.rule)

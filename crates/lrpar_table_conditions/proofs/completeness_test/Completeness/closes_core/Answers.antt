@@ -11,7 +11,7 @@ returns-in-Some-clause-test g c =
     let index = g.StorageT.StorageIndex.index in
     let grm = c.args.self.now.grm.now in
     let p = index c.args.pidx.0 in
-    let tokens = lookaheads_of index c.args.items.now in
+    let tokens = lookaheads_of index c.args.tokens.now in
     let test = c.starts_cover.result in
     let P : List TokenSet → Type 0 = λ sets. IsTrue test ↔ All (ClosesAmong grm (rows_of sets) p c.args.dot) tokens in
     subst P c.deref.ensures.value

@@ -8,5 +8,5 @@ use Rattle.lrpar_table_conditions.proofs.completeness_test.Completeness.ends_cor
 pub returns-else-dot-prod : goal.returns-else-dot-prod
 returns-else-dot-prod g c =
     let index = g.StorageT.StorageIndex.index in
-    ends_each c.args.self.now.grm.now c.args.self.now.stable.now (index c.args.s.0) (index c.args.pidx.0) c.args.dot (lookaheads_of index c.args.items.now)
+    ends_each c.args.self.now.grm.now c.args.self.now.stable.now (index c.args.s.0) (index c.args.pidx.0) c.args.dot (lookaheads_of index c.args.tokens.now)
     c.ends_each.result (c.if-dot-prod.false ∙ length_by_image (symbol_of index) c.prod.result.now _ c.prod.ensures) c.ends_each.ensures

@@ -13,10 +13,10 @@ pub returns-in-Some : goal.returns-in-Some
 returns-in-Some g c =
     let index = g.StorageT.StorageIndex.index in
     shifts_each c.args.self.now.grm.now c.args.self.now.sgraph.now c.args.self.now.stable.now (index c.args.s.0) (index c.args.pidx.0) c.args.dot
-    (index c.in-Some.token.0) (lookaheads_of index c.args.items.now) c.shifts_to.result c.in-Some.ensures c.shifts_to.ensures
+    (index c.in-Some.token.0) (lookaheads_of index c.args.tokens.now) c.shifts_to.result c.in-Some.ensures c.shifts_to.ensures
 
 pub returns-in-None : goal.returns-in-None
 returns-in-None g c =
     let index = g.StorageT.StorageIndex.index in
     nothing_to_shift c.args.self.now.grm.now c.args.self.now.sgraph.now c.args.self.now.stable.now (index c.args.s.0) (index c.args.pidx.0) c.args.dot
-    (lookaheads_of index c.args.items.now) c.in-None.ensures
+    (lookaheads_of index c.args.tokens.now) c.in-None.ensures

@@ -10,12 +10,12 @@ returns-in-Shift g c =
     let index = g.StorageT.StorageIndex.index in
     let goes = sym c.in-Shift.ensures.action in
     steps_each c.args.self.now.sgraph.now c.args.self.now.stable.now (index c.args.s.0) (Terminal (index c.args.token.0)) (index c.in-Shift.next.0)
-    (index c.args.pidx.0) c.args.dot (lookaheads_of index c.args.items.now) c.has_advanced.result goes
+    (index c.args.pidx.0) c.args.dot (lookaheads_of index c.args.tokens.now) c.has_advanced.result goes
     (λ n other. let both : ShiftTo n ≡ ShiftTo (index c.in-Shift.next.0) = sym other ∙ goes in cc) c.has_advanced.ensures
 
 pub returns-in_default : goal.returns-in_default
 returns-in_default g c =
     let index = g.StorageT.StorageIndex.index in
     steps_none c.args.self.now.sgraph.now c.args.self.now.stable.now (index c.args.s.0) (Terminal (index c.args.token.0)) (index c.args.pidx.0) c.args.dot
-    (lookaheads_of index c.args.items.now) (some_lookaheads index c.args.items.now c.requires.some)
+    (lookaheads_of index c.args.tokens.now) (some_lookaheads index c.args.tokens.now c.requires.some)
     (no_shift index c.action.result _ c.action.ensures.action c.in_default.not-Shift)

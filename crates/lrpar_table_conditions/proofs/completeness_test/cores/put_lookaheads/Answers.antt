@@ -5,8 +5,8 @@ use Rattle.lrpar_table_conditions.proofs.completeness_test.cores.put_lookaheads.
 pub insert-requires : goal.insert-requires
 insert-requires g c =
     let index = g.StorageT.StorageIndex.index in
-    let low = lookahead_at index (λ t. t < length c.args.set.now.bits.items) c.args.items.now c.loop-token.token-index c.loop-token-item.result
-    c.loop-token-test.true c.loop-token-item.is c.requires in
+    let low = lookahead_at index (λ t. t < length c.args.set.now.bits.items) c.args.tokens.now c.loop-token.token-index c.token-item.result
+    c.loop-token-test.true c.token-item.is c.requires in
     omega (arith, low, c.from.ensures, c.loop-token.invariant.0)
 
 pub loop-token-init : goal.loop-token-init
@@ -16,10 +16,10 @@ pub loop-token-preserved : goal.loop-token-preserved
 loop-token-preserved g c =
     let index = g.StorageT.StorageIndex.index in (
       c.insert.ensures.room ∙ c.loop-token.invariant.0,
-      one_put index c.args.items.now c.loop-token.token-index c.loop-token-item.result c.loop-token.set.bits.items c.insert.new.self.bits.items c.from.result
-          c.loop-token-test.true c.loop-token-item.is c.from.ensures c.loop-token.invariant.1 c.insert.ensures.tokens,
+      one_put index c.args.tokens.now c.loop-token.token-index c.token-item.result c.loop-token.set.bits.items c.insert.new.self.bits.items c.from.result
+          c.loop-token-test.true c.token-item.is c.from.ensures c.loop-token.invariant.1 c.insert.ensures.tokens,
     )
 
 pub returns-clause-tokens : goal.returns-clause-tokens
 returns-clause-tokens g c =
-    all_put g.StorageT.StorageIndex.index c.args.items.now c.loop-token.token-index c.loop-token.set.bits.items (omega arith) c.loop-token.invariant.1
+    all_put g.StorageT.StorageIndex.index c.args.tokens.now c.loop-token.token-index c.loop-token.set.bits.items (omega arith) c.loop-token.invariant.1

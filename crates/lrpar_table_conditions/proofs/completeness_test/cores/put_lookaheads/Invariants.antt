@@ -8,4 +8,4 @@ use Rattle.lrpar_table_conditions.proofs.completeness_test.cores.put_lookaheads.
 abbrev pub invariant-loop-token : goal.invariant-loop-token
 invariant-loop-token g l =
     (length l.set.bits.items ≡ length l.fn.set.bits.items)
-    × ((t : ℕ) → IsTrue (has l.set.bits.items t) ↔ Contains (lookaheads_of g.StorageT.StorageIndex.index (take l.token-index l.items)) t)
+    × ((t : ℕ) → IsTrue (has l.set.bits.items t) ↔ Contains (lookaheads_of g.StorageT.StorageIndex.index (take l.token-index l.tokens)) t)

@@ -1,12 +1,13 @@
 use Rattle.lrpar_table_rows.specs.Graph.{core_cmp}
 use Rattle.lrpar_table_rows.specs.PlainItems.{core_of}
+use Rattle.lrpar_table_rows.specs.Runs.{run_items}
 use Rattle.lrpar_table_rows.proofs.ItemLemmas.{cores_by_numbers, sorted_image, same_core_order}
 use Rattle.lrpar_table_rows.proofs.items.ItemSet.cores.Goals as goal
 
 pub returns-clause-all : goal.returns-clause-all
 returns-clause-all g c = λ p k.
     rw (← c.self.view_is, c.as_slice.ensures.all)
-    (cores_by_numbers g.StorageT.StorageIndex.index c.self.inside.items c.self.inside.cores c.self.invariant.0 p k)
+    (cores_by_numbers g.StorageT.StorageIndex.index (run_items c.self.inside.cores c.self.inside.runs.items) c.self.inside.cores c.self.invariant.exact p k)
 
 pub returns-clause-ascending : goal.returns-clause-ascending
 returns-clause-ascending g c =

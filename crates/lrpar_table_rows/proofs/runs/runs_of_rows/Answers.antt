@@ -1,0 +1,48 @@
+use Rattle.std.proofs.Common.{◌≡◌, ◌<◌, ◌++◌, ◌+◌, ◌∷◌, ◌∙◌, [], ap, arith, length, subst, sym, take}
+use Rattle.std.proofs.lemmas.List.{length-map, take_all, take_more}
+use Rattle.std.proofs.lemmas.List.Elements.{length_all_zip}
+use Rattle.lrpar_table_rows.specs.Ascending.{HaveSame}
+use Rattle.lrpar_table_rows.specs.Runs.{core_items, items_of_rows, run_items, tokens_of}
+use Rattle.lrpar_table_rows.proofs.RunLemmas.{row_known, row_more, same_more, same_runs, same_trans}
+use Rattle.lrpar_table_rows.proofs.runs.runs_of_rows.Goals as goal
+
+pub loop-row-init : goal.loop-row-init
+loop-row-init g c =
+    let paired = rw c.as_slice.ensures.all at c.in_ok-runs.ensures.paired in
+    let none = rw c.as_slice.ensures.all at c.in_ok-runs.ensures.none in
+    (paired, λ x. (λ h. absurd (none x h), λ h. absurd (omega (arith, h.1))))
+
+pub put_run-requires-clause-known : goal.put_run-requires-clause-known
+put_run-requires-clause-known g c = λ some.
+    let row = c.row-item.result in
+    row_known c.args.rows.now c.args.cores.now c.loop-row.row-index row c.requires c.loop-row-test.true c.row-item.is
+    (rw c.deref.ensures.value at some)
+
+pub loop-row-preserved : goal.loop-row-preserved
+loop-row-preserved g c =
+    let rows = c.args.rows.now in
+    let i = c.loop-row.row-index in
+    let row = c.row-item.result in
+    let old = run_items c.args.cores.now (tokens_of c.loop-row.runs.items) in
+    let new = run_items c.args.cores.now (tokens_of c.put_run.new.runs.items) in
+    let more : take (i + 1) rows ≡ take i rows ++ row ∷ [] = rw (← c.row-item.is) at (take_more rows i row c.loop-row-test.true) in
+    let tokens = row.2.items in
+    let pushed : HaveSame new (old ++ core_items (row.0, row.1) tokens) = rw c.deref.ensures.value at c.in_ok-put_run.ensures.same in (
+      c.in_ok-put_run.ensures.paired,
+      subst (HaveSame new) (sym (ap items_of_rows more ∙ row_more (take i rows) row))
+          (same_more old (items_of_rows (take i rows)) new (core_items (row.0, row.1) tokens) c.loop-row.invariant.1 pushed),
+    )
+
+pub returns-clause-paired : goal.returns-clause-paired
+returns-clause-paired g c =
+    length_all_zip HaveSame c.in_ok-made.made.items (tokens_of c.loop-row.runs.items) c.in_ok-made.ensures.same
+    ∙ length-map c.loop-row.runs.items (λ run. run.items) ∙ c.loop-row.invariant.0
+
+pub returns-clause-same : goal.returns-clause-same
+returns-clause-same g c =
+    let cores = c.args.cores.now in
+    let rows = c.args.rows.now in
+    let all = take_all c.loop-row.row-index rows c.loop-row-test.false in
+    let same : HaveSame (run_items cores (tokens_of c.loop-row.runs.items)) (items_of_rows rows) = rw all at c.loop-row.invariant.1 in
+    same_trans (run_items cores c.in_ok-made.made.items) (run_items cores (tokens_of c.loop-row.runs.items)) (items_of_rows rows)
+    (same_runs cores c.in_ok-made.made.items (tokens_of c.loop-row.runs.items) c.in_ok-made.ensures.same) same
