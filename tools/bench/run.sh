@@ -1,7 +1,7 @@
 #!/usr/bin/env bash
 # Times the library beside a parser of the same tables in Rust, and prints figures and ratios.
 #
-#     run.sh [--counts] [--before PROGRAM] [--rounds N] [--folder FOLDER] TOOLS [GRAMMAR.y:LIST ..]
+#     run.sh [--counts] [--before PROGRAM] [--before-lrpar PROGRAM] [--rounds N] [--folder FOLDER] TOOLS [GRAMMAR.y:LIST ..]
 #
 # TOOLS is a folder with tools/data.py, which makes tables and lexemes, and with the peer's crate peer_lrpar/. Each
 # GRAMMAR is a grammar text, with a rule of it that is a list; without any they are those of TOOLS/../grammars. FOLDER
@@ -18,7 +18,7 @@ readonly levels=1000000
 export PYTHONDONTWRITEBYTECODE=1
 
 usage() {
-    printf 'usage: run.sh [--counts] [--before PROGRAM] [--rounds N] [--folder FOLDER] TOOLS [GRAMMAR.y:LIST ..]\n' >&2
+    printf 'usage: run.sh [--counts] [--before PROGRAM] [--before-lrpar PROGRAM] [--rounds N] [--folder FOLDER] TOOLS [GRAMMAR.y:LIST ..]\n' >&2
     exit 2
 }
 
@@ -49,6 +49,12 @@ build_program() {
         stop "the program isn't built: $(tail -n 3 "$work/program.log")"
 }
 
+# The same for the program `lrpar`, whose commands are counted.
+build_lrpar() {
+    (cd "$copy/crates/lrpar_program" && rt run -- demo a) >"$work/lrpar.log" 2>&1 </dev/null ||
+        stop "lrpar isn't built: $(tail -n 3 "$work/lrpar.log")"
+}
+
 build_peer() {
     CARGO_TARGET_DIR=$work/peer cargo build --release --offline --manifest-path "$tools/peer_lrpar/Cargo.toml" \
         >"$work/peer.log" 2>&1 || stop "the peer isn't built: $(tail -n 3 "$work/peer.log")"
@@ -70,13 +76,26 @@ make_data() {
 }
 
 work=
+counts_commands=
 measure_words=()
+command_words=()
 while [[ $# -gt 0 && $1 == --* ]]; do
     case $1 in
-        --counts) measure_words+=(--counts) ;;
-        --before | --rounds | --folder)
+        --counts)
+            counts_commands=yes
+            measure_words+=(--counts)
+            ;;
+        --before | --before-lrpar | --rounds | --folder)
             [[ $# -gt 1 ]] || usage
-            if [[ $1 == --folder ]]; then work=$2; else measure_words+=("$1" "$2"); fi
+            case $1 in
+                --folder) work=$2 ;;
+                --before-lrpar) command_words+=(--before "$2") ;;
+                --before)
+                    measure_words+=(--before "$2")
+                    command_words+=(--before-parts "$2")
+                    ;;
+                *) measure_words+=("$1" "$2") ;;
+            esac
             shift
             ;;
         *) usage ;;
@@ -101,9 +120,13 @@ readonly work
 readonly copy=$work/repository
 readonly data=$work/data
 readonly program=$copy/crates/bench_program/out/bench_program
+readonly lrpar=$copy/crates/lrpar_program/out/lrpar_program
 readonly peer=$work/peer/release/peer_lrpar
 
 [[ -x $program ]] || build_program
+[[ -z $counts_commands || -x $lrpar ]] || build_lrpar
 [[ -x $peer ]] || build_peer
 [[ -d $data ]] || make_data
 python3 "$here/measure.py" ${measure_words[@]+"${measure_words[@]}"} "$program" "$peer" "$data"
+[[ -z $counts_commands ]] ||
+    python3 "$here/commands.py" ${command_words[@]+"${command_words[@]}"} "$lrpar" "$program" "$tools"
