@@ -14,6 +14,3 @@ returns-in-Ok-clause-items g c =
     let rows = item_rows c.args.grm.now (map (state_of index) c.args.states.now) in
     λ s p k t. subst (λ (graph : Graph). HasItem graph s p k t ↔ HasItem rows s p k t) (sym c.in-Ok.ensures.made)
     (same_at_each c.in_ok-sets.sets.items rows c.in_ok-sets.ensures s (item_at p k t))
-
-
-

@@ -27,5 +27,5 @@ returns g c =
     same_trans runs c.from_vec-items.result c.args.row.items (rw c.as_slice-2.ensures.all at c.in_ok-runs.ensures.same) c.from_vec-items.ensures.same in
     record {
       same = made_same c.from_parts.result (map (item_of index) runs) (row_of index c.args.row) c.from_parts.ensures
-            (HaveSame-map (item_of index) runs c.args.row.items same);
+          (HaveSame-map (item_of index) runs c.args.row.items same);
     }

@@ -16,5 +16,5 @@ returns g c =
     let runs = run_items c.in_ok-cores.cores c.in_ok-runs.runs.items in
     record {
       same = made_same c.from_parts.result (map (item_of index) runs) (set_of_rows index c.args.rows.now) c.from_parts.ensures
-            (HaveSame-map (item_of index) runs (items_of_rows c.args.rows.now) c.in_ok-runs.ensures.same);
+          (HaveSame-map (item_of index) runs (items_of_rows c.args.rows.now) c.in_ok-runs.ensures.same);
     }
