@@ -39,7 +39,7 @@ fn lookaheads<StorageT: StorageIndex>(
     ensures { IfOk result (λ tokens. map (λ token. StorageT.index token.0) tokens.items
         ≡ filter (has core.now.tokens.bits.items) (range_with_len 0 (tokens_len grm.now))) }
 {
-    let mut tokens = Vec::new(alloc);
+    let mut tokens = Vec::with_capacity(alloc, grm.tokens_len())?;
     for token in 0..grm.tokens_len() {
         if core.tokens.contains(token) {
             tokens.push(TIdx(StorageT::from_index(token).unwrap()))?;
