@@ -1,6 +1,10 @@
 -- The lists that the loops over cores and tokens build, by what one more core or token adds.
-use Rattle.std.proofs.Common.{◌≡◌, ◌<◌, ◌+◌, ◌==◌, ◌&&◌, ◌||◌, ◌++◌, ◌∷◌, ◌∙◌, ℕ, Bool, true, false, not, cond, List, [], sym, ap, arith, length, map, take, get_or, filter, refl, zero-add}
+use Rattle.std.proofs.Common.{◌≡◌, ◌<◌, ◌+◌, ◌==◌, ◌&&◌, ◌||◌, ◌++◌, ◌∷◌, ◌∙◌, inl, inr, ℕ, Bool, true, false, not, cond, List, [], Some, sym, ap, subst, arith, length, length-append, map, take, get_or, slice_get, filter, refl, zero-add}
 use Rattle.std.specs.List.{range_with_len}
+use Rattle.std.proofs.lemmas.Bool.{cases_lt}
+use Rattle.std.proofs.lemmas.Option.{get_or_from_slice_get, slice_get-get_or, slice_get_within}
+use Rattle.std.proofs.Math.ListN.{get_or-append}
+use Rattle.std.proofs.Math.Seq.{get_or-append_seam}
 use Rattle.std.proofs.lemmas.List.{append-nil, append_assoc, get_or-map, length-map, map-append, map-id}
 use Rattle.std.proofs.lemmas.List.Concat.{flat_map-append}
 use Rattle.std.proofs.lemmas.List.Elements.{filter-append}
@@ -19,7 +23,7 @@ use Rattle.lrpar_table_items.specs.StateRows.{item_rows}
 use Rattle.lrpar_table_items.specs.States.{StateOf, state_of}
 use Rattle.lrpar_table_items.specs.declared.cores.CoreItems.{CoreItems}
 use Rattle.lrpar_table_items.specs.declared.item_set.State.{State}
-use Rattle.lrpar_table_items.specs.CompleteItems.{accepts_at, items_of_core, items_of_cores, prods_at}
+use Rattle.lrpar_table_items.specs.CompleteItems.{AreLookaheads, AreRowsOf, accepts_at, items_of_core, items_of_cores, prods_at}
 use Rattle.lrpar_table_items.specs.Cores.{CoreSet, core_set}
 
 -- the numbers below n + 1 that pass a test
@@ -131,6 +135,32 @@ row_pushed {S} index len rows core tokens are =
     ∙ map-append (item_of index) (items_of_rows rows) (core_items (core.prod, core.dot) tokens.items)
     ∙ ap (λ (xs : List ItemOf). set_of_rows index rows ++ xs)
     (core_row index (core.prod, core.dot) tokens.items ∙ ap (map (item_at (index core.prod.0) core.dot)) are)
+
+unwrapped : {A : Type 0} (x y : A) → Some x ≡ Some y → x ≡ y
+unwrapped x y e = cc
+
+-- the rows with one more row, which has the lookaheads of the core at its place
+pub rows_kept : {S Z : Type 0} (index : S → ℕ) (len : ℕ) (cores : List (CoreItems S)) (rows : List (PIdx S × ℕ × Vec (TIdx S) Z))
+    (at : PIdx S × ℕ) (core : CoreItems S) (tokens : Vec (TIdx S) Z) → slice_get cores (length rows) ≡ Some core
+    → AreLookaheads index len core tokens.items → AreRowsOf index len cores rows → AreRowsOf index len cores (rows ++ (at.0, at.1, tokens) ∷ [])
+rows_kept {S} {Z} index len cores rows at core tokens here are before place other row is got =
+    elim (cases_lt place (length rows)) as (λ _. AreLookaheads index len other row.2.items) [
+      | inl below ↦
+          before place other row is
+          (slice_get-get_or rows place row below
+          ∙ ap Some (sym (get_or-append rows ((at.0, at.1, tokens) ∷ []) row place below)
+          ∙ get_or_from_slice_get (rows ++ (at.0, at.1, tokens) ∷ []) place row row got))
+      | inr past ↦
+          let within = slice_get_within (rows ++ (at.0, at.1, tokens) ∷ []) place row got in
+          let long = length-append rows ((at.0, at.1, tokens) ∷ []) in
+          let last : place ≡ length rows = omega (arith, past, within, long) in
+          let same : other ≡ core = unwrapped other core (sym is ∙ ap (slice_get cores) last ∙ here) in
+          let own : (at.0, at.1, tokens) ≡ row =
+          sym (get_or-append_seam rows (at.0, at.1, tokens) [] row) ∙ ap (λ (n : ℕ). get_or (rows ++ (at.0, at.1, tokens) ∷ []) n row) (sym last)
+          ∙ get_or_from_slice_get (rows ++ (at.0, at.1, tokens) ∷ []) place row row got in
+          subst (λ (r : PIdx S × ℕ × Vec (TIdx S) Z). AreLookaheads index len other r.2.items) own
+          (subst (λ (c : CoreItems S). AreLookaheads index len c tokens.items) (sym same) are)
+    ]
 
 -- the items of one more state
 pub states_more : {S : Type 0} (index : S → ℕ) (g : Grammar) (states : List (State S)) (i : ℕ) (state : State S) → i < length states

@@ -1,10 +1,8 @@
 //! The LR(1) items of cores, as rows of lookaheads.
-ghost use Rattle.std.specs.Prelude.{◌≡◌, ◌++◌, IfOk, OnOk, filter, map};
-ghost use Rattle.std.specs.List.{range_with_len};
+ghost use Rattle.std.specs.Prelude.{◌≡◌, ◌<◌, ◌↔◌, IfOk, IsTrue, Some, length, map, slice_get};
 ghost use Rattle.lrpar_grammar.specs.Grammar.{tokens_len};
-ghost use Rattle.lrpar_grammar.specs.Tokens.{has};
 ghost use Rattle.lrpar_table_rows.specs.Runs.{set_of_rows};
-ghost use Rattle.lrpar_table_items.specs.CompleteItems.{items_of_cores};
+ghost use Rattle.lrpar_table_items.specs.CompleteItems.{AreLookaheads, AreRowsOf, items_of_cores};
 ghost use Rattle.lrpar_table_items.specs.Cores.{core_set};
 
 use crate::cores::CoreItems;
@@ -23,11 +21,44 @@ pub fn core_rows<StorageT: StorageIndex>(
         ≡ items_of_cores (tokens_len grm.now) (map (core_set StorageT.index) cores.now)) }
 {
     let mut rows = Vec::with_capacity(alloc, cores.len())?;
-    for core in cores {
-        let tokens = lookaheads(alloc, grm, core)?;
+    'cores: for place in 0..cores.len() {
+        let core = &cores[place];
+        let tokens = lookaheads_at(alloc, grm, cores, place, &rows)?;
         rows.push((core.prod, core.dot, tokens))?;
     }
     Ok(rows)
+}
+
+// The lookaheads of the core at a place, ascending. The rows are those of the cores before it. Productions of one rule follow one another in
+// a closure, with the same lookaheads, which are then copied.
+fn lookaheads_at<StorageT: StorageIndex>(
+    alloc: Global,
+    grm: &YaccGrammar<StorageT>,
+    cores: &[CoreItems<StorageT>],
+    place: usize,
+    rows: &[CoreRow<StorageT>],
+) -> Result<Vec<TIdx<StorageT>>, AllocError>
+    requires place { place < length cores.now }
+    requires before { length rows.now ≡ place }
+    requires rows { AreRowsOf StorageT.index (tokens_len grm.now) cores.now rows.now }
+    ensures { IfOk result (λ tokens. (core : _) → slice_get cores.now place ≡ Some core
+        → AreLookaheads StorageT.index (tokens_len grm.now) core tokens.items) }
+{
+    if place > 0 && have_same_tokens(&cores[place - 1], &cores[place]) {
+        Vec::from_slice(alloc, &rows[place - 1].2)
+    } else {
+        lookaheads(alloc, grm, &cores[place])
+    }
+}
+
+// Whether the cores have the same lookaheads.
+fn have_same_tokens<StorageT: StorageIndex>(
+    core: &CoreItems<StorageT>,
+    other: &CoreItems<StorageT>,
+) -> bool
+    ensures { IsTrue result ↔ (core.now.tokens.bits.items ≡ other.now.tokens.bits.items) }
+{
+    core.tokens.bits == other.tokens.bits
 }
 
 // The lookaheads of the core, ascending.
@@ -36,8 +67,7 @@ fn lookaheads<StorageT: StorageIndex>(
     grm: &YaccGrammar<StorageT>,
     core: &CoreItems<StorageT>,
 ) -> Result<Vec<TIdx<StorageT>>, AllocError>
-    ensures { IfOk result (λ tokens. map (λ token. StorageT.index token.0) tokens.items
-        ≡ filter (has core.now.tokens.bits.items) (range_with_len 0 (tokens_len grm.now))) }
+    ensures { IfOk result (λ tokens. AreLookaheads StorageT.index (tokens_len grm.now) core.now tokens.items) }
 {
     let mut tokens = Vec::with_capacity(alloc, grm.tokens_len())?;
     for token in 0..grm.tokens_len() {
