@@ -108,24 +108,24 @@ stuck_unexpected token g table lexemes i st ps settled apart fits settles stuck 
 module _ (g : Grammar) (graph : Graph) (table : Table) (well : IsWellFormed g) (closed : IsClosed table) (built : IsBuilt g graph table)
     (each : EachReachableHasTree g) where
   abbrev Spelled : List ℕ → List ℕ → Type 0
-  Spelled st front = Spells g table (never g graph table well closed built each) st front
+  Spelled st front = Spells g table (never g graph table well closed built.safe) st front
 
   spelled_start : Spelled (table.start ∷ []) []
   spelled_start = record { symbols = []; path = (refl, tt); trees = Nil; fit = tt; leaves_are = refl }
 
   spelled_feeds : (t : ℕ) (st ps after front : List ℕ) → Spelled st front → Feeds g table t st ps after → Spelled after (front ++ t ∷ [])
-  spelled_feeds t st ps after front = spells_fed g table (never g graph table well closed built each) t st ps after front
+  spelled_feeds t st ps after front = spells_fed g table (never g graph table well closed built.safe) t st ps after front
 
   spelled_stops : {X : Type 0} (token : X → ℕ) (lexemes : List X) (i : ℕ) (st ps settled front : List ℕ) → i ≤ length lexemes → Spelled st front
       → Settles g table (token_at token g lexemes i) st ps settled → IsStuck token g table lexemes settled i → Spelled settled front
   spelled_stops token lexemes i st ps settled front fits spelled settles stuck =
-      spells_settled g table (never g graph table well closed built each) (token_at token g lexemes i) st ps settled front spelled settles
+      spells_settled g table (never g graph table well closed built.safe) (token_at token g lexemes i) st ps settled front spelled settles
 
   -- the stack to which tokens are fed spells them
   fed_spelled : (st front : List ℕ) → Fed g table st front → Spelled st front
   fed_spelled st front fed =
       subst (Spelled st) (take_all (length front) front (omega arith))
-      (run_spells g table (never g graph table well closed built each) front fed.0 st (length front) fed.1)
+      (run_spells g table (never g graph table well closed built.safe) front fed.0 st (length front) fed.1)
 
   module _ (complete : IsComplete g graph table) where
     -- its top has an action at exactly the tokens that can come next
@@ -135,7 +135,7 @@ module _ (g : Grammar) (graph : Graph) (table : Table) (well : IsWellFormed g) (
       λ can.
           let whole = sym (take_all (length front) front (omega arith)) in
           expected_acts_at g table st s top t
-          (follows_next g graph table well closed built each complete front st (length front) t fed (subst (λ (ts : List ℕ). CanFollow g ts t) whole can)),
+          (follows_next g graph table well closed built.safe complete front st (length front) t fed (subst (λ (ts : List ℕ). CanFollow g ts t) whole can)),
     )
 
     -- no reduction is made at the token of an error point: after tokens that were fed, the stack there is settled
@@ -145,10 +145,10 @@ module _ (g : Grammar) (graph : Graph) (table : Table) (well : IsWellFormed g) (
     fed_settles token lexemes apart i st [] settled tokens j fits fed settles stuck = settles.0
     fed_settles token lexemes apart i st (p ∷ ps) settled tokens j fits fed settles stuck =
         let t = token_at token g lexemes i in
-        let spelled = run_spells g table (never g graph table well closed built each) tokens fed.0 st j fed.1 in
+        let spelled = run_spells g table (never g graph table well closed built.safe) tokens fed.0 st j fed.1 in
         let acts : top_action table t st ≢ Fails = λ fails. let no : ReduceBy p ≡ Fails = sym settles.1.action ∙ fails in cc in
         let can = top_follows st (take j tokens) spelled t acts in
-        let expected = follows_next g graph table well closed built each complete tokens st j t fed can in
+        let expected = follows_next g graph table well closed built.safe complete tokens st j t fed can in
         absurd (stuck_unexpected token g table lexemes i st (p ∷ ps) settled apart fits settles stuck expected)
       where
         top_follows : (st front : List ℕ) → Spelled st front → (t : ℕ) → top_action table t st ≢ Fails → CanFollow g front t
@@ -191,7 +191,7 @@ built_actions_keep_to_sentences {X} token g graph table well closed built each =
       let tokens = fed_by_tokens token g table lexemes i st fed in
       subst (ActsOnlyAsFollows g table st) (front_tokens token g table lexemes i)
       (spelled_acts g graph table well closed built each st (take i (map token lexemes))
-      (run_spells g table (never g graph table well closed built each) (map token lexemes) tokens.0 st i tokens.1));
+      (run_spells g table (never g graph table well closed built.safe) (map token lexemes) tokens.0 st i tokens.1));
   stop = λ lexemes prods stop runs.
       let spelled = far_claims token g table lexemes (Spelled g graph table well closed built each) (spelled_feeds g graph table well closed built each)
       (spelled_stops g graph table well closed built each token lexemes)
@@ -207,7 +207,7 @@ complete_built_actions_follow_sentences {X} token g graph table well closed buil
     λ can.
         let tokens = fed_by_tokens token g table lexemes i st fed in
         let back = subst (λ (ts : List ℕ). CanFollow g ts t) (sym (front_tokens token g table lexemes i)) can in
-        expected_acts_at g table st s top t (follows_next g graph table well closed built each complete (map token lexemes) st i t tokens back),
+        expected_acts_at g table st s top t (follows_next g graph table well closed built.safe complete (map token lexemes) st i t tokens back),
   );
   stop = λ lexemes prods stop apart runs.
       let fed = far_claims token g table lexemes (Fed g table) (fed_more g table)

@@ -1,4 +1,5 @@
 pub mod TokenLemmas
+pub mod BuiltLemmas
 pub mod FinishLemmas
 pub mod SpelledLemmas
 pub mod ViableLemmas
