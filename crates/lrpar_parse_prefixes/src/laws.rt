@@ -5,7 +5,7 @@ ghost use Rattle.lrpar_grammar.specs.Sentence.{LexemeFacts};
 ghost use Rattle.lrpar_parse_lexemes.specs.Views.{facts_by};
 ghost use Rattle.lrpar_parse_repair.specs.Asked.{allowed_at};
 ghost use Rattle.lrpar_table_check.specs.Checked.{Checked};
-ghost use Rattle.lrpar_parse_prefixes.specs.ErrorStates.{BuiltActionsKeepToSentences, CompleteBuiltActionsFollowSentences, ErrorStatesFollowSentences, ErrorStatesKeepToSentences};
+ghost use Rattle.lrpar_parse_prefixes.specs.ErrorStates.{BuiltActionsKeepToSentences, CompleteBuiltActionsFollowSentences, EachErrorComesInTime, ErrorStatesFollowSentences, ErrorStatesKeepToSentences};
 ghost use Rattle.lrpar_parse_prefixes.specs.FirstErrors.{FirstErrorsAreExact, FirstErrorsComeInTime, ViableFirstErrorsAreExact, ViableFirstErrorsComeInTime};
 ghost use Rattle.lrpar_parse_prefixes.specs.ViableLaws.{BuiltTablesAreViable, BuiltTablesKeepToSentences, CompleteBuiltTablesFollowSentences, CompleteViableTablesFollowSentences, SentencesAreOfTokens, TablesByPrecedenceAreViable, ViableTablesKeepToSentences};
 
@@ -85,6 +85,16 @@ pub fn viable_first_errors_are_where_texts_go_wrong<
 >()
     ensures in_time { (r : R) (d : Checked) (k : ℕ) → ViableFirstErrorsComeInTime (facts_by StorageT.index LexemeT.parts) (allowed_at (R.allows r) d k) }
     ensures exact { (r : R) (d : Checked) (k : ℕ) → ViableFirstErrorsAreExact (facts_by StorageT.index LexemeT.parts) (allowed_at (R.allows r) d k) }
+{}
+
+/// No later error of a parse comes too late either, whatever its recoverer, over any table that is safe and viable: a sentence begins
+/// with the lexemes before each error, as repaired so far.
+pub fn viable_errors_come_in_time<
+    StorageT: StorageIndex,
+    LexemeT: Lexeme<StorageT>,
+    R: Recoverer<StorageT, LexemeT>,
+>()
+    ensures in_time { (r : R) (d : Checked) (k : ℕ) → EachErrorComesInTime (facts_by StorageT.index LexemeT.parts) (allowed_at (R.allows r) d k) }
 {}
 
 /// Over a table that was built of a grammar in which each reachable rule is productive, with conflicts or without, each token at
