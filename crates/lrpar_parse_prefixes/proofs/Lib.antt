@@ -7,3 +7,4 @@ pub mod FirstErrorLemmas
 pub mod ActionLemmas
 pub mod RunStateLemmas
 pub mod ErrorStateLemmas
+pub mod UnviableLemmas

@@ -2,11 +2,14 @@
 //! contract, and does nothing.
 ghost use Rattle.std.specs.Prelude.{ℕ};
 ghost use Rattle.lrpar_grammar.specs.Sentence.{LexemeFacts};
+ghost use Rattle.lrpar_grammar.specs.Sum.{sum_grammar};
 ghost use Rattle.lrpar_parse_lexemes.specs.Views.{facts_by};
 ghost use Rattle.lrpar_parse_repair.specs.Asked.{allowed_at};
+ghost use Rattle.lrpar_table_rows.specs.Sum.{with_bare_items};
 ghost use Rattle.lrpar_table_check.specs.Checked.{Checked};
 ghost use Rattle.lrpar_parse_prefixes.specs.ErrorStates.{BuiltActionsKeepToSentences, CompleteBuiltActionsFollowSentences, EachErrorComesInTime, ErrorStatesFollowSentences, ErrorStatesKeepToSentences};
 ghost use Rattle.lrpar_parse_prefixes.specs.FirstErrors.{FirstErrorsAreExact, FirstErrorsComeInTime, ViableFirstErrorsAreExact, ViableFirstErrorsComeInTime};
+ghost use Rattle.lrpar_parse_prefixes.specs.Unviable.{ErrsLate, bare_table, stray_graph, stray_table};
 ghost use Rattle.lrpar_parse_prefixes.specs.ViableLaws.{BuiltTablesAreViable, BuiltTablesKeepToSentences, CompleteBuiltTablesFollowSentences, CompleteViableTablesFollowSentences, SentencesAreOfTokens, TablesByPrecedenceAreViable, ViableTablesKeepToSentences};
 
 use lrpar_grammar::span::StorageIndex;
@@ -95,6 +98,14 @@ pub fn viable_errors_come_in_time<
     R: Recoverer<StorageT, LexemeT>,
 >()
     ensures in_time { (r : R) (d : Checked) (k : ℕ) → EachErrorComesInTime (facts_by StorageT.index LexemeT.parts) (allowed_at (R.allows r) d k) }
+{}
+
+/// That a table is safe isn't enough. The small table of sums stays safe if it gets one more state, to which the start state shifts
+/// `+`: one that has no item, or one that has only the item `T: . 'ID' {end}`, which no other item adds. These tables aren't viable, and
+/// a run over them feeds `+`, with which no sentence begins.
+pub fn safe_tables_can_err_late()
+    ensures empty { ErrsLate sum_grammar with_bare_items bare_table }
+    ensures unjustified { ErrsLate sum_grammar stray_graph stray_table }
 {}
 
 /// Over a table that was built of a grammar in which each reachable rule is productive, with conflicts or without, each token at
