@@ -1,7 +1,7 @@
--- What runs without repairs feed, expect and refuse, by the sentences of a grammar, over a viable table of it: one that was built
--- of the grammar, by precedences or not, a merged table, or one of another tool. This is the viable prefix property, also called
--- the correct-prefix property. A run begins with the start state alone, at the first lexeme. Lexemes may be of any type: only
--- their tokens count.
+-- What runs without repairs feed, expect and refuse, by the sentences of a grammar, over a viable table of it. The table may have been
+-- built of the grammar, by precedences or not, its item sets may be merged, or it may come from another tool. This is the viable
+-- prefix property, also called the correct-prefix property. A run begins with the start state alone, at the first lexeme. Lexemes
+-- may be of any type: only their tokens count.
 use Rattle.std.specs.Prelude.{◌↔◌, ℕ, List, map, take}
 use Rattle.lrpar_grammar.specs.Grammar.{Grammar, IsWellFormed}
 use Rattle.lrpar_grammar.specs.Sentence.{IsSentence}
