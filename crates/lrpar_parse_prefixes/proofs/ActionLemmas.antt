@@ -14,9 +14,9 @@ use Rattle.std.proofs.lemmas.Bool.{cases_lt}
 use Rattle.std.proofs.lemmas.List.{append_assoc, append-nil, drop_all, reverse-reverse}
 use Rattle.std.proofs.lemmas.List.Elements.{All-append, All-head, All-tail}
 use Rattle.lrpar_grammar.specs.Grammar.{Grammar, GrammarSymbol, IsWellFormed, Nonterminal, Terminal, end_token, prod_len, rule_of, start_prod, symbols_of, tokens_len}
-use Rattle.lrpar_grammar.specs.Tree.{Branch, Cons, Forest, Leaf, Nil, forest_leaves, leaves}
+use Rattle.lrpar_grammar.specs.Tree.{Branch, Cons, Forest, Leaf, Nil, forest_leaves}
 use Rattle.lrpar_grammar.proofs.ForestLemmas.{split_leaves, splits}
-use Rattle.lrpar_table_rows.specs.Graph.{Graph, ItemOf, item_at}
+use Rattle.lrpar_table_rows.specs.Graph.{Graph, HasCore, ItemOf, item_at}
 use Rattle.lrpar_table_rows.specs.Table.{Fails, IsClosed, Table, action_of, states_len}
 use Rattle.lrpar_table_first.specs.First.{IsFirst, Empty, Rule, Token}
 use Rattle.lrpar_table_items.specs.ItemSets.{Adds, IsAdvanced, IsReachedBy, IsStartItem}
@@ -33,7 +33,8 @@ use Rattle.lrpar_table_sentences.proofs.AfterLemmas.{after_reached, drop_at_get,
 use Rattle.lrpar_table_sentences.proofs.WalkLemmas.{walk_path}
 use Rattle.lrpar_parse_prefixes.specs.ErrorStates.{ActsOnlyAsFollows}
 use Rattle.lrpar_parse_prefixes.specs.Viable.{AreSentence, BeginSentence, CanFollow}
-use Rattle.lrpar_parse_prefixes.proofs.FinishLemmas.{HoldsOfTrees, begin_less, item_holds, moved_holds, start_sentence}
+use Rattle.lrpar_parse_prefixes.proofs.BuiltLemmas.{built_tables_are_viable}
+use Rattle.lrpar_parse_prefixes.proofs.FinishLemmas.{HoldsOfTrees, begin_less, core_holds, moved_holds, start_sentence}
 use Rattle.lrpar_parse_prefixes.proofs.SpelledLemmas.{Spells, never, walks_on}
 
 -- trees of symbols that begin with token t; or trees of them without tokens, and t is a
@@ -73,7 +74,7 @@ module _ (g : Grammar) (well : IsWellFormed g) (each : EachReachableHasTree g) w
 
   -- trees of the path's symbols, and then trees of the symbols after the item's dot, can be followed by its lookahead
   abbrev Looks : List GrammarSymbol → ItemOf → Type 0
-  Looks path x = HoldsOfTrees g (λ ts. CanFollow g ts x.token) path x
+  Looks path x = HoldsOfTrees g (λ ts. CanFollow g ts x.token) path x.prod x.dot
 
   start_looks : Looks [] (item_at (start_prod g) 0 (end_token g))
   start_looks front rest fit rest_fit =
@@ -119,22 +120,9 @@ module _ (g : Grammar) (well : IsWellFormed g) (each : EachReachableHasTree g) w
       closure_each g (Follows (s ∷ path)) (added_follows (s ∷ path)) (IsAdvanced g (IsReachedBy g path) s)
       (λ y from.
       let before = item_follows path from.0 from.1 in
-      subst (Follows (s ∷ path)) (sym from.3) (before.0, moved_holds g (λ ts. CanFollow g ts from.0.token) path s from.0 from.2 before.1))
+      subst (Follows (s ∷ path)) (sym from.3) (before.0, moved_holds g (λ ts. CanFollow g ts from.0.token) path s from.0.prod from.0.dot from.2 before.1))
 
-  -- trees along the path of an item with a token after its dot can be followed by this token
-  shift_follows : (path : List GrammarSymbol) (x : ItemOf) (t : ℕ) → IsReachedBy g path x → slice_get (symbols_of g x.prod) x.dot ≡ Some (Terminal t)
-      → (trees : Forest ℕ) → AreTreesOf g (reverse path) trees → CanFollow g (forest_leaves trees) t
-  shift_follows path x t reached at trees fit =
-      let holds = item_holds g well each path x reached in
-      let w = drop (x.dot + 1) (symbols_of g x.prod) in
-      let before = drop_at_get (symbols_of g x.prod) x.dot (Terminal t) at in
-      let later = have_trees g each w (rest_reached g well x.prod x.dot (Terminal t) w before holds.0) in
-      let after : Forest ℕ = Cons (Leaf t) later.0 in
-      let after_fit : AreTreesOf g (drop x.dot (symbols_of g x.prod)) after =
-      subst (λ (v : List GrammarSymbol). AreTreesOf g v after) (sym before) (refl, later.1) in
-      next_token g (forest_leaves trees) (forest_leaves later.0) t (holds.1 trees after fit after_fit)
-
-  -- and along that of a complete item by its lookahead
+  -- trees along the path of a complete item can be followed by its lookahead
   complete_follows : (path : List GrammarSymbol) (x : ItemOf) → IsReachedBy g path x → drop x.dot (symbols_of g x.prod) ≡ []
       → (trees : Forest ℕ) → AreTreesOf g (reverse path) trees → CanFollow g (forest_leaves trees) x.token
   complete_follows path x reached done trees fit =
@@ -144,6 +132,19 @@ module _ (g : Grammar) (well : IsWellFormed g) (each : EachReachableHasTree g) w
 
 module _ (g : Grammar) (graph : Graph) (table : Table) (well : IsWellFormed g) (closed : IsClosed table) (built : IsBuilt g graph table)
     (each : EachReachableHasTree g) where
+  -- trees of a path that leads to a state can be followed by a token that is after the dot of one of its cores
+  shift_follows : (s : ℕ) (path : List GrammarSymbol) → IsWalk table s path → s < states_len table → (p k t : ℕ) → HasCore graph s p k
+      → slice_get (symbols_of g p) k ≡ Some (Terminal t) → (trees : Forest ℕ) → AreTreesOf g (reverse path) trees → CanFollow g (forest_leaves trees) t
+  shift_follows s path walk within p k t has at trees fit =
+      let holds = core_holds g well each graph table built.safe (built_tables_are_viable g graph table built) s path walk within p k has in
+      let w = drop (k + 1) (symbols_of g p) in
+      let before = drop_at_get (symbols_of g p) k (Terminal t) at in
+      let later = have_trees g each w (rest_reached g well p k (Terminal t) w before holds.0) in
+      let after : Forest ℕ = Cons (Leaf t) later.0 in
+      let after_fit : AreTreesOf g (drop k (symbols_of g p)) after =
+      subst (λ (v : List GrammarSymbol). AreTreesOf g v after) (sym before) (refl, later.1) in
+      next_token g (forest_leaves trees) (forest_leaves later.0) t (holds.1 trees after fit after_fit)
+
   -- trees of a path that leads to a state can be followed by a token at which it has an action
   walk_follows : (s : ℕ) (path : List GrammarSymbol) → IsWalk table s path → s < states_len table → (trees : Forest ℕ)
       → AreTreesOf g (reverse path) trees → (t : ℕ) → t < tokens_len g → action_of table s t ≢ Fails → CanFollow g (forest_leaves trees) t
@@ -151,7 +152,7 @@ module _ (g : Grammar) (graph : Graph) (table : Table) (well : IsWellFormed g) (
       let same = walk_path g graph table well built closed s path walk in
       elim (acting g graph s table t (built.resolved.acts s t within low)) as (λ _. CanFollow g (forest_leaves trees) t) [
         | Shifting next is before leads ↦
-            shift_follows g well each path before.0 t ((same before.0).0 before.1) before.2 trees fit
+            let x = before.0 in shift_follows s path walk within x.prod x.dot t (x.token, before.1) before.2 trees fit
         | Reducing p is first ↦
             let x = item_at p (prod_len g p) t in
             complete_follows g well each path x ((same x).0 first.0.1) (drop_all (prod_len g p) (symbols_of g p) (omega arith)) trees fit
@@ -167,7 +168,7 @@ module _ (g : Grammar) (graph : Graph) (table : Table) (well : IsWellFormed g) (
   path_follows symbols [] path trees fit s t top acts = absurd path
   path_follows symbols (b ∷ st) path trees fit s t top acts =
       let leads = subst (λ (n : ℕ). Leads table n symbols st) path.0 path.1 in
-      let on = walks_on g graph table well closed built each table.start [] symbols st Starts closed.start_within leads in
+      let on = walks_on table closed table.start [] symbols st Starts closed.start_within leads in
       let last : last_of table.start st ≡ s =
       let first = subst (λ (n : ℕ). top_of (n ∷ st) ≡ Some s) path.0 top in
       let is = top_is_last table.start st in cc in
@@ -182,6 +183,6 @@ module _ (g : Grammar) (graph : Graph) (table : Table) (well : IsWellFormed g) (
       ]
 
   -- so can the tokens that the stack spells
-  pub spelled_acts : (st tokens : List ℕ) → Spells g table (never g graph table well closed built each) st tokens → ActsOnlyAsFollows g table st tokens
+  pub spelled_acts : (st tokens : List ℕ) → Spells g table (never g graph table well closed built.safe) st tokens → ActsOnlyAsFollows g table st tokens
   spelled_acts st tokens spells s t top acts =
       subst (λ (ts : List ℕ). CanFollow g ts t) spells.leaves_are (path_follows spells.symbols st spells.path spells.trees spells.fit s t top acts)

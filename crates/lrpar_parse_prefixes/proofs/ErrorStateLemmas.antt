@@ -1,7 +1,8 @@
 -- The tokens at which the state of an error point has an action.
 --
 -- The stack of an error point spells the tokens before it, as repaired so far: each token that is fed and each reduction keeps that.
--- So its top has an action only at tokens that can come after these (ActionLemmas). This holds of tables with conflicts, too.
+-- So its top has an action only at tokens that can come after these (ActionLemmas). This holds of tables with conflicts, too. And over
+-- any viable table a sentence begins with the tokens that a stack spells (SpelledLemmas), so no error comes too late, after repairs, too.
 --
 -- Let the table be complete, and no lexeme have the end token. Then each token that can come after tokens that were fed may come next
 -- at the stack, so its top has an action at it. The stack of an error point is such a stack: no reduction is made at the token there.
@@ -16,6 +17,7 @@ use Rattle.lrpar_grammar.specs.Grammar.{Grammar, IsWellFormed, end_token}
 use Rattle.lrpar_grammar.specs.Sentence.{LexemeFacts}
 use Rattle.lrpar_grammar.specs.Tree.{Nil}
 use Rattle.lrpar_table_rows.specs.Graph.{Graph}
+use Rattle.lrpar_table_rows.specs.Safe.{IsSafe}
 use Rattle.lrpar_table_rows.specs.Table.{Fails, IsClosed, ReduceBy, ShiftTo, Accepts, Table}
 use Rattle.lrpar_table_build.specs.Built.{IsBuilt}
 use Rattle.lrpar_table_conditions.specs.Complete.{IsComplete}
@@ -33,11 +35,11 @@ use Rattle.lrpar_table_sentences.specs.Reachable.{EachReachableHasTree}
 use Rattle.lrpar_parse_repair.specs.Recovery.{Point}
 use Rattle.lrpar_parse_repair.specs.Sequences.{PlainStep}
 use Rattle.lrpar_parse_run.specs.RepairRun.{RepairStop, fed_between}
-use Rattle.lrpar_parse_prefixes.specs.ErrorStates.{ActsAsFollows, ActsOnlyAsFollows, BuiltActionsKeepToSentences, CompleteBuiltActionsFollowSentences, ErrorStatesFollowSentences, ErrorStatesKeepToSentences}
-use Rattle.lrpar_parse_prefixes.specs.Viable.{CanFollow}
+use Rattle.lrpar_parse_prefixes.specs.ErrorStates.{ActsAsFollows, ActsOnlyAsFollows, BuiltActionsKeepToSentences, CompleteBuiltActionsFollowSentences, EachErrorComesInTime, ErrorStatesFollowSentences, ErrorStatesKeepToSentences}
+use Rattle.lrpar_parse_prefixes.specs.Viable.{BeginSentence, CanFollow}
 use Rattle.lrpar_parse_prefixes.proofs.ActionLemmas.{spelled_acts}
 use Rattle.lrpar_parse_prefixes.proofs.RunStateLemmas.{far_claims, run_claims}
-use Rattle.lrpar_parse_prefixes.proofs.SpelledLemmas.{Spells, never, run_spells, spells_fed, spells_settled}
+use Rattle.lrpar_parse_prefixes.proofs.SpelledLemmas.{Spells, never, run_spells, spelled_begin, spells_fed, spells_settled}
 use Rattle.lrpar_parse_prefixes.proofs.ViableLemmas.{fed_by_tokens, follows_next, front_tokens}
 
 -- the first tokens stay in their places, whatever follows them
@@ -105,37 +107,39 @@ stuck_unexpected token g table lexemes i st ps settled apart fits settles stuck 
       | inr past ↦ stuck.accepts_not (omega (arith, fits, past)) accepts
     ]
 
-module _ (g : Grammar) (graph : Graph) (table : Table) (well : IsWellFormed g) (closed : IsClosed table) (built : IsBuilt g graph table)
-    (each : EachReachableHasTree g) where
+-- the tokens before an error point are spelled by its stack; for this the table need only be safe
+module _ (g : Grammar) (graph : Graph) (table : Table) (well : IsWellFormed g) (closed : IsClosed table) (safe : IsSafe g graph table) where
   abbrev Spelled : List ℕ → List ℕ → Type 0
-  Spelled st front = Spells g table (never g graph table well closed built each) st front
+  Spelled st front = Spells g table (never g graph table well closed safe) st front
 
   spelled_start : Spelled (table.start ∷ []) []
   spelled_start = record { symbols = []; path = (refl, tt); trees = Nil; fit = tt; leaves_are = refl }
 
   spelled_feeds : (t : ℕ) (st ps after front : List ℕ) → Spelled st front → Feeds g table t st ps after → Spelled after (front ++ t ∷ [])
-  spelled_feeds t st ps after front = spells_fed g table (never g graph table well closed built each) t st ps after front
+  spelled_feeds t st ps after front = spells_fed g table (never g graph table well closed safe) t st ps after front
 
   spelled_stops : {X : Type 0} (token : X → ℕ) (lexemes : List X) (i : ℕ) (st ps settled front : List ℕ) → i ≤ length lexemes → Spelled st front
       → Settles g table (token_at token g lexemes i) st ps settled → IsStuck token g table lexemes settled i → Spelled settled front
   spelled_stops token lexemes i st ps settled front fits spelled settles stuck =
-      spells_settled g table (never g graph table well closed built each) (token_at token g lexemes i) st ps settled front spelled settles
+      spells_settled g table (never g graph table well closed safe) (token_at token g lexemes i) st ps settled front spelled settles
 
   -- the stack to which tokens are fed spells them
   fed_spelled : (st front : List ℕ) → Fed g table st front → Spelled st front
   fed_spelled st front fed =
       subst (Spelled st) (take_all (length front) front (omega arith))
-      (run_spells g table (never g graph table well closed built each) front fed.0 st (length front) fed.1)
+      (run_spells g table (never g graph table well closed safe) front fed.0 st (length front) fed.1)
 
+module _ (g : Grammar) (graph : Graph) (table : Table) (well : IsWellFormed g) (closed : IsClosed table) (built : IsBuilt g graph table)
+    (each : EachReachableHasTree g) where
   module _ (complete : IsComplete g graph table) where
     -- its top has an action at exactly the tokens that can come next
     fed_acts : (st front : List ℕ) → Fed g table st front → ActsAsFollows g table st front
     fed_acts st front fed s t top = (
-      λ acts. spelled_acts g graph table well closed built each st front (fed_spelled st front fed) s t top acts,
+      λ acts. spelled_acts g graph table well closed built each st front (fed_spelled g graph table well closed built.safe st front fed) s t top acts,
       λ can.
           let whole = sym (take_all (length front) front (omega arith)) in
           expected_acts_at g table st s top t
-          (follows_next g graph table well closed built each complete front st (length front) t fed (subst (λ (ts : List ℕ). CanFollow g ts t) whole can)),
+          (follows_next g graph table well closed built.safe complete front st (length front) t fed (subst (λ (ts : List ℕ). CanFollow g ts t) whole can)),
     )
 
     -- no reduction is made at the token of an error point: after tokens that were fed, the stack there is settled
@@ -145,13 +149,13 @@ module _ (g : Grammar) (graph : Graph) (table : Table) (well : IsWellFormed g) (
     fed_settles token lexemes apart i st [] settled tokens j fits fed settles stuck = settles.0
     fed_settles token lexemes apart i st (p ∷ ps) settled tokens j fits fed settles stuck =
         let t = token_at token g lexemes i in
-        let spelled = run_spells g table (never g graph table well closed built each) tokens fed.0 st j fed.1 in
+        let spelled = run_spells g table (never g graph table well closed built.safe) tokens fed.0 st j fed.1 in
         let acts : top_action table t st ≢ Fails = λ fails. let no : ReduceBy p ≡ Fails = sym settles.1.action ∙ fails in cc in
         let can = top_follows st (take j tokens) spelled t acts in
-        let expected = follows_next g graph table well closed built each complete tokens st j t fed can in
+        let expected = follows_next g graph table well closed built.safe complete tokens st j t fed can in
         absurd (stuck_unexpected token g table lexemes i st (p ∷ ps) settled apart fits settles stuck expected)
       where
-        top_follows : (st front : List ℕ) → Spelled st front → (t : ℕ) → top_action table t st ≢ Fails → CanFollow g front t
+        top_follows : (st front : List ℕ) → Spelled g graph table well closed built.safe st front → (t : ℕ) → top_action table t st ≢ Fails → CanFollow g front t
         top_follows [] front spelled t acts = absurd spelled.path
         top_follows (b ∷ st) front spelled t acts =
             let top = top_is_last b st in
@@ -191,11 +195,11 @@ built_actions_keep_to_sentences {X} token g graph table well closed built each =
       let tokens = fed_by_tokens token g table lexemes i st fed in
       subst (ActsOnlyAsFollows g table st) (front_tokens token g table lexemes i)
       (spelled_acts g graph table well closed built each st (take i (map token lexemes))
-      (run_spells g table (never g graph table well closed built each) (map token lexemes) tokens.0 st i tokens.1));
+      (run_spells g table (never g graph table well closed built.safe) (map token lexemes) tokens.0 st i tokens.1));
   stop = λ lexemes prods stop runs.
-      let spelled = far_claims token g table lexemes (Spelled g graph table well closed built each) (spelled_feeds g graph table well closed built each)
-      (spelled_stops g graph table well closed built each token lexemes)
-      (table.start ∷ []) 0 prods (Stopped stop) stop runs refl [] (spelled_start g graph table well closed built each) in
+      let spelled = far_claims token g table lexemes (Spelled g graph table well closed built.safe) (spelled_feeds g graph table well closed built.safe)
+      (spelled_stops g graph table well closed built.safe token lexemes)
+      (table.start ∷ []) 0 prods (Stopped stop) stop runs refl [] (spelled_start g graph table well closed built.safe) in
       subst (λ (xs : List X). ActsOnlyAsFollows g table stop.stack (map token xs)) (fed_front lexemes stop.place)
       (spelled_acts g graph table well closed built each stop.stack (map token (fed_between lexemes 0 stop.place)) spelled);
 }
@@ -207,7 +211,7 @@ complete_built_actions_follow_sentences {X} token g graph table well closed buil
     λ can.
         let tokens = fed_by_tokens token g table lexemes i st fed in
         let back = subst (λ (ts : List ℕ). CanFollow g ts t) (sym (front_tokens token g table lexemes i)) can in
-        expected_acts_at g table st s top t (follows_next g graph table well closed built each complete (map token lexemes) st i t tokens back),
+        expected_acts_at g table st s top t (follows_next g graph table well closed built.safe complete (map token lexemes) st i t tokens back),
   );
   stop = λ lexemes prods stop apart runs.
       let fed = far_claims token g table lexemes (Fed g table) (fed_more g table)
@@ -230,10 +234,10 @@ zip_weaker R Q weaker (x ∷ xs) (y ∷ ys) all = (weaker x y all.0, zip_weaker 
 module _ {X : Type 0} (facts : X → LexemeFacts) (allows : Point X → List (List PlainStep) → Type 0) where
   pub error_states_keep_to_sentences : ErrorStatesKeepToSentences facts allows
   error_states_keep_to_sentences k g graph table lexemes points consumed prods well closed built each runs =
-      let Claim = Spelled g graph table well closed built each in
-      let at = run_claims facts allows k g table lexemes Claim (spelled_feeds g graph table well closed built each)
-      (spelled_stops g graph table well closed built each (λ (x : X). (facts x).token) lexemes)
-      (table.start ∷ []) 0 points consumed prods runs [] (spelled_start g graph table well closed built each) in
+      let Claim = Spelled g graph table well closed built.safe in
+      let at = run_claims facts allows k g table lexemes Claim (spelled_feeds g graph table well closed built.safe)
+      (spelled_stops g graph table well closed built.safe (λ (x : X). (facts x).token) lexemes)
+      (table.start ∷ []) 0 points consumed prods runs [] (spelled_start g graph table well closed built.safe) in
       let R : RepairStop → List X → Type 0 = λ at front. Claim at.stop.stack (map (λ (x : X). (facts x).token) front) in
       let Q : RepairStop → List X → Type 0 = λ at front. ActsOnlyAsFollows g table at.stop.stack (map (λ (x : X). (facts x).token) front) in (
         at.0,
@@ -252,5 +256,20 @@ module _ {X : Type 0} (facts : X → LexemeFacts) (allows : Point X → List (Li
         at.0,
         at.1,
         zip_weaker R Q (λ stop front holds. fed_acts g graph table well closed built each complete stop.stop.stack (map (λ (x : X). (facts x).token) front) holds)
+            points at.0 at.2,
+      )
+
+  pub each_error_comes_in_time : EachErrorComesInTime facts allows
+  each_error_comes_in_time k g graph table lexemes points consumed prods well closed safe viable each runs =
+      let Claim = Spelled g graph table well closed safe in
+      let at = run_claims facts allows k g table lexemes Claim (spelled_feeds g graph table well closed safe)
+      (spelled_stops g graph table well closed safe (λ (x : X). (facts x).token) lexemes)
+      (table.start ∷ []) 0 points consumed prods runs [] (spelled_start g graph table well closed safe) in
+      let R : RepairStop → List X → Type 0 = λ at front. Claim at.stop.stack (map (λ (x : X). (facts x).token) front) in
+      let Q : RepairStop → List X → Type 0 = λ at front. BeginSentence g (map (λ (x : X). (facts x).token) front) in (
+        at.0,
+        at.1,
+        zip_weaker R Q
+            (λ stop front holds. spelled_begin g graph table well closed safe viable each stop.stop.stack (map (λ (x : X). (facts x).token) front) holds)
             points at.0 at.2,
       )

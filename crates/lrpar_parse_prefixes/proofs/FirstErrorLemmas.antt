@@ -8,8 +8,9 @@ use Rattle.lrpar_table_stacks.specs.Run.{Far, Stopped}
 use Rattle.lrpar_parse_repair.specs.Recovery.{Point}
 use Rattle.lrpar_parse_run.specs.RepairRun.{RepairRun, RepairStop, ends_there, is_repaired, runs_through}
 use Rattle.lrpar_parse_repair.specs.Sequences.{PlainStep}
-use Rattle.lrpar_parse_prefixes.specs.FirstErrors.{FirstErrorsAreExact, FirstErrorsComeInTime}
-use Rattle.lrpar_parse_prefixes.proofs.ViableLemmas.{built_tables_keep_to_sentences, complete_built_tables_follow_sentences}
+use Rattle.lrpar_parse_prefixes.specs.FirstErrors.{FirstErrorsAreExact, FirstErrorsComeInTime, ViableFirstErrorsAreExact, ViableFirstErrorsComeInTime}
+use Rattle.lrpar_parse_prefixes.proofs.BuiltLemmas.{built_tables_are_viable}
+use Rattle.lrpar_parse_prefixes.proofs.ViableLemmas.{complete_viable_tables_follow_sentences, viable_tables_keep_to_sentences}
 
 same_first : (a b : RepairStop) (xs ys : List RepairStop) → a ∷ xs ≡ b ∷ ys → a ≡ b
 same_first a b xs ys e = cc
@@ -35,12 +36,23 @@ module _ {X : Type 0} (facts : X → LexemeFacts) (allows : Point X → List (Li
         subst (λ (s : RepairStop). Far (λ x. (facts x).token) g table lexemes st i prods (Stopped s.stop)) (same_first own first stops later is) far,
       )
 
-  pub first_errors_come_in_time : FirstErrorsComeInTime facts allows
-  first_errors_come_in_time k g graph table lexemes first later consumed prods well closed built each runs =
+  pub viable_first_errors_come_in_time : ViableFirstErrorsComeInTime facts allows
+  viable_first_errors_come_in_time k g graph table lexemes first later consumed prods well closed safe viable each runs =
       let far = first_without k g table lexemes (table.start ∷ []) 0 (first ∷ later) consumed prods runs first later refl in
-      (built_tables_keep_to_sentences (λ x. (facts x).token) g graph table well closed built each).stop lexemes far.0 first.stop far.1
+      (viable_tables_keep_to_sentences (λ x. (facts x).token) g graph table well closed safe viable each).stop lexemes far.0 first.stop far.1
+
+  pub viable_first_errors_are_exact : ViableFirstErrorsAreExact facts allows
+  viable_first_errors_are_exact k g graph table lexemes first later consumed prods well closed safe viable each complete runs =
+      let far = first_without k g table lexemes (table.start ∷ []) 0 (first ∷ later) consumed prods runs first later refl in
+      (complete_viable_tables_follow_sentences (λ x. (facts x).token) g graph table well closed safe viable each complete).stop lexemes far.0 first.stop far.1
+
+  -- so it is over a table that was built, since it is viable
+  pub first_errors_come_in_time : FirstErrorsComeInTime facts allows
+  first_errors_come_in_time k g graph table lexemes first later consumed prods well closed built =
+      viable_first_errors_come_in_time k g graph table lexemes first later consumed prods well closed built.safe
+      (built_tables_are_viable g graph table built)
 
   pub first_errors_are_exact : FirstErrorsAreExact facts allows
-  first_errors_are_exact k g graph table lexemes first later consumed prods well closed built each complete runs =
-      let far = first_without k g table lexemes (table.start ∷ []) 0 (first ∷ later) consumed prods runs first later refl in
-      (complete_built_tables_follow_sentences (λ x. (facts x).token) g graph table well closed built each complete).stop lexemes far.0 first.stop far.1
+  first_errors_are_exact k g graph table lexemes first later consumed prods well closed built =
+      viable_first_errors_are_exact k g graph table lexemes first later consumed prods well closed built.safe
+      (built_tables_are_viable g graph table built)

@@ -1,4 +1,5 @@
 pub mod TokenLemmas
+pub mod BuiltLemmas
 pub mod FinishLemmas
 pub mod SpelledLemmas
 pub mod ViableLemmas
@@ -6,3 +7,4 @@ pub mod FirstErrorLemmas
 pub mod ActionLemmas
 pub mod RunStateLemmas
 pub mod ErrorStateLemmas
+pub mod UnviableLemmas

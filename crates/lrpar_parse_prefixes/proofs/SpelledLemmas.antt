@@ -1,8 +1,8 @@
 -- What the stacks of a run spell. Along the symbols of each stack there are trees that fit them, whose leaves are the tokens that
--- were fed: a shift puts a leaf after the others, and a reduction takes the last trees into a node. In a table that was built,
--- the top of such a stack is the item set that its symbols lead to. This set has an item, and from each item a sentence is
--- finished. So a sentence begins with the tokens that were fed: the viable prefix property.
-use Rattle.std.proofs.Common.{◌≡◌, ◌<◌, ◌+◌, ◌∙◌, refl, sym, ap, subst, arith, ℕ, List, [], ◌∷◌, ◌++◌, Option, drop, length, reverse, take}
+-- were fed: a shift puts a leaf after the others, and a reduction takes the last trees into a node. In a viable table, the symbols
+-- of such a stack lead to its top. This state has a core, and from each core a sentence is finished. So a sentence begins with the
+-- tokens that were fed: the viable prefix property.
+use Rattle.std.proofs.Common.{◌≡◌, ◌<◌, ◌+◌, ◌∙◌, refl, sym, ap, subst, ℕ, List, [], ◌∷◌, ◌++◌, Option, drop, length, reverse, take}
 use Rattle.std.proofs.lemmas.List.{append_assoc, append-nil, reverse-append, reverse-reverse, take_more}
 use Rattle.std.proofs.lemmas.List.Elements.{All-drop}
 use Rattle.std.proofs.lemmas.Option.{slice_get-get_or}
@@ -11,10 +11,8 @@ use Rattle.lrpar_grammar.specs.Grammar.{Grammar, GrammarSymbol, IsWellFormed, No
 use Rattle.lrpar_grammar.specs.Tree.{Branch, Cons, Forest, Leaf, Nil, forest_leaves}
 use Rattle.lrpar_grammar.proofs.ForestLemmas.{joined, joined_fits, joined_leaves, split_leaves, splits}
 use Rattle.lrpar_table_rows.specs.Graph.{Graph}
+use Rattle.lrpar_table_rows.specs.Safe.{IsSafe}
 use Rattle.lrpar_table_rows.specs.Table.{IsClosed, Table, states_len}
-use Rattle.lrpar_table_build.specs.Built.{IsBuilt}
-use Rattle.lrpar_table_items.specs.ItemSets.{IsReachedBy}
-use Rattle.lrpar_table_build.proofs.ReachedLemmas.{reached_items}
 use Rattle.lrpar_table_stacks.specs.Path.{IsPath, Leads, NeverSticks}
 use Rattle.lrpar_table_stacks.specs.Reduction.{Feeds, Reduces, Settles}
 use Rattle.lrpar_table_stacks.specs.Run.{Comes, comes_on, stays, token_at}
@@ -24,9 +22,9 @@ use Rattle.lrpar_table_sentences.specs.Reachable.{EachReachableHasTree, IsReacha
 use Rattle.lrpar_table_sentences.specs.Texts.{AreTreesOf}
 use Rattle.lrpar_table_sentences.specs.AccessLens.{Goes, IsWalk, Starts}
 use Rattle.lrpar_table_sentences.proofs.AfterLemmas.{have_trees, prod_reached}
-use Rattle.lrpar_table_sentences.proofs.WalkLemmas.{walk_path}
+use Rattle.lrpar_table_viable.specs.Viable.{IsViable}
 use Rattle.lrpar_parse_prefixes.specs.Viable.{BeginSentence}
-use Rattle.lrpar_parse_prefixes.proofs.FinishLemmas.{begin_less, item_holds}
+use Rattle.lrpar_parse_prefixes.proofs.FinishLemmas.{begin_less, core_holds}
 
 module _ (g : Grammar) (table : Table) (never : NeverSticks g table) where
   -- trees along the symbols of a stack, with these leaves
@@ -96,8 +94,7 @@ module _ (g : Grammar) (table : Table) (never : NeverSticks g table) where
       spells_on tokens (table.start ∷ []) 0 ps after j comes
       (record { symbols = []; path = (refl, tt); trees = Nil; fit = tt; leaves_are = refl })
 
-module _ (g : Grammar) (graph : Graph) (table : Table) (well : IsWellFormed g) (closed : IsClosed table) (built : IsBuilt g graph table)
-    (each : EachReachableHasTree g) where
+module _ (table : Table) (closed : IsClosed table) where
   -- a path goes on as a walk
   pub walks_on : (s : ℕ) (path symbols : List GrammarSymbol) (st : List ℕ) → IsWalk table s path → s < states_len table → Leads table s symbols st
       → IsWalk table (last_of s st) (reverse symbols ++ path) × (last_of s st < states_len table)
@@ -110,34 +107,36 @@ module _ (g : Grammar) (graph : Graph) (table : Table) (well : IsWellFormed g) (
       sym (append_assoc (reverse xs) (x ∷ []) path) ∙ ap (λ (ss : List GrammarSymbol). ss ++ path) (sym (reverse-append (x ∷ []) xs)) in
       (subst (IsWalk table (last_of next st)) turned on.0, on.1)
 
-  -- trees of a path that leads to a state begin a sentence
-  walk_begins : (s : ℕ) (path : List GrammarSymbol) → IsWalk table s path → s < states_len table → (trees : Forest ℕ)
-      → AreTreesOf g (reverse path) trees → BeginSentence g (forest_leaves trees)
-  walk_begins s path walk within trees fit =
-      let same = walk_path g graph table well built closed s path walk in
-      let some = built.canonical.some s (let is = built.resolved.states in omega (arith, within, is)) in
-      let x = some.0 in
-      let reached : IsReachedBy g path x = (same x).0 some.1 in
-      let holds = item_holds g well each path x reached in
-      let item = reached_items g well path x reached in
-      let further = have_trees g each (drop x.dot (symbols_of g x.prod))
-      (All-drop (IsReachableSymbol g) x.dot (symbols_of g x.prod) (prod_reached g well x.prod item.prod holds.0)) in
-      begin_less g (forest_leaves trees) (forest_leaves further.0) (holds.1 trees further.0 fit further.1)
-
-  -- so do those along a stack
-  path_begins : (symbols : List GrammarSymbol) (st : List ℕ) → IsPath table symbols st → (trees : Forest ℕ) → AreTreesOf g symbols trees
-      → BeginSentence g (forest_leaves trees)
-  path_begins symbols [] path trees fit = absurd path
-  path_begins symbols (s ∷ st) path trees fit =
-      let leads = subst (λ (n : ℕ). Leads table n symbols st) path.0 path.1 in
-      let on = walks_on table.start [] symbols st Starts closed.start_within leads in
-      let back : reverse (reverse symbols ++ []) ≡ symbols = ap reverse (append-nil (reverse symbols)) ∙ reverse-reverse symbols in
-      walk_begins (last_of table.start st) (reverse symbols ++ []) on.0 on.1 trees
-      (subst (λ (w : List GrammarSymbol). AreTreesOf g w trees) (sym back) fit)
-
+module _ (g : Grammar) (graph : Graph) (table : Table) (well : IsWellFormed g) (closed : IsClosed table) (safe : IsSafe g graph table) where
+  -- no stack of a run sticks
   abbrev pub never : NeverSticks g table
-  never = never_sticks g graph table closed built.safe well
+  never = never_sticks g graph table closed safe well
 
-  -- and the tokens that a stack spells
-  pub spelled_begin : (st tokens : List ℕ) → Spells g table never st tokens → BeginSentence g tokens
-  spelled_begin st tokens spells = subst (BeginSentence g) spells.leaves_are (path_begins spells.symbols st spells.path spells.trees spells.fit)
+  module _ (viable : IsViable g graph table) (each : EachReachableHasTree g) where
+    -- trees of a path that leads to a state begin a sentence
+    walk_begins : (s : ℕ) (path : List GrammarSymbol) → IsWalk table s path → s < states_len table → (trees : Forest ℕ)
+        → AreTreesOf g (reverse path) trees → BeginSentence g (forest_leaves trees)
+    walk_begins s path walk within trees fit =
+        let some = (viable.each s within).some in
+        let p = some.0 in
+        let k = some.1 in
+        let holds = core_holds g well each graph table safe viable s path walk within p k some.2 in
+        let item = safe.shape.items s p k some.2.0 some.2.1 in
+        let further = have_trees g each (drop k (symbols_of g p))
+        (All-drop (IsReachableSymbol g) k (symbols_of g p) (prod_reached g well p item.prod holds.0)) in
+        begin_less g (forest_leaves trees) (forest_leaves further.0) (holds.1 trees further.0 fit further.1)
+
+    -- so do those along a stack
+    path_begins : (symbols : List GrammarSymbol) (st : List ℕ) → IsPath table symbols st → (trees : Forest ℕ) → AreTreesOf g symbols trees
+        → BeginSentence g (forest_leaves trees)
+    path_begins symbols [] path trees fit = absurd path
+    path_begins symbols (s ∷ st) path trees fit =
+        let leads = subst (λ (n : ℕ). Leads table n symbols st) path.0 path.1 in
+        let on = walks_on table closed table.start [] symbols st Starts closed.start_within leads in
+        let back : reverse (reverse symbols ++ []) ≡ symbols = ap reverse (append-nil (reverse symbols)) ∙ reverse-reverse symbols in
+        walk_begins (last_of table.start st) (reverse symbols ++ []) on.0 on.1 trees
+        (subst (λ (w : List GrammarSymbol). AreTreesOf g w trees) (sym back) fit)
+
+    -- and the tokens that a stack spells
+    pub spelled_begin : (st tokens : List ℕ) → Spells g table never st tokens → BeginSentence g tokens
+    spelled_begin st tokens spells = subst (BeginSentence g) spells.leaves_are (path_begins spells.symbols st spells.path spells.trees spells.fit)

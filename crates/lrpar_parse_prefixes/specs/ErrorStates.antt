@@ -1,10 +1,11 @@
 -- The tokens at which the state of an error point has an action, by the sentences of a grammar, over a table that was built of it: at
--- each error point, the later ones of a run with repairs, too.
+-- each error point, the later ones of a run with repairs, too. And over any viable table: the tokens before each error point.
 use Rattle.std.specs.Prelude.{◌≡◌, ◌≢◌, ◌↔◌, ◌+◌, ℕ, List, [], ◌∷◌, ◌++◌, Option, Some, map, take}
 use Rattle.std.specs.List.{AllZip}
 use Rattle.lrpar_grammar.specs.Grammar.{Grammar, IsWellFormed}
 use Rattle.lrpar_grammar.specs.Sentence.{LexemeFacts}
 use Rattle.lrpar_table_rows.specs.Graph.{Graph}
+use Rattle.lrpar_table_rows.specs.Safe.{IsSafe}
 use Rattle.lrpar_table_rows.specs.Table.{Fails, IsClosed, Table, action_of}
 use Rattle.lrpar_table_build.specs.Built.{IsBuilt}
 use Rattle.lrpar_table_conditions.specs.Complete.{IsComplete}
@@ -18,7 +19,8 @@ use Rattle.lrpar_parse_repair.specs.Recovery.{Point}
 use Rattle.lrpar_parse_repair.specs.Repaired.{Consumes}
 use Rattle.lrpar_parse_repair.specs.Sequences.{PlainDelete, PlainInsert, PlainShift, PlainStep}
 use Rattle.lrpar_parse_run.specs.RepairRun.{RepairRun, RepairStop, fed_between}
-use Rattle.lrpar_parse_prefixes.specs.Viable.{CanFollow}
+use Rattle.lrpar_table_viable.specs.Viable.{IsViable}
+use Rattle.lrpar_parse_prefixes.specs.Viable.{BeginSentence, CanFollow}
 
 -- the top of the stack has an action only at tokens that can come after these
 abbrev pub ActsOnlyAsFollows : Grammar → Table → List ℕ → List ℕ → Type 0
@@ -108,3 +110,12 @@ module _ {X : Type 0} (facts : X → LexemeFacts) (allows : Point X → List (Li
       → KeepOffEnd (λ x. (facts x).token) g lexemes
       → RepairRun facts allows k g table lexemes (table.start ∷ []) 0 stops consumed prods
       → AtEachErrorPoint facts lexemes (ActsAsFollows g table) stops
+
+  -- over any table that is safe and viable, no error of a run comes too late: a sentence begins with the tokens before each error point,
+  -- as repaired so far
+  abbrev pub EachErrorComesInTime : Type 0
+  EachErrorComesInTime =
+      (k : ℕ) (g : Grammar) (graph : Graph) (table : Table) (lexemes : List X) (stops : List RepairStop) (consumed : Option (List X)) (prods : List ℕ)
+      → IsWellFormed g → IsClosed table → IsSafe g graph table → IsViable g graph table → EachReachableHasTree g
+      → RepairRun facts allows k g table lexemes (table.start ∷ []) 0 stops consumed prods
+      → AtEachErrorPoint facts lexemes (λ st front. BeginSentence g front) stops

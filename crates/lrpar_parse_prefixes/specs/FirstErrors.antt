@@ -1,10 +1,11 @@
 -- The viable prefix property of runs with repairs: their first error point, by the sentences of a grammar, over a table that was
--- built of it. Up to there a run with repairs is one without them. `facts` is what is known of a lexeme, and `allows` says which
--- answers the recoverer may give at a point.
+-- built of it, or over any viable table of it. Up to there a run with repairs is one without them. `facts` is what is known of a
+-- lexeme, and `allows` says which answers the recoverer may give at a point.
 use Rattle.std.specs.Prelude.{ℕ, List, [], ◌∷◌, Option, map, take}
 use Rattle.lrpar_grammar.specs.Grammar.{Grammar, IsWellFormed}
 use Rattle.lrpar_grammar.specs.Sentence.{LexemeFacts}
 use Rattle.lrpar_table_rows.specs.Graph.{Graph}
+use Rattle.lrpar_table_rows.specs.Safe.{IsSafe}
 use Rattle.lrpar_table_rows.specs.Table.{Table, IsClosed}
 use Rattle.lrpar_table_build.specs.Built.{IsBuilt}
 use Rattle.lrpar_table_conditions.specs.Complete.{IsComplete}
@@ -12,6 +13,7 @@ use Rattle.lrpar_parse_repair.specs.Recovery.{Point}
 use Rattle.lrpar_parse_run.specs.RepairRun.{RepairRun, RepairStop}
 use Rattle.lrpar_parse_repair.specs.Sequences.{PlainStep}
 use Rattle.lrpar_table_sentences.specs.Reachable.{EachReachableHasTree}
+use Rattle.lrpar_table_viable.specs.Viable.{IsViable}
 use Rattle.lrpar_parse_prefixes.specs.Viable.{BeginSentence, GoWrongAt}
 
 -- runs with repairs over lexemes of this kind, from the start state at the first lexeme; k lexemes have to follow a repair
@@ -31,5 +33,23 @@ module _ {X : Type 0} (facts : X → LexemeFacts) (allows : Point X → List (Li
       (k : ℕ) (g : Grammar) (graph : Graph) (table : Table) (lexemes : List X) (first : RepairStop) (later : List RepairStop)
       (consumed : Option (List X)) (prods : List ℕ)
       → IsWellFormed g → IsClosed table → IsBuilt g graph table → EachReachableHasTree g → IsComplete g graph table
+      → RepairRun facts allows k g table lexemes (table.start ∷ []) 0 (first ∷ later) consumed prods
+      → GoWrongAt g (map (λ x. (facts x).token) lexemes) first.stop.place
+
+  -- the same over any table that is safe and viable
+  abbrev pub ViableFirstErrorsComeInTime : Type 0
+  ViableFirstErrorsComeInTime =
+      (k : ℕ) (g : Grammar) (graph : Graph) (table : Table) (lexemes : List X) (first : RepairStop) (later : List RepairStop)
+      (consumed : Option (List X)) (prods : List ℕ)
+      → IsWellFormed g → IsClosed table → IsSafe g graph table → IsViable g graph table → EachReachableHasTree g
+      → RepairRun facts allows k g table lexemes (table.start ∷ []) 0 (first ∷ later) consumed prods
+      → BeginSentence g (map (λ x. (facts x).token) (take first.stop.place lexemes))
+
+  -- and if it is complete, too
+  abbrev pub ViableFirstErrorsAreExact : Type 0
+  ViableFirstErrorsAreExact =
+      (k : ℕ) (g : Grammar) (graph : Graph) (table : Table) (lexemes : List X) (first : RepairStop) (later : List RepairStop)
+      (consumed : Option (List X)) (prods : List ℕ)
+      → IsWellFormed g → IsClosed table → IsSafe g graph table → IsViable g graph table → EachReachableHasTree g → IsComplete g graph table
       → RepairRun facts allows k g table lexemes (table.start ∷ []) 0 (first ∷ later) consumed prods
       → GoWrongAt g (map (λ x. (facts x).token) lexemes) first.stop.place

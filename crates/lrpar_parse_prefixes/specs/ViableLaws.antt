@@ -1,18 +1,22 @@
--- What runs without repairs feed, expect and refuse, by the sentences of a grammar, over a table that was built of it. This is
--- the viable prefix property, also called the correct-prefix property. A run begins with the start state alone, at the first
--- lexeme. Lexemes may be of any type: only their tokens count.
+-- What runs without repairs feed, expect and refuse, by the sentences of a grammar, over a viable table of it. The table may have been
+-- built of the grammar, by precedences or not, its item sets may be merged, or it may come from another tool. This is the viable
+-- prefix property, also called the correct-prefix property. A run begins with the start state alone, at the first lexeme. Lexemes
+-- may be of any type: only their tokens count.
 use Rattle.std.specs.Prelude.{◌↔◌, ℕ, List, map, take}
 use Rattle.lrpar_grammar.specs.Grammar.{Grammar, IsWellFormed}
 use Rattle.lrpar_grammar.specs.Sentence.{IsSentence}
+use Rattle.lrpar_table_precedence.specs.Precedence.{PrecedenceLists}
 use Rattle.lrpar_table_rows.specs.Graph.{Graph}
+use Rattle.lrpar_table_rows.specs.Safe.{IsSafe}
 use Rattle.lrpar_table_rows.specs.Table.{Table, IsClosed}
-use Rattle.lrpar_table_build.specs.Built.{IsBuilt}
+use Rattle.lrpar_table_build.specs.Built.{IsBuilt, IsBuiltBy}
 use Rattle.lrpar_table_conditions.specs.Complete.{IsComplete}
 use Rattle.lrpar_table_check.specs.CompleteRuns.{RunsTo}
 use Rattle.lrpar_table_stacks.specs.Expected.{IsExpected}
 use Rattle.lrpar_table_check.specs.ExpectedRuns.{FeedsFront}
 use Rattle.lrpar_table_stacks.specs.Run.{Stop, Stopped}
 use Rattle.lrpar_table_sentences.specs.Reachable.{EachReachableHasTree}
+use Rattle.lrpar_table_viable.specs.Viable.{IsViable}
 use Rattle.lrpar_parse_prefixes.specs.Viable.{AreSentence, BeginSentence, CanFollow, GoWrongAt}
 
 -- lexemes are a sentence if and only if their tokens are
@@ -50,3 +54,24 @@ abbrev pub CompleteBuiltTablesFollowSentences : Type 0 → Type 0
 CompleteBuiltTablesFollowSentences X =
     (token : X → ℕ) (g : Grammar) (graph : Graph) (table : Table) → IsWellFormed g → IsClosed table → IsBuilt g graph table
     → EachReachableHasTree g → IsComplete g graph table → FollowsSentences token g table
+
+-- the same over any table that is safe and viable: its lookaheads don't count, so its item sets may be merged
+abbrev pub ViableTablesKeepToSentences : Type 0 → Type 0
+ViableTablesKeepToSentences X =
+    (token : X → ℕ) (g : Grammar) (graph : Graph) (table : Table) → IsWellFormed g → IsClosed table → IsSafe g graph table
+    → IsViable g graph table → EachReachableHasTree g → KeepsToSentences token g table
+
+-- and if it is complete, too
+abbrev pub CompleteViableTablesFollowSentences : Type 0 → Type 0
+CompleteViableTablesFollowSentences X =
+    (token : X → ℕ) (g : Grammar) (graph : Graph) (table : Table) → IsWellFormed g → IsClosed table → IsSafe g graph table
+    → IsViable g graph table → EachReachableHasTree g → IsComplete g graph table → FollowsSentences token g table
+
+-- a table that was built of a grammar is viable
+abbrev pub BuiltTablesAreViable : Type 0
+BuiltTablesAreViable = (g : Grammar) (graph : Graph) (table : Table) → IsBuilt g graph table → IsViable g graph table
+
+-- and so is one whose conflicts precedences resolve
+abbrev pub TablesByPrecedenceAreViable : Type 0
+TablesByPrecedenceAreViable =
+    (g : Grammar) (precedences : PrecedenceLists) (graph : Graph) (table : Table) → IsBuiltBy g precedences graph table → IsViable g graph table

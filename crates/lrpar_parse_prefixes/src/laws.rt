@@ -1,12 +1,16 @@
-//! Laws about runs over tables that are built of a grammar: each function has some as its contract, and does nothing.
+//! Laws about runs over tables that are built of a grammar, and over other viable tables of it: each function has some as its
+//! contract, and does nothing.
 ghost use Rattle.std.specs.Prelude.{ℕ};
 ghost use Rattle.lrpar_grammar.specs.Sentence.{LexemeFacts};
+ghost use Rattle.lrpar_grammar.specs.Sum.{sum_grammar};
 ghost use Rattle.lrpar_parse_lexemes.specs.Views.{facts_by};
 ghost use Rattle.lrpar_parse_repair.specs.Asked.{allowed_at};
+ghost use Rattle.lrpar_table_rows.specs.Sum.{with_bare_items};
 ghost use Rattle.lrpar_table_check.specs.Checked.{Checked};
-ghost use Rattle.lrpar_parse_prefixes.specs.ErrorStates.{BuiltActionsKeepToSentences, CompleteBuiltActionsFollowSentences, ErrorStatesFollowSentences, ErrorStatesKeepToSentences};
-ghost use Rattle.lrpar_parse_prefixes.specs.FirstErrors.{FirstErrorsAreExact, FirstErrorsComeInTime};
-ghost use Rattle.lrpar_parse_prefixes.specs.ViableLaws.{BuiltTablesKeepToSentences, CompleteBuiltTablesFollowSentences, SentencesAreOfTokens};
+ghost use Rattle.lrpar_parse_prefixes.specs.ErrorStates.{BuiltActionsKeepToSentences, CompleteBuiltActionsFollowSentences, EachErrorComesInTime, ErrorStatesFollowSentences, ErrorStatesKeepToSentences};
+ghost use Rattle.lrpar_parse_prefixes.specs.FirstErrors.{FirstErrorsAreExact, FirstErrorsComeInTime, ViableFirstErrorsAreExact, ViableFirstErrorsComeInTime};
+ghost use Rattle.lrpar_parse_prefixes.specs.Unviable.{ErrsLate, bare_table, stray_graph, stray_table};
+ghost use Rattle.lrpar_parse_prefixes.specs.ViableLaws.{BuiltTablesAreViable, BuiltTablesKeepToSentences, CompleteBuiltTablesFollowSentences, CompleteViableTablesFollowSentences, SentencesAreOfTokens, TablesByPrecedenceAreViable, ViableTablesKeepToSentences};
 
 use lrpar_grammar::span::StorageIndex;
 use lrpar_parse_lexemes::lex_api::Lexeme;
@@ -46,6 +50,62 @@ pub fn first_errors_are_where_texts_go_wrong<
 >()
     ensures in_time { (r : R) (d : Checked) (k : ℕ) → FirstErrorsComeInTime (facts_by StorageT.index LexemeT.parts) (allowed_at (R.allows r) d k) }
     ensures exact { (r : R) (d : Checked) (k : ℕ) → FirstErrorsAreExact (facts_by StorageT.index LexemeT.parts) (allowed_at (R.allows r) d k) }
+{}
+
+/// A table that was built of a grammar is viable, with conflicts or without, and so is one whose conflicts precedences resolve: each
+/// of its states has a core, and each core comes from a transition to the state, or another core of the state adds it, or it is the
+/// first core of the start state.
+pub fn built_tables_are_viable()
+    ensures built { BuiltTablesAreViable }
+    ensures by_precedences { TablesByPrecedenceAreViable }
+{}
+
+/// The viable prefix property over any table that is safe and viable, for a grammar in which each reachable rule is productive. The
+/// table may have been built by precedences, its item sets may be merged, as in an LALR table, or it may come from another tool. A
+/// sentence begins with the lexemes that a run feeds, and with these and each token that may come next; the end token may come next
+/// only if the lexemes are a sentence. No error comes too late: a sentence begins with the lexemes before the error point.
+pub fn viable_tables_keep_to_sentences<LexemeT>()
+    ensures keep { ViableTablesKeepToSentences LexemeT }
+    ensures facts_keep { ViableTablesKeepToSentences LexemeFacts }
+{}
+
+/// No error comes too early either, if such a table is complete: the tokens that may come next are exactly those with which some
+/// sentence goes on, and the end token if and only if the lexemes are a sentence. The error point of a run is the first lexeme
+/// with which no sentence begins; or the end, if a sentence begins with the lexemes but they aren't one. A run over a merged table
+/// may make reductions before it finds the error, but it finds the error at the same lexeme.
+pub fn complete_viable_tables_follow_sentences<LexemeT>()
+    ensures follow { CompleteViableTablesFollowSentences LexemeT }
+    ensures facts_follow { CompleteViableTablesFollowSentences LexemeFacts }
+{}
+
+/// The same for the first error of a parse, whatever its recoverer, over any table that is safe and viable: merged, built by
+/// precedences, or of another tool. A sentence begins with the lexemes before the first error point of a run with repairs; and if
+/// the table is complete, that is the first lexeme with which no sentence begins, or the end.
+pub fn viable_first_errors_are_where_texts_go_wrong<
+    StorageT: StorageIndex,
+    LexemeT: Lexeme<StorageT>,
+    R: Recoverer<StorageT, LexemeT>,
+>()
+    ensures in_time { (r : R) (d : Checked) (k : ℕ) → ViableFirstErrorsComeInTime (facts_by StorageT.index LexemeT.parts) (allowed_at (R.allows r) d k) }
+    ensures exact { (r : R) (d : Checked) (k : ℕ) → ViableFirstErrorsAreExact (facts_by StorageT.index LexemeT.parts) (allowed_at (R.allows r) d k) }
+{}
+
+/// No later error of a parse comes too late either, whatever its recoverer, over any table that is safe and viable: a sentence begins
+/// with the lexemes before each error, as repaired so far.
+pub fn viable_errors_come_in_time<
+    StorageT: StorageIndex,
+    LexemeT: Lexeme<StorageT>,
+    R: Recoverer<StorageT, LexemeT>,
+>()
+    ensures in_time { (r : R) (d : Checked) (k : ℕ) → EachErrorComesInTime (facts_by StorageT.index LexemeT.parts) (allowed_at (R.allows r) d k) }
+{}
+
+/// That a table is safe isn't enough. The small table of sums stays safe if it gets one more state, to which the start state shifts
+/// `+`: one that has no item, or one that has only the item `T: . 'ID' {end}`, which no other item adds. These tables aren't viable, and
+/// a run over them feeds `+`, with which no sentence begins.
+pub fn safe_tables_can_err_late()
+    ensures empty { ErrsLate sum_grammar with_bare_items bare_table }
+    ensures unjustified { ErrsLate sum_grammar stray_graph stray_table }
 {}
 
 /// Over a table that was built of a grammar in which each reachable rule is productive, with conflicts or without, each token at

@@ -1,0 +1,4 @@
+//! Whether the cores of each item set are justified: each comes from the start, or from a kernel core by closure.
+#![tactic(auto)]
+
+pub mod viable_fault;
