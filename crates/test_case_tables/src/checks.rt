@@ -4,7 +4,7 @@ use crate::rows::{push_agreed, push_table};
 use crate::subject::Subject;
 use lrpar_grammar::grammar::YaccGrammar;
 use lrpar_grammar::span::StorageIndex;
-use lrpar_table::check::{CheckFault, CompleteFault, ParserData, Refused};
+use lrpar_table::check::{CheckFault, CompleteFault, ParserData, Refused, ViableFault};
 use lrpar_table::table::{StateGraph, StateTable};
 use std::alloc::Global;
 use test_case_lines::cases::Case;
@@ -97,7 +97,7 @@ fn push_checked(
     }
 }
 
-// That the table passes, whether it is complete, and whether it keeps its parts.
+// That the table passes, whether it is complete and whether it is viable, and whether it keeps its parts.
 fn push_taken(out: &mut Printed, alloc: Global, data: &ParserData<u32>, was: &Printed) {
     out.text("checked\n");
     match data.check_complete(alloc) {
@@ -105,7 +105,17 @@ fn push_taken(out: &mut Printed, alloc: Global, data: &ParserData<u32>, was: &Pr
         Err(CompleteFault::Memory) => out.lack_memory(),
         Err(fault) => out.line("incomplete ", &fault),
     }
+    push_viable(out, alloc, data);
     push_kept(out, alloc, data.grm(), data.sgraph(), data.stable(), was);
+}
+
+// Whether the table is viable.
+fn push_viable(out: &mut Printed, alloc: Global, data: &ParserData<u32>) {
+    match data.check_viable(alloc) {
+        Ok(()) => out.text("viable\n"),
+        Err(ViableFault::Memory) => out.lack_memory(),
+        Err(fault) => out.line("unviable ", &fault),
+    }
 }
 
 // Adds a line if the parts aren't as they were.
