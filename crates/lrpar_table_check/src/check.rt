@@ -20,6 +20,7 @@ pub use lrpar_table_conditions::completeness_fault::CompleteFault;
 pub use lrpar_table_rows::condition::SafetyCondition;
 use lrpar_table_rows::table::{StateGraph, StateTable};
 pub use lrpar_table_stacks::overlay::Overlay;
+pub use lrpar_table_viable::viable_fault::ViableFault;
 use std::alloc::Global;
 use std::marker::Model;
 

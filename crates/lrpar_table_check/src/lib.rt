@@ -11,3 +11,4 @@ mod longest;
 mod safety;
 mod settle;
 mod stack_check;
+mod viable_tables;

@@ -1,0 +1,4 @@
+pub mod CoreLemmas
+pub mod FaultLemmas
+pub mod MarkLemmas
+pub mod PassLemmas

@@ -1,1 +1,2 @@
 pub mod Viable
+pub mod Marks
