@@ -1,4 +1,4 @@
--- The answer of a completion. Over its own table, if that is built, there is a completion of the stack of an error point, and it goes on at
+-- The answer of a completion. Over its own table, if that is viable, there is a completion of the stack of an error point, and it goes on at
 -- the end, if it is inserted whole. So a nearest place is found, and its repair works.
 use Rattle.std.proofs.Common.{◌≡◌, refl, sym, subst, arith, ℕ, List, [], ◌∷◌, length, All, Option}
 use Rattle.std.specs.List.{Contains}
@@ -7,24 +7,25 @@ use Rattle.lrpar_table_build.specs.Built.{IsBuilt}
 use Rattle.lrpar_table_check.specs.Checked.{Checked}
 use Rattle.lrpar_table_sentences.specs.Choices.{ChoiceOf}
 use Rattle.lrpar_table_stacks.specs.Stack.{IsStack}
-use Rattle.lrpar_table_stacks.proofs.PathLemmas.{never_sticks}
-use Rattle.lrpar_table_stacks.proofs.StackLemmas.{stack_has_path}
+use Rattle.lrpar_table_viable.specs.Viable.{IsViable}
+use Rattle.lrpar_table.proofs.ViableLemmas.{built_tables_are_viable}
 use Rattle.lrpar_parse_repair.specs.Asked.{Asked, IsStop}
 use Rattle.lrpar_parse_repair.specs.Sequences.{PlainStep, Works}
 use Rattle.lrpar_parse_completion.specs.Answer.{Completer, IsCompleted, IsNearestRepair, IsReady}
 use Rattle.lrpar_parse_completion.specs.Completing.{Completes, IsCompletion}
-use Rattle.lrpar_parse_completion.specs.CompletionLaws.{CompletionsRepair}
+use Rattle.lrpar_parse_completion.specs.CompletionLaws.{CompletionsRepair, ViableCompletionsRepair}
 use Rattle.lrpar_parse_completion.specs.Nearest.{GoesOnAt, IsNearest, repair_at}
 use Rattle.lrpar_parse_completion.specs.Opening.{CanComplete}
 use Rattle.lrpar_parse_completion.proofs.CompletesLemmas.{completion_completes}
 use Rattle.lrpar_parse_completion.proofs.FeedLemmas.{completes_feeds_all, goes_on_at_end, repair_works}
+use Rattle.lrpar_parse_completion.proofs.ListedLemmas.{completion_listed}
 
 module _ {X : Type 0} (token : X → ℕ) (own : Completer) (most : ℕ) (shortest : List (Option ChoiceOf)) (ready : IsReady most own.checked shortest)
     (at : Asked X) (stop : IsStop token at) where
-  -- the error point is over the completion's own table, which is built
-  module _ (is : at.checked ≡ own.checked) (built : IsBuilt own.checked.grammar own.checked.graph own.checked.table) where
+  -- the error point is over the completion's own table, which is viable
+  module _ (is : at.checked ≡ own.checked) (viable : IsViable own.checked.grammar own.checked.graph own.checked.table) where
     pub can_complete : CanComplete own.checked
-    can_complete = record { built = built; complete = ready.complete; productive = ready.productive }
+    can_complete = record { viable = viable; complete = ready.complete; productive = ready.productive }
 
     pub own_stack : IsStack own.checked.table at.stack
     own_stack = subst (λ (d : Checked). IsStack d.table at.stack) is stop.stack
@@ -44,10 +45,8 @@ module _ {X : Type 0} (token : X → ℕ) (own : Completer) (most : ℕ) (shorte
       -- the completion goes on at the end
       pub goes_on_last : GoesOnAt token at tokens (length at.lexemes) (length tokens)
       goes_on_last =
-          let never = never_sticks at.checked.grammar at.checked.graph at.checked.table stop.checked.closed stop.checked.safe stop.checked.well_formed in
-          let path = stack_has_path at.checked.table at.stack stop.stack in
-          goes_on_at_end token at tokens stop.shifts
-          (completes_feeds_all at.checked.grammar at.checked.table never can_there.built.resolved.no_token can_there.built.resolved.tokens at.stack tokens path completes)
+          let listed = completion_listed at.checked.grammar stop.checked.well_formed at.checked.table at.stack tokens there in
+          goes_on_at_end token at tokens stop.shifts (completes_feeds_all at.checked.grammar at.checked.table at.stack tokens listed completes)
 
       pub nearest_repair : (place inserted : ℕ) (answer : List (List PlainStep)) → IsNearest token at own.most tokens place inserted
           → answer ≡ repair_at tokens at.place place inserted ∷ [] → IsNearestRepair token at own.most answer
@@ -63,28 +62,28 @@ module _ {X : Type 0} (token : X → ℕ) (own : Completer) (most : ℕ) (shorte
 
   -- what the completion of the code's stack says, over the code's table
   module _ (d : Checked) (st : List ℕ) (same : d ≡ own.checked) (stack : st ≡ at.stack) where
-    can_here : at.checked ≡ own.checked → IsBuilt own.checked.grammar own.checked.graph own.checked.table → CanComplete d
-    can_here is built = subst CanComplete (sym same) (can_complete is built)
+    can_here : at.checked ≡ own.checked → IsViable own.checked.grammar own.checked.graph own.checked.table → CanComplete d
+    can_here is viable = subst CanComplete (sym same) (can_complete is viable)
 
-    stack_here : at.checked ≡ own.checked → IsBuilt own.checked.grammar own.checked.graph own.checked.table → IsStack d.table st
-    stack_here is built =
-        subst (λ (e : Checked). IsStack e.table st) (sym same) (subst (IsStack own.checked.table) (sym stack) (own_stack is built))
+    stack_here : at.checked ≡ own.checked → IsViable own.checked.grammar own.checked.graph own.checked.table → IsStack d.table st
+    stack_here is viable =
+        subst (λ (e : Checked). IsStack e.table st) (sym same) (subst (IsStack own.checked.table) (sym stack) (own_stack is viable))
 
     -- there always is one
     pub never_none : (CanComplete d → IsStack d.table st → ⊥) → at.checked ≡ own.checked
-        → IsBuilt own.checked.grammar own.checked.graph own.checked.table → ⊥
-    never_none says is built = says (can_here is built) (stack_here is built)
+        → IsViable own.checked.grammar own.checked.graph own.checked.table → ⊥
+    never_none says is viable = says (can_here is viable) (stack_here is viable)
 
     pub completion_there : (tokens : List ℕ) → (CanComplete d → IsStack d.table st → IsCompletion d.grammar d.table st tokens)
-        → at.checked ≡ own.checked → IsBuilt own.checked.grammar own.checked.graph own.checked.table
+        → at.checked ≡ own.checked → IsViable own.checked.grammar own.checked.graph own.checked.table
         → IsCompletion own.checked.grammar own.checked.table at.stack tokens
-    completion_there tokens says is built =
+    completion_there tokens says is viable =
         subst (λ (l : List ℕ). IsCompletion own.checked.grammar own.checked.table l tokens) stack
-        (subst (λ (e : Checked). IsCompletion e.grammar e.table st tokens) same (says (can_here is built) (stack_here is built)))
+        (subst (λ (e : Checked). IsCompletion e.grammar e.table st tokens) same (says (can_here is viable) (stack_here is viable)))
 
   -- nothing was found
-  pub completed_none : (at.checked ≡ own.checked → IsBuilt own.checked.grammar own.checked.graph own.checked.table → ⊥) → IsCompleted token own at []
-  completed_none never = record { works = All-nil WorksHere; nearest = λ is built. absurd (never is built) }
+  pub completed_none : (at.checked ≡ own.checked → IsViable own.checked.grammar own.checked.graph own.checked.table → ⊥) → IsCompleted token own at []
+  completed_none never = record { works = All-nil WorksHere; nearest = λ is viable. absurd (never is viable) }
     where
       WorksHere : List PlainStep → Type 0
       WorksHere = Works token at.checked.grammar at.checked.table at.lexemes at.shifts at.stack at.place
@@ -92,7 +91,7 @@ module _ {X : Type 0} (token : X → ℕ) (own : Completer) (most : ℕ) (shorte
   -- the repair of the nearest place was found
   pub completed_some : (tokens : List ℕ) (place inserted : ℕ) (answer : List (List PlainStep)) → IsNearest token at own.most tokens place inserted
       → answer ≡ repair_at tokens at.place place inserted ∷ []
-      → (at.checked ≡ own.checked → IsBuilt own.checked.grammar own.checked.graph own.checked.table
+      → (at.checked ≡ own.checked → IsViable own.checked.grammar own.checked.graph own.checked.table
       → IsCompletion own.checked.grammar own.checked.table at.stack tokens)
       → IsCompleted token own at answer
   completed_some tokens place inserted answer nearest one completion =
@@ -101,14 +100,19 @@ module _ {X : Type 0} (token : X → ℕ) (own : Completer) (most : ℕ) (shorte
       let works = repair_works token at tokens place inserted nearest.tried.after_stop nearest.tried.within nearest.goes_on in
       record {
         works = subst (All WorksHere) (sym one) (All-cons WorksHere steps [] works (All-nil WorksHere));
-        nearest = λ is built. nearest_repair is built tokens (completion is built) place inserted answer nearest one;
+        nearest = λ is viable. nearest_repair is viable tokens (completion is viable) place inserted answer nearest one;
       }
 
-pub completions_repair : {X : Type 0} → CompletionsRepair X
-completions_repair {X} token own built at stop is answer completed =
-    let repair = completed.nearest is built in
+pub viable_completions_repair : {X : Type 0} → ViableCompletionsRepair X
+viable_completions_repair {X} token own viable at stop is answer completed =
+    let repair = completed.nearest is viable in
     let WorksHere : List PlainStep → Type 0 = Works token at.checked.grammar at.checked.table at.lexemes at.shifts at.stack at.place in
     let steps = repair_at repair.tokens at.place repair.place repair.inserted in
     let works = All-head WorksHere steps [] (subst (All WorksHere) repair.one completed.works) in
     let here : Contains (steps ∷ []) steps = (0, omega arith, refl) in
     (steps, subst (λ (l : List (List PlainStep)). Contains l steps) (sym repair.one) here, works)
+
+-- a table that is built is viable
+pub completions_repair : {X : Type 0} → CompletionsRepair X
+completions_repair token own built =
+    viable_completions_repair token own (built_tables_are_viable own.checked.grammar own.checked.graph own.checked.table built)

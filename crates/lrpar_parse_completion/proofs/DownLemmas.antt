@@ -14,7 +14,9 @@ use Rattle.lrpar_table_stacks.specs.Stack.{AreJoined, IsJoined, IsStack, top_of}
 use Rattle.lrpar_table_stacks.proofs.SettleLemmas.{stack_states}
 use Rattle.lrpar_table_stacks.proofs.StepLemmas.{within_at}
 use Rattle.lrpar_table_check.proofs.CompleteLemmas.{top_more}
+use Rattle.lrpar_table_sentences.specs.AccessLens.{Goes, IsWalk, Starts}
 use Rattle.lrpar_parse_completion.specs.Completing.{IsTail, AtStart, Moved}
+use Rattle.lrpar_parse_completion.specs.Opening.{IsWalkedTo}
 
 -- a state goes to the one above it by some symbol
 goes_up : (table : Table) (s next : ℕ) → IsJoined table s next → (x : GrammarSymbol) × GoesBy table s x next
@@ -63,6 +65,17 @@ module _ (g : Grammar) (graph : Graph) (table : Table) (closed : IsClosed table)
     pub at : slice_get st place ≡ Some base
     pub core : HasCore graph base p 0
     pub lift : (tail : List ℕ) → IsTail g table (take (place + 1) st) p 0 tail → IsTail g table (take (i + 1) st) p k tail
+
+  -- the table goes from its start to each state of the stack
+  pub walked_to : (i s : ℕ) → slice_get st i ≡ Some s → IsWalkedTo table s
+  walked_to zero s at = ([], subst (λ (n : ℕ). IsWalk table n []) (sym (bottom_is_start table st stack s at)) Starts)
+  walked_to (suc j) s at =
+      let low = get_or st j 0 in
+      let inside : j < length st = omega (arith, slice_get_within st (suc j) s at) in
+      let here : slice_get st j ≡ Some low = slice_get-get_or st j 0 inside in
+      let goes = stack_joined table st stack j low s here at in
+      let before = walked_to j low here in
+      (goes.0 ∷ before.0, Goes low s goes.0 before.0 before.1 (within_at (states_len table) st j low (stack_states table closed st stack) here) goes.1)
 
   within : (s p k : ℕ) → HasCore graph s p k → s < states_len table
   within s p k core = let low = state_in_range graph s p k core.0 core.1 in omega (arith, low, safe.shape.states)

@@ -1,9 +1,10 @@
 -- Tokens that are fed in turn. They lead to one stack; and a run over them that accepts feeds them all and then accepts. So a completion
 -- is a repair: all its tokens are inserted, and all lexemes that are left are deleted.
-use Rattle.std.proofs.Common.{◌≡◌, ◌<◌, ◌≤◌, ◌+◌, ◌-◌, ◌∙◌, inl, inr, refl, sym, ap, subst, arith, ℕ, zero, suc, Bool, true, false, List, [], ◌∷◌, ◌++◌, length, drop, take, get_or, slice_get, Option, Some, None, Vec}
+use Rattle.std.proofs.Common.{◌≡◌, ◌<◌, ◌≤◌, ◌+◌, ◌-◌, ◌∙◌, inl, inr, refl, sym, ap, subst, arith, ℕ, zero, suc, Bool, true, false, List, [], ◌∷◌, ◌++◌, length, drop, take, get_or, slice_get, Option, Some, None, Vec, All}
 use Rattle.std.specs.Prelude.{map, replicate}
 use Rattle.std.specs.Option.{option_map, option_map_or}
 use Rattle.std.proofs.lemmas.Bool.{cases_lt}
+use Rattle.std.proofs.lemmas.List.Elements.{All-get_or}
 use Rattle.std.proofs.lemmas.List.{drop_more, drop_all, map-append, take_all}
 use Rattle.std.proofs.lemmas.Option.{get_or_from_slice_get, slice_get-get_or, slice_get-map, slice_get_within}
 use Rattle.lrpar_grammar_places.specs.declared.span.StIdx.{StIdx}
@@ -25,12 +26,6 @@ use Rattle.lrpar_parse_completion.specs.Trying.{IsInserted, stacks_of}
 use Rattle.lrpar_parse_completion.proofs.WaitingLemmas.{take_get}
 use Rattle.lrpar_parse_completion.specs.Nearest.{FeedsAll, GoesOnAt, repair_at}
 
--- past the table's tokens a stack has no action
-fails_past : (table : Table) (t : ℕ) → ((s : ℕ) → action_of table s t ≡ Fails) → (top : Option ℕ)
-    → option_map_or (λ s. action_of table s t) top Fails ≡ Fails
-fails_past table t none None = refl
-fails_past table t none (Some s) = none s
-
 module _ (g : Grammar) (table : Table) where
   -- they lead to one stack
   pub feeds_all_one_way : (st ts a b : List ℕ) → FeedsAll g table st ts a → FeedsAll g table st ts b → a ≡ b
@@ -51,44 +46,29 @@ module _ (g : Grammar) (table : Table) where
   feeds_all_split st (t ∷ ts) us c x =
       let more = feeds_all_split x.1.1 ts us c x.1.3 in (more.0, (x.0, (x.1.0, x.1.1, x.1.2, more.1)), more.2)
 
-  module _ (never : NeverSticks g table) (no_token : (s t : ℕ) → table.tokens ≤ t → action_of table s t ≡ Fails) (many : table.tokens ≡ tokens_len g) where
-    -- a token that is fed is one of the grammar, and not the end token
-    fed_listed : (t : ℕ) (st ps next : List ℕ) → HasPath table st → Feeds g table t st ps next → t < end_token g
-    fed_listed t st ps next path feeds =
-        let settled = settles_path g table t st ps feeds.settled never path feeds.settles in
-        let not_end = (never.shifts settled.0 feeds.settled t feeds.next settled.1 feeds.shifts).0 in
-        elim (cases_lt t table.tokens) as (λ _. t < end_token g) [
-          | inl below ↦ omega (arith, below, many, not_end)
-          | inr past ↦
-              let none = fails_past table t (λ s. no_token s t past) (top_of feeds.settled) in
-              let no : Fails ≡ ShiftTo feeds.next = sym none ∙ feeds.shifts in absurd (cc)
-        ]
+  module _ (tokens : List ℕ) (listed : All (λ (t : ℕ). t < end_token g) tokens) where
+    -- a run that accepts feeds them all, and then accepts
+    run_feeds_all : (st : List ℕ) (i : ℕ) (ps : List ℕ) (end : FarEnd) → Far (λ (t : ℕ). t) g table tokens st i ps end → end ≡ Accepted
+        → (after : List ℕ) × FeedsAll g table st (drop i tokens) after × AcceptsAtEnd g table after
+    run_feeds_all _ _ _ _ (goes_on st i ps qs next end below feeds rest) is =
+        let t = token_at (λ (t : ℕ). t) g tokens i in
+        let more = run_feeds_all next (i + 1) qs end rest is in
+        let first : t ≡ get_or tokens i 0 = ap (λ (o : Option ℕ). option_map_or (λ (t : ℕ). t) o (end_token g)) (slice_get-get_or tokens i 0 below) in
+        let low : t < end_token g = subst (λ (n : ℕ). n < end_token g) (sym first) (All-get_or (λ (t : ℕ). t < end_token g) tokens i 0 below listed) in
+        let whole : drop i tokens ≡ t ∷ drop (i + 1) tokens =
+        drop_more tokens i 0 below ∙ ap (λ (n : ℕ). n ∷ drop (i + 1) tokens) (sym first) in
+        (more.0, subst (λ (l : List ℕ). FeedsAll g table st l more.0) (sym whole) (low, (ps, next, feeds, more.1)), more.2)
+    run_feeds_all _ _ _ _ (accepts st i ps settled at_end settles accepted) is = (
+      st,
+      subst (λ (l : List ℕ). FeedsAll g table st l st) (sym (drop_all i tokens (omega (arith, at_end)))) refl,
+      record { prods = ps; settled = settled; settles = settles; action = accepted },
+    )
+    run_feeds_all _ _ _ _ (stops st i ps settled fits settles stuck) is =
+        let no : Stopped (record { stack = settled; place = i }) ≡ Accepted = is in absurd (let none : ⊥ = cc in none)
 
-    module _ (tokens : List ℕ) where
-      -- a run that accepts feeds them all, and then accepts
-      run_feeds_all : (st : List ℕ) (i : ℕ) (ps : List ℕ) (end : FarEnd) → Far (λ (t : ℕ). t) g table tokens st i ps end → end ≡ Accepted → HasPath table st
-          → (after : List ℕ) × FeedsAll g table st (drop i tokens) after × AcceptsAtEnd g table after
-      run_feeds_all _ _ _ _ (goes_on st i ps qs next end below feeds rest) is path =
-          let t = token_at (λ (t : ℕ). t) g tokens i in
-          let more = run_feeds_all next (i + 1) qs end rest is (feeds_path g table t st ps next never path feeds) in
-          let first : t ≡ get_or tokens i 0 = ap (λ (o : Option ℕ). option_map_or (λ (t : ℕ). t) o (end_token g)) (slice_get-get_or tokens i 0 below) in
-          let whole : drop i tokens ≡ t ∷ drop (i + 1) tokens =
-          drop_more tokens i 0 below ∙ ap (λ (n : ℕ). n ∷ drop (i + 1) tokens) (sym first) in (
-            more.0,
-            subst (λ (l : List ℕ). FeedsAll g table st l more.0) (sym whole) (fed_listed t st ps next path feeds, (ps, next, feeds, more.1)),
-            more.2,
-          )
-      run_feeds_all _ _ _ _ (accepts st i ps settled at_end settles accepted) is path = (
-        st,
-        subst (λ (l : List ℕ). FeedsAll g table st l st) (sym (drop_all i tokens (omega (arith, at_end)))) refl,
-        record { prods = ps; settled = settled; settles = settles; action = accepted },
-      )
-      run_feeds_all _ _ _ _ (stops st i ps settled fits settles stuck) is path =
-          let no : Stopped (record { stack = settled; place = i }) ≡ Accepted = is in absurd (let none : ⊥ = cc in none)
-
-    pub completes_feeds_all : (st tokens : List ℕ) → HasPath table st → Completes g table st tokens
-        → (after : List ℕ) × FeedsAll g table st tokens after × AcceptsAtEnd g table after
-    completes_feeds_all st tokens path completes = run_feeds_all tokens st 0 completes.0 Accepted completes.1 refl path
+  pub completes_feeds_all : (st tokens : List ℕ) → All (λ (t : ℕ). t < end_token g) tokens → Completes g table st tokens
+      → (after : List ℕ) × FeedsAll g table st tokens after × AcceptsAtEnd g table after
+  completes_feeds_all st tokens listed completes = run_feeds_all tokens listed st 0 completes.0 Accepted completes.1 refl
 
 -- what `feed` says of a token of the grammar that isn't the end token
 pub inserted_by : (g : Grammar) (table : Table) (cap t : ℕ) (st : List ℕ) (fed : Bool) (after : List ℕ) → t < end_token g → IsFedBy g table cap t st fed after

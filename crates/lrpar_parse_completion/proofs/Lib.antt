@@ -4,6 +4,7 @@ pub mod WaitingLemmas
 pub mod FoundLemmas
 pub mod OpenLemmas
 pub mod FeedLemmas
+pub mod ListedLemmas
 pub mod NearestLemmas
 pub mod TakeLemmas
 pub mod AnswerLemmas

@@ -12,7 +12,7 @@ use Rattle.lrpar_grammar.specs.Grammar.{Grammar, GrammarSymbol, IsWellFormed, No
 use Rattle.lrpar_grammar.specs.Tree.{forest_leaves}
 use Rattle.lrpar_table_rows.specs.Graph.{Graph, HasCore, graph_len}
 use Rattle.lrpar_table_rows.specs.PlainItems.{core_of}
-use Rattle.lrpar_table_rows.specs.Table.{Table}
+use Rattle.lrpar_table_rows.specs.Table.{Table, states_len}
 use Rattle.lrpar_table_rows.proofs.ItemLemmas.{Contains-image, Contains-preimage}
 use Rattle.lrpar_grammar_places.specs.declared.span.PIdx.{PIdx}
 use Rattle.lrpar_grammar_places.specs.declared.span.StIdx.{StIdx}
@@ -25,9 +25,9 @@ use Rattle.lrpar_table_sentences.specs.Texts.{AreShortestTrees, HaveTrees}
 use Rattle.lrpar_table_sentences.proofs.AfterLemmas.{have_trees, prod_reached}
 use Rattle.lrpar_table_stacks.specs.Stack.{IsStack, states_of}
 use Rattle.lrpar_parse_completion.specs.Completing.{IsCompletion, IsTail, IsTailOfRule, Opened}
-use Rattle.lrpar_parse_completion.specs.Opening.{ArePushed, CanComplete, IsKernelCore, IsOpenedBy}
+use Rattle.lrpar_parse_completion.specs.Opening.{ArePushed, CanComplete, IsKernelCore, IsOpenedBy, IsWalkedTo}
 use Rattle.lrpar_parse_completion.specs.Waiting.{AreLinks, AreWaiting, IsOwnCore, LinkOf, rules_in}
-use Rattle.lrpar_parse_completion.proofs.DownLemmas.{Down, down, low_in, start_tail}
+use Rattle.lrpar_parse_completion.proofs.DownLemmas.{Down, down, low_in, start_tail, walked_to}
 use Rattle.lrpar_parse_completion.proofs.WaitingLemmas.{core_reached, kernel_or_start, links_have_trees, take_get, waited_for}
 
 -- a rule that isn't that of the last link is one of the others
@@ -183,6 +183,14 @@ module _ (d : Checked) (checked : IsChecked d) where
   abbrev table : Table
   table = d.table
 
+  -- each state of the graph is one of the table
+  of_table : (s : ℕ) → s < graph_len graph → s < states_len table
+  of_table s low = let same = checked.safe.shape.states in omega (arith, low, same)
+
+  -- the table goes from its start to each state of a stack
+  pub stack_walked : (st : List ℕ) → IsStack table st → (i s : ℕ) → slice_get st i ≡ Some s → IsWalkedTo table s
+  stack_walked st stack = walked_to g graph table checked.closed checked.safe st stack
+
   -- a state of a stack is one of the graph
   pub state_known : (st : List ℕ) → IsStack table st → (i s : ℕ) → slice_get st i ≡ Some s → s < graph_len graph
   state_known st stack i s at =
@@ -190,10 +198,15 @@ module _ (d : Checked) (checked : IsChecked d) where
       let same = checked.safe.shape.states in omega (arith, low, same)
 
   module _ (can : CanComplete d) where
-    -- the symbols after a dot of a core of a state have minimal sentences
-    pub core_trees : (s p k : ℕ) → s < graph_len graph → HasCore graph s p k → HaveTrees g (drop k (symbols_of g p))
-    core_trees s p k low core =
-        let reached = core_reached g checked.well_formed graph table can.built.canonical can.built.resolved.start s low p k core in
+    -- rules of cores of a state are reachable, if the table goes from its start to the state
+    rule_reached : (s p k : ℕ) → s < graph_len graph → IsWalkedTo table s → HasCore graph s p k → IsReachableRule g (rule_of g p)
+    rule_reached s p k low walked core =
+        core_reached g checked.well_formed graph table can.viable checked.safe s walked (of_table s low) p k core
+
+    -- so the symbols after a dot of such a core have minimal sentences
+    pub core_trees : (s p k : ℕ) → s < graph_len graph → IsWalkedTo table s → HasCore graph s p k → HaveTrees g (drop k (symbols_of g p))
+    core_trees s p k low walked core =
+        let reached = rule_reached s p k low walked core in
         let item = checked.safe.shape.items s p k core.0 core.1 in
         have_trees g can.productive (drop k (symbols_of g p))
         (All-drop (IsReachableSymbol g) k (symbols_of g p) (prod_reached g checked.well_formed p item.prod reached))
@@ -217,28 +230,24 @@ module _ (d : Checked) (checked : IsChecked d) where
     -- the start item, if the state has no kernel item
     pub start_core : (s : ℕ) → s < graph_len graph → ((p k : ℕ) → HasCore graph s p k → 0 < k → ⊥) → IsKernelCore g graph s (start_prod g) 0
     start_core s low none =
-        elim (kernel_or_start g checked.well_formed graph table can.built.canonical can.built.resolved.start s low)
+        elim (kernel_or_start g checked.well_formed graph table can.viable s (of_table s low))
         as (λ _. IsKernelCore g graph s (start_prod g) 0) [
           | inl kernel ↦ absurd (none kernel.0 kernel.1 kernel.2 kernel.3)
           | inr start ↦ record { core = start.1; begun = inr refl }
         ]
 
-    -- rules of a state's own cores are reachable
-    own_reached : (s p k : ℕ) → s < graph_len graph → IsOwnCore g graph table s p k → IsReachableRule g (rule_of g p)
-    own_reached s p k low own =
-        core_reached g checked.well_formed graph table can.built.canonical can.built.resolved.start s low p k (own_core s p k low own).core
-
     -- so the symbols after the rules of links have minimal sentences
-    pub link_trees : (s : ℕ) (links : List LinkOf) → s < graph_len graph → AreWaiting g graph table s links → (i : ℕ) (x : LinkOf)
-        → slice_get links i ≡ Some x → HaveTrees g (drop (x.dot + 1) (symbols_of g x.prod))
-    link_trees s links low waiting =
-        links_have_trees g checked.well_formed (IsOwnCore g graph table s) (λ p k own. own_reached s p k low own) links waiting.each can.productive
+    pub link_trees : (s : ℕ) (links : List LinkOf) → s < graph_len graph → IsWalkedTo table s → AreWaiting g graph table s links → (i : ℕ)
+        (x : LinkOf) → slice_get links i ≡ Some x → HaveTrees g (drop (x.dot + 1) (symbols_of g x.prod))
+    link_trees s links low walked waiting =
+        links_have_trees g checked.well_formed (IsOwnCore g graph table s) (λ p k own. rule_reached s p k low walked (own_core s p k low own).core)
+        links waiting.each can.productive
 
     -- the rule of a production that was opened is one of them
     pub opened_waits : (s q : ℕ) (links : List LinkOf) → s < graph_len graph → AreWaiting g graph table s links → HasCore graph s q 0
         → q ≢ start_prod g → Contains (rules_in links) (rule_of g q)
     opened_waits s q links low waiting core other =
-        waited_for g checked.well_formed graph table can.built.canonical can.built.resolved.start s low links waiting q core other
+        waited_for g checked.well_formed graph table can.viable s (of_table s low) links waiting q core other
 
   -- at first, a minimal sentence of the symbols after the dot of a core of the top
   pub completing_first : (st : List ℕ) (place s p k : ℕ) (tokens : List ℕ) → length st ≡ place + 1 → slice_get st place ≡ Some s

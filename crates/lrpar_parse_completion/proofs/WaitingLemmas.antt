@@ -1,19 +1,22 @@
--- The rules that items of a state wait for. Each is reachable, so the symbols after it have minimal sentences. In a table that is built, a
--- state's item set is the closure of its kernel items, or of the start item; so the rule of each item with its dot at the start is one
--- for which an item of the state waits, but for the start item.
-use Rattle.std.proofs.Common.{◌≡◌, ◌≢◌, ◌<◌, ◌+◌, ◌∙◌, ◌⊎◌, inl, inr, refl, sym, ap, subst, arith, add-one, ℕ, zero, suc, List, [], ◌∷◌, length, drop, take, get_or, slice_get, Some}
+-- The rules that items of a state wait for. Each is reachable, so the symbols after it have minimal sentences. In a viable table, each
+-- core of a state comes by closure from its kernel cores, or from that of the start item; so the rule of each core with its dot at the
+-- start is one for which an item of the state waits, but for the start item. And the rules of the cores are reachable, if the table goes
+-- from its start to the state: a kernel core comes from one of the state before (S4), of which the start state has none (S2).
+use Rattle.std.proofs.Common.{◌≡◌, ◌≢◌, ◌<◌, ◌+◌, ◌⊎◌, inl, inr, refl, sym, ap, subst, arith, add-one, ℕ, zero, suc, List, [], ◌∷◌, length, drop, take, get_or, slice_get, Some}
 use Rattle.std.specs.List.{Contains}
-use Rattle.lrpar_grammar.specs.Grammar.{Grammar, GrammarSymbol, IsWellFormed, Nonterminal, end_token, rule_of, start_prod, symbols_of}
-use Rattle.lrpar_table_rows.specs.Graph.{Graph, HasCore, HasItem, ItemOf, graph_len, item_at}
-use Rattle.lrpar_table_rows.specs.Table.{Table}
+use Rattle.lrpar_grammar.specs.Grammar.{Grammar, GrammarSymbol, IsWellFormed, Nonterminal, rule_of, start_prod, symbols_of}
+use Rattle.lrpar_table_rows.specs.Graph.{Graph, HasCore}
+use Rattle.lrpar_table_rows.specs.Safe.{IsSafe}
+use Rattle.lrpar_table_rows.specs.Table.{Table, states_len}
+use Rattle.lrpar_table_rows.specs.declared.condition.SafetyCondition.TheVariants.{S2, S4}
 use Rattle.lrpar_table_rows.proofs.ItemLemmas.{Contains-preimage}
 use Rattle.lrpar_table_conditions.proofs.FirstTokenLemmas.{at_drop}
-use Rattle.lrpar_table_items.specs.Canonical.{AreSame, IsCanonical, sets_of}
-use Rattle.lrpar_table_items.specs.ItemSets.{Adds, Added, IsAdvanced, IsInClosure, IsReachedBy, IsStartItem, Own}
-use Rattle.lrpar_table_build.proofs.ReachedLemmas.{closure_each}
-use Rattle.lrpar_table_sentences.specs.Reachable.{EachReachableHasTree, IsReachableRule}
+use Rattle.lrpar_table_sentences.specs.AccessLens.{Goes, IsWalk, Starts}
+use Rattle.lrpar_table_sentences.specs.Reachable.{Added, EachReachableHasTree, IsReachableRule}
 use Rattle.lrpar_table_sentences.specs.Texts.{HaveTrees}
-use Rattle.lrpar_table_sentences.proofs.AfterLemmas.{after_reached, have_trees, item_reached, rest_reached}
+use Rattle.lrpar_table_sentences.proofs.AfterLemmas.{after_reached, have_trees, rest_reached}
+use Rattle.lrpar_table_viable.specs.Viable.{Begins, Closes, IsJustified, IsViable, Kernel}
+use Rattle.lrpar_parse_completion.specs.Opening.{IsWalkedTo}
 use Rattle.lrpar_parse_completion.specs.Waiting.{AreLinks, AreWaiting, HasRuleAfter, LinkOf, rules_in}
 
 -- an element of the first ones is in its place in the list
@@ -50,72 +53,61 @@ module _ (g : Grammar) (well : IsWellFormed g) (own : ℕ → ℕ → Type 0) (o
       subst (HaveTrees g) (sym rest)
       (have_trees g each link.rest (rest_reached g well x.prod x.dot (Nonterminal x.rule) link.rest link.waits reached))
 
--- a closure that has an item is that of some item
-closure_some : (g : Grammar) (items : ItemOf → Type 0) (x : ItemOf) → IsInClosure g items x → (y : ItemOf) × items y
-closure_some g items x (Own y h) = (y, h)
-closure_some g items x (Added y z h adds) = closure_some g items y h
+-- a state has a kernel item, or the start item, if one of its cores is justified
+begun_by : (g : Grammar) (graph : Graph) (table : Table) (s p k : ℕ) → IsJustified g graph table s p k
+    → ((q j : ℕ) × HasCore graph s q j × (0 < j)) ⊎ ((s ≡ table.start) × HasCore graph s (start_prod g) 0)
+begun_by g graph table s _ _ (Kernel p k has) = inl (p, k + 1, has, omega arith)
+begun_by g graph table s _ _ (Begins is has) = inr (is, has)
+begun_by g graph table s _ _ (Closes p k q from adds has) = begun_by g graph table s p k from
 
-module _ (g : Grammar) (well : IsWellFormed g) (graph : Graph) (table : Table) (canonical : IsCanonical g graph) (start : table.start ≡ 0) (s : ℕ)
-    (low : s < graph_len graph) where
-  -- the set of the start alone is that of the start state
-  is_start : AreSame (sets_of graph s) (IsReachedBy g []) → s ≡ table.start
-  is_start same =
-      let zero_low : 0 < graph_len graph = omega (arith, low) in
-      canonical.once s 0 low zero_low (λ x. ((λ h. (canonical.start x).1 ((same x).0 h)), (λ h. (same x).1 ((canonical.start x).0 h)))) ∙ sym start
+module _ (g : Grammar) (well : IsWellFormed g) (graph : Graph) (table : Table) where
+  -- rules of justified cores are reachable, if those of the kernel cores are
+  justified_reached : (s : ℕ) → ((p k : ℕ) → HasCore graph s p (k + 1) → IsReachableRule g (rule_of g p)) → (p k : ℕ)
+      → IsJustified g graph table s p k → IsReachableRule g (rule_of g p)
+  justified_reached s moved _ _ (Kernel p k has) = moved p k has
+  justified_reached s moved _ _ (Begins is has) = subst (IsReachableRule g) (sym well.last_rule) Added
+  justified_reached s moved _ _ (Closes p k q from adds has) =
+      subst (IsReachableRule g) (sym adds.of_rule) (after_reached g well p k adds.rule adds.rest adds.before (justified_reached s moved p k from))
 
-  -- an item of a state's set is one of its items
-  item_there : (path : List GrammarSymbol) → AreSame (sets_of graph s) (IsReachedBy g path) → (x : ItemOf) → IsReachedBy g path x
-      → HasItem graph s x.prod x.dot x.token
-  item_there path same x h = (same x).1 h
+  module _ (viable : IsViable g graph table) where
+    -- so they are in each state to which the table goes from its start
+    walk_reached : IsSafe g graph table → (s : ℕ) (path : List GrammarSymbol) → IsWalk table s path → s < states_len table → (p k : ℕ)
+        → HasCore graph s p k → IsReachableRule g (rule_of g p)
+    walk_reached safe _ _ Starts low p k core =
+        justified_reached table.start
+        (λ q j has. let fresh : j + 1 ≡ 0 = safe.each S2 table.start low refl q (j + 1) has in absurd (omega (arith, fresh)))
+        p k ((viable.each table.start low).justified p k core)
+    walk_reached safe _ _ (Goes from s x path walk before goes) low p k core =
+        justified_reached s
+        (λ q j has. walk_reached safe from path walk before q j (safe.each S4 from before x s goes q j has).1)
+        p k ((viable.each s low).justified p k core)
 
-  -- a state's rules are reachable
-  pub core_reached : (p k : ℕ) → HasCore graph s p k → IsReachableRule g (rule_of g p)
-  core_reached p k core =
-      let path = canonical.reached s low in item_reached g well path.0 (item_at p k core.0) ((path.1 (item_at p k core.0)).0 core.1)
+    pub core_reached : IsSafe g graph table → (s : ℕ) → IsWalkedTo table s → s < states_len table → (p k : ℕ) → HasCore graph s p k
+        → IsReachableRule g (rule_of g p)
+    core_reached safe s walked = walk_reached safe s walked.0 walked.1
 
-  -- a state has a kernel item, or the start item
-  pub kernel_or_start : ((p k : ℕ) × HasCore graph s p k × (0 < k)) ⊎ ((s ≡ table.start) × HasCore graph s (start_prod g) 0)
-  kernel_or_start = by_path (canonical.reached s low).0 (canonical.reached s low).1
-    where
-      by_path : (path : List GrammarSymbol) → AreSame (sets_of graph s) (IsReachedBy g path)
-          → ((p k : ℕ) × HasCore graph s p k × (0 < k)) ⊎ ((s ≡ table.start) × HasCore graph s (start_prod g) 0)
-      by_path [] same =
-          let there = item_there [] same (item_at (start_prod g) 0 (end_token g)) (Own (item_at (start_prod g) 0 (end_token g)) refl) in
-          inr (is_start same, (end_token g, there))
-      by_path (x ∷ path) same =
-          let some = canonical.some s low in
-          let kernel = closure_some g (IsAdvanced g (IsReachedBy g path) x) some.0 ((same some.0).0 some.1) in
-          let there = item_there (x ∷ path) same kernel.0 (Own kernel.0 kernel.1) in
-          let moved : kernel.0.dot ≡ kernel.1.0.dot + 1 = ap (λ (y : ItemOf). y.dot) kernel.1.3 in
-          inl (kernel.0.prod, kernel.0.dot, (kernel.0.token, there), omega (arith, moved))
+    module _ (s : ℕ) (low : s < states_len table) where
+      -- a state has a kernel item, or the start item
+      pub kernel_or_start : ((p k : ℕ) × HasCore graph s p k × (0 < k)) ⊎ ((s ≡ table.start) × HasCore graph s (start_prod g) 0)
+      kernel_or_start =
+          let at = viable.each s low in let some = at.some in
+          begun_by g graph table s some.0 some.1 (at.justified some.0 some.1 some.2)
 
-  module _ (links : List LinkOf) (waiting : AreWaiting g graph table s links) where
-    -- the rule after an item's dot is in the list; and so is an item's own rule, if its dot is at the start
-    abbrev IsListed : ItemOf → Type 0
-    IsListed x = HasRuleAfter g links x.prod x.dot × (x.prod ≢ start_prod g → x.dot ≡ 0 → Contains (rules_in links) (rule_of g x.prod))
+      module _ (links : List LinkOf) (waiting : AreWaiting g graph table s links) where
+        -- the rule after a core's dot is in the list; and so is the core's own rule, if its dot is at the start
+        abbrev IsListed : ℕ → ℕ → Type 0
+        IsListed p k = HasRuleAfter g links p k × (p ≢ start_prod g → k ≡ 0 → Contains (rules_in links) (rule_of g p))
 
-    added_listed : (x y : ItemOf) → IsListed x → Adds g x y → IsListed y
-    added_listed x y listed adds =
-        let has = listed.0 adds.rule adds.rest adds.before in (
-          subst (λ (n : ℕ). HasRuleAfter g links y.prod n) (sym adds.fresh) (waiting.closed adds.rule has y.prod adds.known adds.of_rule),
-          λ other fresh. subst (Contains (rules_in links)) (sym adds.of_rule) has,
-        )
+        justified_listed : (p k : ℕ) → IsJustified g graph table s p k → IsListed p k
+        justified_listed _ _ (Kernel p k has) =
+            (waiting.own p (k + 1) (inl (has, omega arith)), λ apart fresh. absurd (omega (arith, fresh)))
+        justified_listed _ _ (Begins is has) = (waiting.own (start_prod g) 0 (inr (is, refl, refl)), λ apart fresh. absurd (apart refl))
+        justified_listed _ _ (Closes p k q from adds has) =
+            let has_rule = (justified_listed p k from).0 adds.rule adds.rest adds.before in (
+              waiting.closed adds.rule has_rule q adds.known adds.of_rule,
+              λ apart fresh. subst (Contains (rules_in links)) (sym adds.of_rule) has_rule,
+            )
 
-    -- so each item with its dot at the start is waited for, other than the start item
-    pub waited_for : (q : ℕ) → HasCore graph s q 0 → q ≢ start_prod g → Contains (rules_in links) (rule_of g q)
-    waited_for q core other =
-        let path = canonical.reached s low in
-        (by_path path.0 path.1 (item_at q 0 core.0) ((path.1 (item_at q 0 core.0)).0 core.1)).1 other refl
-      where
-        by_path : (path : List GrammarSymbol) → AreSame (sets_of graph s) (IsReachedBy g path) → (x : ItemOf) → IsReachedBy g path x → IsListed x
-        by_path [] same =
-            closure_each g IsListed added_listed (IsStartItem g)
-            (λ x is. subst IsListed (sym is) (waiting.own (start_prod g) 0 (inr (is_start same, refl, refl)), λ apart fresh. absurd (apart refl)))
-        by_path (a ∷ path) same =
-            closure_each g IsListed added_listed (IsAdvanced g (IsReachedBy g path) a)
-            (λ y from.
-            let there = item_there (a ∷ path) same y (Own y from) in
-            let moved : y.dot ≡ from.0.dot + 1 = ap (λ (z : ItemOf). z.dot) from.3 in (
-              waiting.own y.prod y.dot (inl ((y.token, there), omega (arith, moved))),
-              λ apart fresh. absurd (omega (arith, moved, fresh)),
-            ))
+        -- so each core with its dot at the start is waited for, other than that of the start item
+        pub waited_for : (q : ℕ) → HasCore graph s q 0 → q ≢ start_prod g → Contains (rules_in links) (rule_of g q)
+        waited_for q core other = (justified_listed q 0 ((viable.each s low).justified q 0 core)).1 other refl

@@ -1,10 +1,10 @@
 -- The answer of a completion at an error point.
 use Rattle.std.specs.Prelude.{◌≡◌, ℕ, List, [], ◌∷◌, All, Option}
-use Rattle.lrpar_table_build.specs.Built.{IsBuilt}
 use Rattle.lrpar_table_check.specs.Checked.{Checked, IsChecked}
 use Rattle.lrpar_table_conditions.specs.Complete.{IsComplete}
 use Rattle.lrpar_table_sentences.specs.Choices.{AreShortest, ChoiceOf}
 use Rattle.lrpar_table_sentences.specs.Reachable.{EachReachableHasTree}
+use Rattle.lrpar_table_viable.specs.Viable.{IsViable}
 use Rattle.lrpar_parse_repair.specs.Asked.{Asked}
 use Rattle.lrpar_parse_repair.specs.Sequences.{PlainStep, Works}
 use Rattle.lrpar_parse_completion.specs.Completing.{Completes, IsCompletion}
@@ -32,9 +32,9 @@ pub record IsNearestRepair {X : Type 0} (token : X → ℕ) (at : Asked X) (most
   pub nearest : IsNearest token at most tokens place inserted
   pub one : answer ≡ repair_at tokens at.place place inserted ∷ []
 
--- the answer at an error point: each of its sequences works; and at an error point over the completion's own table, if it is built, the
+-- the answer at an error point: each of its sequences works; and at an error point over the completion's own table, if it is viable, the
 -- answer is the repair of a completion at the nearest place
 pub record IsCompleted {X : Type 0} (token : X → ℕ) (own : Completer) (at : Asked X) (answer : List (List PlainStep)) : Type 0 where
   pub works : All (Works token at.checked.grammar at.checked.table at.lexemes at.shifts at.stack at.place) answer
-  pub nearest : at.checked ≡ own.checked → IsBuilt own.checked.grammar own.checked.graph own.checked.table
+  pub nearest : at.checked ≡ own.checked → IsViable own.checked.grammar own.checked.graph own.checked.table
       → IsNearestRepair token at own.most answer

@@ -4,19 +4,24 @@ use Rattle.lrpar_grammar.specs.Grammar.{Grammar, GrammarSymbol, prod_len, prods_
 use Rattle.lrpar_grammar.specs.Tree.{Forest, forest_leaves}
 use Rattle.lrpar_table_rows.specs.Graph.{Graph, HasCore}
 use Rattle.lrpar_table_rows.specs.Table.{Table}
-use Rattle.lrpar_table_build.specs.Built.{IsBuilt}
 use Rattle.lrpar_table_check.specs.Checked.{Checked}
 use Rattle.lrpar_table_conditions.specs.Complete.{IsComplete}
+use Rattle.lrpar_table_sentences.specs.AccessLens.{IsWalk}
 use Rattle.lrpar_table_sentences.specs.Reachable.{EachReachableHasTree}
 use Rattle.lrpar_table_sentences.specs.Texts.{AreShortestTrees}
+use Rattle.lrpar_table_viable.specs.Viable.{IsViable}
 use Rattle.lrpar_parse_completion.specs.Completing.{IsTail, IsTailOfRule}
 use Rattle.lrpar_parse_completion.specs.Waiting.{IsOwnCore}
 
--- the table is built and complete, and its grammar's reachable rules are productive
+-- the table is viable and complete, and its grammar's reachable rules are productive
 pub record CanComplete (d : Checked) : Type 0 where
-  pub built : IsBuilt d.grammar d.graph d.table
+  pub viable : IsViable d.grammar d.graph d.table
   pub complete : IsComplete d.grammar d.graph d.table
   pub productive : EachReachableHasTree d.grammar
+
+-- by some symbols, the table goes from its start to state s
+abbrev pub IsWalkedTo : Table → ℕ → Type 0
+IsWalkedTo table s = (path : List GrammarSymbol) × IsWalk table s path
 
 -- the tokens of a minimal sentence of the symbols were appended
 abbrev pub ArePushed : Grammar → List GrammarSymbol → List ℕ → List ℕ → Type 0

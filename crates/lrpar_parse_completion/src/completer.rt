@@ -8,7 +8,7 @@ ghost use Rattle.lrpar_table_sentences.specs.Texts.{HaveTrees};
 ghost use Rattle.lrpar_table_stacks.specs.Expected.{tokens_of};
 ghost use Rattle.lrpar_table_stacks.specs.Stack.{IsStack, states_of};
 ghost use Rattle.lrpar_parse_completion.specs.Completing.{IsCompletion};
-ghost use Rattle.lrpar_parse_completion.specs.Opening.{ArePushed, CanComplete, IsKernelCore, IsOpenedBy};
+ghost use Rattle.lrpar_parse_completion.specs.Opening.{ArePushed, CanComplete, IsKernelCore, IsOpenedBy, IsWalkedTo};
 
 use crate::waiting::{Link, waiting};
 use lrpar_grammar::grammar::YaccGrammar;
@@ -29,7 +29,7 @@ impl<'a, StorageT: StorageIndex> Completer<'a, StorageT> {
     /// The completion of the stack, bottom first: a minimal sentence of the symbols after the dot of a kernel item of the top state, and
     /// then, for each item whose rule this ends, of those after the rule in an item that waits for it, down to the start item.
     ///
-    /// There is one, if the table is built and complete and its reachable rules are productive.
+    /// There is one, if the table is viable and complete and its reachable rules are productive.
     pub(crate) fn completion(
         &self,
         alloc: Global,
@@ -124,7 +124,7 @@ impl<'a, StorageT: StorageIndex> Completer<'a, StorageT> {
         ensures opened { let d = self.now.data.now in IfOk result (λ found. IfSome found (λ core.
             IsOpenedBy d.grammar d.graph d.table (StorageT.index state.0) (rule_of d.grammar (StorageT.index prod.0))
             (tokens_of StorageT.index tokens.old.items) (tokens_of StorageT.index tokens.new.items) (StorageT.index core.0.0) core.1)) }
-        ensures some { let d = self.now.data.now in IfOk result (λ found. CanComplete d → HasCore d.graph (StorageT.index state.0) (StorageT.index prod.0) 0
+        ensures some { let d = self.now.data.now in IfOk result (λ found. CanComplete d → IsWalkedTo d.table (StorageT.index state.0) → HasCore d.graph (StorageT.index state.0) (StorageT.index prod.0) 0
             → StorageT.index prod.0 ≢ start_prod d.grammar → IsSome found) }
     {
         let grm = self.data.grm();

@@ -33,7 +33,7 @@ use Rattle.lrpar_table_sentences.proofs.AfterLemmas.{after_reached, drop_at_get,
 use Rattle.lrpar_table_sentences.proofs.WalkLemmas.{walk_path}
 use Rattle.lrpar_parse_prefixes.specs.ErrorStates.{ActsOnlyAsFollows}
 use Rattle.lrpar_parse_prefixes.specs.Viable.{AreSentence, BeginSentence, CanFollow}
-use Rattle.lrpar_parse_prefixes.proofs.BuiltLemmas.{built_tables_are_viable}
+use Rattle.lrpar_table.proofs.ViableLemmas.{built_tables_are_viable}
 use Rattle.lrpar_parse_prefixes.proofs.FinishLemmas.{HoldsOfTrees, begin_less, core_holds, moved_holds, start_sentence}
 use Rattle.lrpar_parse_prefixes.proofs.SpelledLemmas.{Spells, never, walks_on}
 

@@ -9,7 +9,7 @@ use Rattle.lrpar_parse_repair.specs.Recovery.{Point}
 use Rattle.lrpar_parse_run.specs.RepairRun.{RepairRun, RepairStop, ends_there, is_repaired, runs_through}
 use Rattle.lrpar_parse_repair.specs.Sequences.{PlainStep}
 use Rattle.lrpar_parse_prefixes.specs.FirstErrors.{FirstErrorsAreExact, FirstErrorsComeInTime, ViableFirstErrorsAreExact, ViableFirstErrorsComeInTime}
-use Rattle.lrpar_parse_prefixes.proofs.BuiltLemmas.{built_tables_are_viable}
+use Rattle.lrpar_table.proofs.ViableLemmas.{built_tables_are_viable}
 use Rattle.lrpar_parse_prefixes.proofs.ViableLemmas.{complete_viable_tables_follow_sentences, viable_tables_keep_to_sentences}
 
 same_first : (a b : RepairStop) (xs ys : List RepairStop) → a ∷ xs ≡ b ∷ ys → a ≡ b

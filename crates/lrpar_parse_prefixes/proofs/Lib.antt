@@ -1,5 +1,4 @@
 pub mod TokenLemmas
-pub mod BuiltLemmas
 pub mod FinishLemmas
 pub mod SpelledLemmas
 pub mod ViableLemmas

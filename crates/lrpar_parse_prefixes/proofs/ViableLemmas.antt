@@ -20,7 +20,7 @@ use Rattle.lrpar_table_sentences.specs.Reachable.{EachReachableHasTree}
 use Rattle.lrpar_table_viable.specs.Viable.{IsViable}
 use Rattle.lrpar_parse_prefixes.specs.Viable.{AreSentence, BeginSentence, CanFollow, GoWrongAt}
 use Rattle.lrpar_parse_prefixes.specs.ViableLaws.{BuiltTablesKeepToSentences, CompleteBuiltTablesFollowSentences, CompleteViableTablesFollowSentences, ViableTablesKeepToSentences}
-use Rattle.lrpar_parse_prefixes.proofs.BuiltLemmas.{built_tables_are_viable}
+use Rattle.lrpar_table.proofs.ViableLemmas.{built_tables_are_viable}
 use Rattle.lrpar_parse_prefixes.proofs.SpelledLemmas.{never, run_spells, spelled_begin, spells_fed}
 use Rattle.lrpar_parse_prefixes.proofs.TokenLemmas.{comes_by_tokens, far_by_tokens}
 

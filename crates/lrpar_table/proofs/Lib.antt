@@ -1,3 +1,4 @@
 pub mod CompleteLemmas
 pub mod ResolvedLemmas
 pub mod DataLemmas
+pub mod ViableLemmas

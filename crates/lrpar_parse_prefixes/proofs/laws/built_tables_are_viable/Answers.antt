@@ -1,4 +1,4 @@
-use Rattle.lrpar_parse_prefixes.proofs.BuiltLemmas.{built_tables_are_viable, tables_by_precedence_are_viable}
+use Rattle.lrpar_table.proofs.ViableLemmas.{built_tables_are_viable, tables_by_precedence_are_viable}
 use Rattle.lrpar_parse_prefixes.proofs.laws.built_tables_are_viable.Goals as goal
 
 pub returns : goal.returns

@@ -7,7 +7,7 @@ use Rattle.lrpar_table_stacks.specs.Expected.{tokens_of}
 use Rattle.lrpar_table_sentences.specs.Texts.{HaveTrees}
 use Rattle.lrpar_table_stacks.specs.Stack.{states_of}
 use Rattle.lrpar_parse_completion.specs.Opening.{ArePushed}
-use Rattle.lrpar_parse_completion.proofs.OpenLemmas.{completing_base, completing_deep, completing_done, completing_first, completing_next, core_trees, no_stack, rest_of, state_at, state_known}
+use Rattle.lrpar_parse_completion.proofs.OpenLemmas.{completing_base, completing_deep, completing_done, completing_first, completing_next, core_trees, no_stack, rest_of, stack_walked, state_at, state_known}
 use Rattle.lrpar_parse_completion.proofs.completer.Completer.completion.Goals as goal
 
 pub returns-then-is_empty : goal.returns-then-is_empty
@@ -38,14 +38,20 @@ pub returns-then-not-branch : goal.returns-then-not-branch
 returns-then-not-branch g c =
     let index = g.StorageT.StorageIndex.index in
     let d = c.args.self.now.data.now in
-    let s = index c.index-stack-place.result.0 in
+    let stack = c.args.stack.now in
+    let st = states_of index stack in
+    let top = c.index-stack-place.result in
+    let s = index top.0 in
+    let some = eqb-false (length stack) 0 (sym c.is_empty.ensures ∙ c.if-is_empty.false) in
+    let at = state_at index stack (length stack - 1) top (omega arith) c.index-stack-place.is in
     let p = index c.kernel_core-dot.result.0.0 in
     let k = c.kernel_core-dot.result.1 in
     let symbols : map (symbol_of index) c.prod.result.now ≡ symbols_of d.grammar p = rw c.grm-grm.ensures at c.prod.ensures in
     let rest = rest_of (symbol_of index) k c.prod.result.now (symbols_of d.grammar p) symbols in
     record {
       completion = λ can is.
-          let trees = core_trees d c.stable-table.ensures.checked can s p k (c.has_state.ensures.0 c.if-not-has_state.false) (c.kernel_core-dot.ensures.kernel can).core in
+          let walked = stack_walked d c.stable-table.ensures.checked st is (length stack - 1) s at in
+          let trees = core_trees d c.stable-table.ensures.checked can s p k (c.has_state.ensures.0 c.if-not-has_state.false) walked (c.kernel_core-dot.ensures.kernel can).core in
           let some = (rw c.grm-grm.ensures at c.in_ok-push_rest.ensures.some) (subst (HaveTrees d.grammar) (sym rest) trees) in
           absurd (cc);
     }
@@ -138,7 +144,8 @@ returns-in_default g c =
     record {
       completion = λ can is.
           let core = completing_base d c.stable-table.ensures.checked st is l.place p l.dot (tokens_of index l.tokens.items) (l.invariant.completing can is) (index base.0) at in
-          let none = (rw c.in_default.is at c.in_ok-next.ensures.some) can core other in
+          let walked = stack_walked d c.stable-table.ensures.checked st is n (index base.0) at in
+          let none = (rw c.in_default.is at c.in_ok-next.ensures.some) can walked core other in
           absurd (cc);
     }
 

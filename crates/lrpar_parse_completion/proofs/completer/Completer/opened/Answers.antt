@@ -25,7 +25,7 @@ links-init g c =
     record {
       within = omega (arith, many);
       climbs = subst (λ (r : ℕ). Climbs grm d.graph d.table (rule_of grm p) r old old) (sym wanted) (climbs_none grm d.graph d.table (rule_of grm p) old);
-      listed = λ can core other.
+      listed = λ can walked core other.
           let has = opened_waits d c.stable-table.ensures.checked can s p links c.requires.state c.in_ok-links.ensures core other in
           subst (λ (xs : List LinkOf). Contains (rules_in xs) w) (sym (take_all c.len-place.result links (omega (arith, many))))
           (subst (Contains (rules_in links)) (sym wanted) has);
@@ -64,8 +64,8 @@ returns-then-not-branch g c =
     let q = index link.prod.0 in
     record {
       opened = tt;
-      some = λ can core other.
-          let trees = link_trees d c.stable-table.ensures.checked can s (links_of index found.items) c.requires.state c.in_ok-links.ensures n (link_of index link) at in
+      some = λ can walked core other.
+          let trees = link_trees d c.stable-table.ensures.checked can s (links_of index found.items) c.requires.state walked c.in_ok-links.ensures n (link_of index link) at in
           let some = (rw c.grm-grm.ensures at c.in_ok-push_after.ensures.some) trees in
           absurd (cc);
     }
@@ -99,7 +99,7 @@ returns-then-is_kernel g c =
     let dot : j ≤ prod_len grm q = omega (arith, length_at (symbols_of grm q) j (Nonterminal (index link.rule.0)) is.rest is.waits) in
     record {
       opened = climbs_out grm d.graph d.table (rule_of grm p) (index link.rule.0) q j is.rest old mid new is.waits climbs pushed s is.known dot own;
-      some = λ can core other. refl;
+      some = λ can walked core other. refl;
     }
 
 pub links-preserved : goal.links-preserved
@@ -133,7 +133,7 @@ links-preserved g c =
       within = omega (arith, within);
       climbs = subst (λ (r : ℕ). Climbs grm d.graph d.table (rule_of grm p) r old new) (sym next)
           (climbs_on grm d.graph d.table (rule_of grm p) (index link.rule.0) q j is.rest old mid new is.waits climbs pushed is.known later.0);
-      listed = λ can core other. subst (Contains (rules_in (take n links))) (sym next) later.1;
+      listed = λ can walked core other. subst (Contains (rules_in (take n links))) (sym next) later.1;
     }
 
 pub links-preserved-then-from : goal.links-preserved-then-from
@@ -154,8 +154,8 @@ links-preserved-then-from g c =
     record {
       within = omega (arith, within);
       climbs = l.invariant.climbs;
-      listed = λ can core other.
-          not_last (take n links) (link_of index link) w (subst (λ (xs : List LinkOf). Contains (rules_in xs) w) whole (l.invariant.listed can core other))
+      listed = λ can walked core other.
+          not_last (take n links) (link_of index link) w (subst (λ (xs : List LinkOf). Contains (rules_in xs) w) whole (l.invariant.listed can walked core other))
           (λ same. c.if-from.true (c.from.ensures ∙ same ∙ sym c.from-in-links.ensures));
     }
 
@@ -166,7 +166,7 @@ returns g c =
     let l = c.links in
     record {
       opened = tt;
-      some = λ can core other. absurd (none_listed links l.place (index l.wanted.0) (omega (arith, c.links-test.false)) (l.invariant.listed can core other));
+      some = λ can walked core other. absurd (none_listed links l.place (index l.wanted.0) (omega (arith, c.links-test.false)) (l.invariant.listed can walked core other));
     }
 
 pub prod_to_rule-wanted-requires-in-links : goal.prod_to_rule-wanted-requires-in-links

@@ -42,7 +42,7 @@ returns-in_default-2 g c =
     let none = rw (c.in_default-2.is, c.deref.ensures.value) at c.in_ok-repair.ensures in
     record {
       allowed = rw c.new-answer.ensures.items (completed_none token own MAX inside.shortest ready at stop
-          (λ is built. none (length tokens) (omega arith) (goes_on_last token own MAX inside.shortest ready at stop is built tokens (completion is built))));
+          (λ is viable. none (length tokens) (omega arith) (goes_on_last token own MAX inside.shortest ready at stop is viable tokens (completion is viable))));
     }
 
 pub steps-requires : goal.steps-requires

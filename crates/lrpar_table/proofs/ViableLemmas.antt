@@ -2,13 +2,14 @@
 -- advanced by one; and an item that another one adds has a core that the other one's core adds.
 use Rattle.std.proofs.Common.{◌≡◌, ◌<◌, ◌∙◌, refl, sym, subst, arith, ℕ, List, [], ◌∷◌}
 use Rattle.lrpar_grammar.specs.Grammar.{Grammar, GrammarSymbol, end_token, start_prod}
+use Rattle.lrpar_table_precedence.specs.Precedence.{PrecedenceLists}
 use Rattle.lrpar_table_rows.specs.Graph.{Graph, ItemOf, graph_len, item_at}
 use Rattle.lrpar_table_rows.specs.Table.{Table, states_len}
 use Rattle.lrpar_table_items.specs.Canonical.{AreSame, IsCanonical, sets_of}
 use Rattle.lrpar_table_items.specs.ItemSets.{Added, IsAdvanced, IsInClosure, IsReachedBy, IsStartItem, Own}
+use Rattle.lrpar_table_build.specs.Built.{IsBuilt, IsBuiltBy}
 use Rattle.lrpar_table_build.proofs.SetLemmas.{same_back, same_on}
 use Rattle.lrpar_table_viable.specs.Viable.{AddsCore, Begins, Closes, IsJustified, IsViable, Kernel}
-use Rattle.lrpar_parse_prefixes.specs.ViableLaws.{BuiltTablesAreViable, TablesByPrecedenceAreViable}
 
 module _ (g : Grammar) (graph : Graph) (table : Table) (canonical : IsCanonical g graph) (states : graph_len graph ≡ states_len table)
     (start : table.start ≡ 0) where
@@ -59,10 +60,11 @@ module _ (g : Grammar) (graph : Graph) (table : Table) (canonical : IsCanonical 
         };
   }
 
-pub built_tables_are_viable : BuiltTablesAreViable
+pub built_tables_are_viable : (g : Grammar) (graph : Graph) (table : Table) → IsBuilt g graph table → IsViable g graph table
 built_tables_are_viable g graph table built =
     canonical_is_viable g graph table built.canonical built.resolved.states built.resolved.start
 
-pub tables_by_precedence_are_viable : TablesByPrecedenceAreViable
+pub tables_by_precedence_are_viable : (g : Grammar) (precedences : PrecedenceLists) (graph : Graph) (table : Table)
+    → IsBuiltBy g precedences graph table → IsViable g graph table
 tables_by_precedence_are_viable g precedences graph table built =
     canonical_is_viable g graph table built.canonical built.resolution.states built.resolution.start
