@@ -1,0 +1,4 @@
+pub mod SameCoreLemmas
+pub mod PairLemmas
+pub mod UniteLemmas
+pub mod KernelLemmas

@@ -1,0 +1,5 @@
+//! Merging of LR(1) item sets: weak compatibility of kernels, and the union of their lookaheads.
+#![tactic(auto)]
+
+pub mod compatible;
+pub mod unite;
