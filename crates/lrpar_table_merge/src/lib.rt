@@ -2,4 +2,5 @@
 #![tactic(auto)]
 
 pub mod compatible;
+pub mod laws;
 pub mod unite;

@@ -1,0 +1,14 @@
+-- What follows for a table of merged item sets.
+use Rattle.std.specs.Prelude.{ℕ, Option}
+use Rattle.lrpar_grammar.specs.Grammar.{Grammar, GrammarSymbol, IsWellFormed}
+use Rattle.lrpar_table_rows.specs.Graph.{Graph, graph_len}
+use Rattle.lrpar_table_rows.specs.Safe.{IsSafe}
+use Rattle.lrpar_table_rows.specs.Table.{Table}
+use Rattle.lrpar_table_items.specs.Canonical.{sets_of}
+use Rattle.lrpar_table_merge.specs.Merged.{Along, AreMerged, IsMergedTable}
+
+-- a table of merged item sets is safe
+abbrev pub MergedTablesAreSafe : Type 0
+MergedTablesAreSafe =
+    (g : Grammar) (graph : Graph) (table : Table) (steps : ℕ → GrammarSymbol → Option ℕ) → IsWellFormed g
+    → AreMerged g (graph_len graph) (sets_of graph) (Along steps) → IsMergedTable g graph table (Along steps) → IsSafe g graph table
