@@ -4,3 +4,4 @@ pub mod UniteLemmas
 pub mod KernelLemmas
 pub mod HeldLemmas
 pub mod MergedSafeLemmas
+pub mod MergedViableLemmas

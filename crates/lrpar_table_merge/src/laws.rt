@@ -1,8 +1,14 @@
 //! Laws about merged tables. Each function has such a law as its contract, and does nothing.
-ghost use Rattle.lrpar_table_merge.specs.MergedLaws.{MergedTablesAreSafe};
+ghost use Rattle.lrpar_table_merge.specs.MergedLaws.{MergedTablesAreSafe, MergedTablesAreViable};
 
 /// If a graph has merged item sets, and the table has in each state the actions after conflict resolution, the table is safe. So it
 /// needs no test of S1 to S8.
 pub fn merged_tables_are_safe()
     ensures { MergedTablesAreSafe }
+{}
+
+/// Such a table is viable, too: each core of its states is justified. This is what the laws on viable tables of `lrpar_parse_prefixes`
+/// need besides safety.
+pub fn merged_tables_are_viable()
+    ensures { MergedTablesAreViable }
 {}
