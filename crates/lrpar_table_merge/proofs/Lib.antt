@@ -5,3 +5,5 @@ pub mod KernelLemmas
 pub mod HeldLemmas
 pub mod MergedSafeLemmas
 pub mod MergedViableLemmas
+pub mod MergedConflictLemmas
+pub mod MergedCompleteLemmas

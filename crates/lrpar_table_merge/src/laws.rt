@@ -1,5 +1,5 @@
 //! Laws about merged tables. Each function has such a law as its contract, and does nothing.
-ghost use Rattle.lrpar_table_merge.specs.MergedLaws.{MergedTablesAreSafe, MergedTablesAreViable};
+ghost use Rattle.lrpar_table_merge.specs.MergedLaws.{MergedTablesAreCompleteWithoutConflicts, MergedTablesAreSafe, MergedTablesAreViable};
 
 /// If a graph has merged item sets, and the table has in each state the actions after conflict resolution, the table is safe. So it
 /// needs no test of S1 to S8.
@@ -11,4 +11,9 @@ pub fn merged_tables_are_safe()
 /// need besides safety.
 pub fn merged_tables_are_viable()
     ensures { MergedTablesAreViable }
+{}
+
+/// A table of merged item sets with their conflicts is complete if and only if it has no conflicts: no test of C1 to C5 is needed.
+pub fn merged_tables_are_complete_without_conflicts()
+    ensures { MergedTablesAreCompleteWithoutConflicts }
 {}
