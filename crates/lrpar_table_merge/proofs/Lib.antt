@@ -7,3 +7,5 @@ pub mod MergedSafeLemmas
 pub mod MergedViableLemmas
 pub mod MergedConflictLemmas
 pub mod MergedCompleteLemmas
+pub mod ListLemmas
+pub mod WithinLemmas

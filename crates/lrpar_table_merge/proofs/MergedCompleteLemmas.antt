@@ -1,7 +1,7 @@
 -- A table of merged item sets is complete if and only if it has no conflicts. The item sets alone give C1 to C4. C5 says that at a
 -- complete item the table has the item's action: so it has, if each state calls for one action at each token; and if it has, no two
 -- actions can be called for.
-use Rattle.std.proofs.Common.{◌≡◌, ◌<◌, ◌+◌, ◌∙◌, refl, sym, ap, subst, arith, ℕ, List, [], ◌∷◌, None, Option, Some, length, slice_get}
+use Rattle.std.proofs.Common.{◌≡◌, ◌<◌, ◌+◌, ◌∙◌, refl, sym, ap, subst, arith, ℕ, List, None, Option, Some, length, slice_get}
 use Rattle.std.specs.List.{Contains}
 use Rattle.lrpar_grammar.specs.Grammar.{Grammar, GrammarSymbol, IsWellFormed, Nonterminal, Terminal, end_token, prod_len, start_prod, symbols_of}
 use Rattle.lrpar_table_rows.proofs.GraphLemmas.{state_in_range}
@@ -17,12 +17,8 @@ use Rattle.lrpar_table_merge.specs.Held.{Closes, Starts, Steps}
 use Rattle.lrpar_table_merge.specs.Merged.{Along, AreMerged, IsMergedTable}
 use Rattle.lrpar_table_merge.specs.MergedLaws.{MergedTablesAreCompleteWithoutConflicts}
 use Rattle.lrpar_table_merge.proofs.HeldLemmas.{held_within}
+use Rattle.lrpar_table_merge.proofs.ListLemmas.{empty_list}
 use Rattle.lrpar_table_merge.proofs.MergedConflictLemmas.{item_known, no_reduction_at_end, no_shift_conflict, no_shift_of_end, only_reduction}
-
--- a list without elements is empty
-empty_list : {X : Type 0} (xs : List X) → ((x : X) → Contains xs x → ⊥) → xs ≡ []
-empty_list [] none = refl
-empty_list (x ∷ xs) none = absurd (none x (0, omega arith, refl))
 
 module _ (g : Grammar) (graph : Graph) (table : Table) (goes : ℕ → GrammarSymbol → ℕ → Type 0) (well : IsWellFormed g)
     (merged : AreMerged g (graph_len graph) (sets_of graph) goes) (resolved : IsMergedTable g graph table goes) where

@@ -6,6 +6,7 @@ use Rattle.lrpar_grammar.specs.Grammar.{Grammar, GrammarSymbol, Nonterminal, Ter
 use Rattle.lrpar_table_rows.specs.Graph.{Graph, ItemOf, graph_len, item_at}
 use Rattle.lrpar_table_rows.specs.Table.{Table, ShiftTo, ReduceBy, Accepts, Fails, action_of, goto_of, states_len}
 use Rattle.lrpar_table_items.specs.Canonical.{AreSame, HasAfterDot, HasAccept, HasFirstReduce, HasReduce, sets_of}
+use Rattle.lrpar_table_items.specs.ItemSets.{IsReachedBy}
 use Rattle.lrpar_table_build.specs.Built.{AreInOrder}
 use Rattle.lrpar_table_build.specs.BuilderLaws.{AcceptAlone, AreConflictsOf, lists_in}
 use Rattle.lrpar_table_merge.specs.Held.{IsHeld}
@@ -79,3 +80,9 @@ pub record IsMerged (g : Grammar) (graph : Graph) (table : Table) : Type 0 where
 abbrev pub LeadsAlong : (ℕ → GrammarSymbol → ℕ → Type 0) → List GrammarSymbol → ℕ → Type 0
 LeadsAlong goes [] s = s ≡ 0
 LeadsAlong goes (X ∷ path) s = (r : ℕ) × LeadsAlong goes path r × goes r X s
+
+-- the set that gotos reach by the path is within set s, one of len, to which the path leads
+pub record IsWithin (g : Grammar) (len : ℕ) (sets : ℕ → ItemOf → Type 0) (goes : ℕ → GrammarSymbol → ℕ → Type 0) (path : List GrammarSymbol) (s : ℕ) : Type 0 where
+  pub low : s < len
+  pub along : LeadsAlong goes path s
+  pub items : (x : ItemOf) → IsReachedBy g path x → sets s x
