@@ -1,0 +1,11 @@
+pub mod SameCoreLemmas
+pub mod PairLemmas
+pub mod UniteLemmas
+pub mod KernelLemmas
+pub mod HeldLemmas
+pub mod MergedSafeLemmas
+pub mod MergedViableLemmas
+pub mod MergedConflictLemmas
+pub mod MergedCompleteLemmas
+pub mod ListLemmas
+pub mod WithinLemmas

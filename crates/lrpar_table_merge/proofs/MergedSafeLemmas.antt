@@ -1,0 +1,159 @@
+-- A table of merged item sets is safe. Each action of the table is one that its set calls for; and the items of a set follow from the
+-- transitions to it.
+use Rattle.std.proofs.Common.{◌≡◌, ◌<◌, ◌∙◌, refl, sym, subst, inl, inr, arith, ℕ, None, Some}
+use Rattle.std.proofs.lemmas.Bool.{cases_lt}
+use Rattle.lrpar_grammar.proofs.PartsLemmas.{rule_of_within}
+use Rattle.lrpar_grammar.specs.Grammar.{Grammar, GrammarSymbol, IsWellFormed, Nonterminal, Terminal, end_token, prod_len, rule_of, rules_len, start_prod, tokens_len}
+use Rattle.lrpar_table_rows.specs.Graph.{Graph, HasItem, graph_len, item_at}
+use Rattle.lrpar_table_rows.specs.Safe.{GoesBy, IsSafe, IsSafeAt}
+use Rattle.lrpar_table_rows.specs.Table.{Accepts, Fails, ReduceBy, ShiftTo, Table, action_of, goto_of, states_len}
+use Rattle.lrpar_table_rows.specs.declared.condition.SafetyCondition.{SafetyCondition}
+use Rattle.lrpar_table_rows.specs.declared.condition.SafetyCondition.TheVariants.{S2, S3, S4, S5, S6, S7, S8}
+use Rattle.lrpar_table_rows.proofs.GraphLemmas.{state_in_range}
+use Rattle.lrpar_table_items.specs.Canonical.{HasAfterDot, HasAccept, HasFirstReduce, HasReduce, sets_of}
+use Rattle.lrpar_table_build.proofs.DecidedLemmas.{before_decided, first_decided, item_decided}
+use Rattle.lrpar_table_build.proofs.ReachedLemmas.{no_end_token}
+use Rattle.lrpar_table_merge.specs.Held.{IsHeld}
+use Rattle.lrpar_table_merge.specs.Merged.{ActsAsMerged, Along, AreMerged, IsMergedTable}
+use Rattle.lrpar_table_merge.specs.MergedLaws.{MergedTablesAreSafe}
+use Rattle.lrpar_table_merge.proofs.HeldLemmas.{held_at_end, held_fresh, held_items, held_start_item, held_with_rule}
+
+module _ (g : Grammar) (graph : Graph) (table : Table) (goes : ℕ → GrammarSymbol → ℕ → Type 0) where
+  -- the action of the state at token t, and the items that call for it
+  data IsMergedAction (s t : ℕ) : Type 0 where
+    Shifting : (next : ℕ) → action_of table s t ≡ ShiftTo next → HasAfterDot g (sets_of graph) s (Terminal t) → goes s (Terminal t) next
+        → IsMergedAction s t
+    Reducing : (p : ℕ) → action_of table s t ≡ ReduceBy p → HasFirstReduce g (sets_of graph) s t p → IsMergedAction s t
+    Accepting : action_of table s t ≡ Accepts → HasAccept g (sets_of graph) s t → IsMergedAction s t
+    Failing : action_of table s t ≡ Fails → IsMergedAction s t
+
+  acting : (s t : ℕ) → ActsAsMerged g (sets_of graph) goes table s t → IsMergedAction s t
+  acting s t acts =
+      elim (before_decided g graph s (Terminal t)) [
+        | inl before ↦ let shift = acts.shifts before in Shifting shift.0 shift.1 before shift.2
+        | inr no_shift ↦
+            elim (first_decided g graph s t) [
+              | inl first ↦ Reducing first.0 (acts.reduces no_shift first.0 first.1) first.1
+              | inr no_reduction ↦
+                  elim (item_decided g graph s (start_prod g) 1 t) [
+                    | inl accept ↦ Accepting (acts.accepts no_shift no_reduction accept) accept
+                    | inr no_accept ↦ Failing (acts.fails no_shift no_reduction no_accept)
+                  ]
+            ]
+      ]
+
+  module _ (resolved : IsMergedTable g graph table goes) where
+    -- in range, the table's action is one of the set's; out of range, it is an error
+    action_there : (s t : ℕ) → IsMergedAction s t
+    action_there s t =
+        elim (cases_lt s (states_len table)) [
+          | inr past ↦ Failing (resolved.no_state s t past)
+          | inl within ↦
+              elim (cases_lt t (tokens_len g)) [
+                | inr past ↦ let is = resolved.tokens in Failing (resolved.no_token s t (omega (arith, past, is)))
+                | inl below ↦ acting s t (resolved.acts s t within below)
+              ]
+        ]
+
+    shift_of_item : (s t next : ℕ) → action_of table s t ≡ ShiftTo next → HasAfterDot g (sets_of graph) s (Terminal t) × goes s (Terminal t) next
+    shift_of_item s t next at =
+        elim (action_there s t) [
+          | Shifting to is before go ↦ let same : to ≡ next = cc in (before, subst (goes s (Terminal t)) same go)
+          | Reducing p is candidate ↦ absurd (cc)
+          | Accepting is candidate ↦ absurd (cc)
+          | Failing is ↦ absurd (cc)
+        ]
+
+    reduction_of_item : (s t p : ℕ) → action_of table s t ≡ ReduceBy p → HasReduce g (sets_of graph) s t p
+    reduction_of_item s t p at =
+        elim (action_there s t) [
+          | Shifting to is before go ↦ absurd (cc)
+          | Reducing by is candidate ↦ let same : by ≡ p = cc in subst (λ (n : ℕ). HasReduce g (sets_of graph) s t n) same candidate.0
+          | Accepting is candidate ↦ absurd (cc)
+          | Failing is ↦ absurd (cc)
+        ]
+
+    accept_of_item : (s t : ℕ) → action_of table s t ≡ Accepts → HasAccept g (sets_of graph) s t
+    accept_of_item s t at =
+        elim (action_there s t) [
+          | Shifting to is before go ↦ absurd (cc)
+          | Reducing by is candidate ↦ absurd (cc)
+          | Accepting is candidate ↦ candidate
+          | Failing is ↦ absurd (cc)
+        ]
+
+    -- so is the goto by a rule
+    goto_of_item : (s r next : ℕ) → s < states_len table → goto_of table s r ≡ Some next → goes s (Nonterminal r) next
+    goto_of_item s r next within at =
+        elim (cases_lt r (rules_len g)) [
+          | inr past ↦
+              let is = resolved.rules in
+              let none : goto_of table s r ≡ None = resolved.no_rule s r (omega (arith, past, is)) in absurd (cc)
+          | inl below ↦
+              let gotos = resolved.gotos s r within below in
+              elim (before_decided g graph s (Nonterminal r)) [
+                | inl before ↦
+                    let to = gotos.goes_on before in
+                    let there : goto_of table s r ≡ Some to.0 = to.1 in
+                    let same : to.0 ≡ next = cc in subst (goes s (Nonterminal r)) same to.2
+                | inr none ↦ let stays : goto_of table s r ≡ None = gotos.stays none in absurd (cc)
+              ]
+        ]
+
+    -- the table goes only along the transitions
+    goes_along : (s : ℕ) (X : GrammarSymbol) (next : ℕ) → s < states_len table → GoesBy table s X next → goes s X next
+    goes_along s (Terminal t) next within go = (shift_of_item s t next go).1
+    goes_along s (Nonterminal r) next within go = goto_of_item s r next within go
+
+    module _ (well : IsWellFormed g) (merged : AreMerged g (graph_len graph) (sets_of graph) goes) where
+      -- a state holds its items
+      holds : (s p k t : ℕ) → HasItem graph s p k t → IsHeld g goes s (item_at p k t)
+      holds s p k t has = (merged.held s (state_in_range graph s p k t has) (item_at p k t)).0 has
+
+      low : (s : ℕ) → s < states_len table → s < graph_len graph
+      low s within = let is = resolved.states in omega (arith, within, is)
+
+      safe_at : (condition : SafetyCondition) (s : ℕ) → s < states_len table → IsSafeAt g graph table condition s
+      safe_at S2 s within = λ here p k has.
+          held_fresh g goes (graph_len graph) (sets_of graph) merged s (item_at p k has.0) (holds s p k has.0 has.1) (here ∙ resolved.start)
+      safe_at S3 s within = λ next at.
+          let before = (shift_of_item s (end_token g) next at).0 in no_end_token g well before.0.prod before.0.dot (end_token g) refl before.2
+      safe_at S4 s within = λ X next go p k has.
+          (merged.step s X next (low s within) (goes_along s X next within go)).cores p k has.0 has.1
+      safe_at S5 s within = λ t p at. let candidate = reduction_of_item s t p at in (candidate.0, (t, candidate.1))
+      safe_at S6 s within = λ p has listed.
+          let item = item_at p 0 has.0 in
+          let here = holds s p 0 has.0 has.1 in
+          let from = held_with_rule g goes s item here refl listed in
+          let before : HasAfterDot g (sets_of graph) s (Nonterminal (rule_of g p)) =
+          (from.0, (merged.held s (low s within) from.0).1 from.1, from.2) in
+          let known = (held_items g goes well s item here).prod in
+          let to = (resolved.gotos s (rule_of g p) within (rule_of_within g p well known)).goes_on before in (to.0, to.1)
+      safe_at S7 s within = λ t at.
+          let candidate = accept_of_item s t at in
+          (held_at_end g goes well s (item_at (start_prod g) 1 t) (holds s (start_prod g) 1 t candidate) refl, (t, candidate))
+      safe_at S8 s within = record {
+        never_back = λ X go.
+            (merged.step s X table.start (low s within) (goes_along s X table.start within go)).never_back resolved.start;
+        first_core = λ has.
+            held_start_item g goes well s (item_at (start_prod g) 0 has.0) (holds s (start_prod g) 0 has.0 has.1) refl refl
+            ∙ sym resolved.start;
+      }
+
+      safe : IsSafe g graph table
+      safe = record {
+        shape = record {
+          states = resolved.states;
+          some = let first = merged.start in let is = resolved.states in omega (arith, first, is);
+          tokens = resolved.tokens;
+          rules = resolved.rules;
+          reduces = λ s t p at.
+              let candidate = reduction_of_item s t p at in
+              (held_items g goes well s (item_at p (prod_len g p) t) (holds s p (prod_len g p) t candidate.1)).prod;
+          items = λ s p k t has. held_items g goes well s (item_at p k t) (holds s p k t has);
+        };
+        each = safe_at;
+      }
+
+pub merged_tables_are_safe : MergedTablesAreSafe
+merged_tables_are_safe g graph table steps well merged resolved = safe g graph table (Along steps) resolved well merged

@@ -1,0 +1,5 @@
+pub mod Compatible
+pub mod United
+pub mod Held
+pub mod Merged
+pub mod MergedLaws

@@ -1,0 +1,43 @@
+-- What follows for a table of merged item sets.
+use Rattle.std.specs.Prelude.{◌≡◌, ◌↔◌, ℕ, List, Option, None}
+use Rattle.lrpar_grammar.specs.Grammar.{Grammar, GrammarSymbol, IsWellFormed}
+use Rattle.lrpar_table_rows.specs.Graph.{Graph, ItemOf, graph_len}
+use Rattle.lrpar_table_rows.specs.Safe.{IsSafe}
+use Rattle.lrpar_table_rows.specs.Table.{Table}
+use Rattle.lrpar_table_items.specs.Canonical.{sets_of}
+use Rattle.lrpar_table_items.specs.ItemSets.{IsReachedBy}
+use Rattle.lrpar_table_build.specs.Built.{IsBuilt}
+use Rattle.lrpar_table_conditions.specs.Complete.{IsComplete}
+use Rattle.lrpar_table_viable.specs.Viable.{IsViable}
+use Rattle.lrpar_table_merge.specs.Merged.{Along, AreMerged, IsMerged, IsMergedTable, IsWithin}
+
+-- a table of merged item sets is safe
+abbrev pub MergedTablesAreSafe : Type 0
+MergedTablesAreSafe =
+    (g : Grammar) (graph : Graph) (table : Table) (steps : ℕ → GrammarSymbol → Option ℕ) → IsWellFormed g
+    → AreMerged g (graph_len graph) (sets_of graph) (Along steps) → IsMergedTable g graph table (Along steps) → IsSafe g graph table
+
+-- and it is viable
+abbrev pub MergedTablesAreViable : Type 0
+MergedTablesAreViable =
+    (g : Grammar) (graph : Graph) (table : Table) (steps : ℕ → GrammarSymbol → Option ℕ)
+    → AreMerged g (graph_len graph) (sets_of graph) (Along steps) → IsMergedTable g graph table (Along steps) → IsViable g graph table
+
+-- it is complete if and only if it has no conflicts
+abbrev pub MergedTablesAreCompleteWithoutConflicts : Type 0
+MergedTablesAreCompleteWithoutConflicts =
+    (g : Grammar) (graph : Graph) (table : Table) → IsWellFormed g → IsMerged g graph table → IsComplete g graph table ↔ (table.conflicts ≡ None)
+
+-- each canonical item set is within a merged one: if gotos reach an item by a path, the path leads to a state with all items that they
+-- reach by it
+abbrev pub CanonicalSetsAreWithinMerged : Type 0
+CanonicalSetsAreWithinMerged =
+    (g : Grammar) (graph : Graph) (steps : ℕ → GrammarSymbol → Option ℕ) → AreMerged g (graph_len graph) (sets_of graph) (Along steps)
+    → (path : List GrammarSymbol) (x : ItemOf) → IsReachedBy g path x
+    → (s : ℕ) × IsWithin g (graph_len graph) (sets_of graph) (Along steps) path s
+
+-- if a merged table has no conflicts, the canonical table of the grammar has none: the grammar is LR(1)
+abbrev pub NoMergedConflictsAreNoCanonical : Type 0
+NoMergedConflictsAreNoCanonical =
+    (g : Grammar) (graph : Graph) (table : Table) (other : Graph) (other_table : Table) → IsWellFormed g → IsMerged g graph table
+    → table.conflicts ≡ None → IsBuilt g other other_table → other_table.conflicts ≡ None

@@ -1,0 +1,100 @@
+//! Weak compatibility of kernels.
+ghost use Rattle.std.specs.Prelude.{◌≡◌, ◌<◌, ◌↔◌, ℕ, IsTrue, length, map};
+ghost use Rattle.lrpar_table_items.specs.Cores.{core_set};
+ghost use Rattle.lrpar_table_merge.specs.Compatible.{ArePairCompatible, AreWeaklyCompatible, HaveCommon, HaveSameCores, IsPairCompatible, lr0_core};
+
+use lrpar_grammar::span::StorageIndex;
+use lrpar_grammar::token_set::TokenSet;
+use lrpar_table_items::cores::CoreItems;
+
+/// Whether the kernels are weakly compatible. Two states with such kernels can be merged: that makes no new reduce/reduce conflict.
+/// Each pair of cores is tested, by up to four passes over the tokens.
+pub fn are_weakly_compatible<StorageT: StorageIndex>(
+    kernel: &[CoreItems<StorageT>],
+    other: &[CoreItems<StorageT>],
+) -> bool
+    ensures { IsTrue result ↔ AreWeaklyCompatible (map (core_set StorageT.index) kernel.now) (map (core_set StorageT.index) other.now) }
+{
+    if !have_same_cores(kernel, other) {
+        return false;
+    }
+    for place in 0..kernel.len() {
+        if !is_compatible_with_earlier(kernel, other, place) {
+            return false;
+        }
+    }
+    true
+}
+
+// Whether the core at this place is compatible with each core before it.
+fn is_compatible_with_earlier<StorageT: StorageIndex>(
+    kernel: &[CoreItems<StorageT>],
+    other: &[CoreItems<StorageT>],
+    place: usize,
+) -> bool
+    requires len { length other.now ≡ length kernel.now }
+    requires place { place < length kernel.now }
+    ensures { IsTrue result ↔ ((j : ℕ) → j < place
+        → ArePairCompatible (map (core_set StorageT.index) kernel.now) (map (core_set StorageT.index) other.now) place j) }
+{
+    let here = &kernel[place].tokens;
+    let there = &other[place].tokens;
+    for earlier in 0..place {
+        if !is_pair_compatible(here, there, &kernel[earlier].tokens, &other[earlier].tokens) {
+            return false;
+        }
+    }
+    true
+}
+
+// Whether two cores are compatible: `l` and `m` are the lookaheads of the one in both kernels, `l2` and `m2` those of the other.
+fn is_pair_compatible(l: &TokenSet, m: &TokenSet, l2: &TokenSet, m2: &TokenSet) -> bool
+    ensures { IsTrue result ↔ IsPairCompatible l.now.bits.items m.now.bits.items l2.now.bits.items m2.now.bits.items }
+{
+    if have_common(l, l2) || have_common(m, m2) {
+        return true;
+    }
+    !have_common(l, m2) && !have_common(m, l2)
+}
+
+/// Whether a token is in both sets.
+pub fn have_common(tokens: &TokenSet, others: &TokenSet) -> bool
+    ensures { IsTrue result ↔ HaveCommon tokens.now.bits.items others.now.bits.items }
+{
+    for token in 0..tokens.bits.len() {
+        if tokens.contains(token) && others.contains(token) {
+            return true;
+        }
+    }
+    false
+}
+
+/// Whether the kernels have the same LR(0) cores in the same order.
+pub fn have_same_cores<StorageT: StorageIndex>(
+    kernel: &[CoreItems<StorageT>],
+    other: &[CoreItems<StorageT>],
+) -> bool
+    ensures { IsTrue result ↔ HaveSameCores (map (core_set StorageT.index) kernel.now) (map (core_set StorageT.index) other.now) }
+{
+    if kernel.len() != other.len() {
+        return false;
+    }
+    for place in 0..kernel.len() {
+        if !has_same_core(&kernel[place], &other[place]) {
+            return false;
+        }
+    }
+    true
+}
+
+// Whether the LR(0) cores are the same.
+fn has_same_core<StorageT: StorageIndex>(
+    core: &CoreItems<StorageT>,
+    other: &CoreItems<StorageT>,
+) -> bool
+    ensures { IsTrue result ↔ (lr0_core (core_set StorageT.index core.now) ≡ lr0_core (core_set StorageT.index other.now)) }
+{
+    let prod = usize::from(core.prod);
+    let same = usize::from(other.prod);
+    prod == same && core.dot == other.dot
+}
