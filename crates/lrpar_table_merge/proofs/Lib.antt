@@ -9,3 +9,4 @@ pub mod MergedConflictLemmas
 pub mod MergedCompleteLemmas
 pub mod ListLemmas
 pub mod WithinLemmas
+pub mod CanonicalLemmas

@@ -15,25 +15,25 @@ use Rattle.lrpar_table_merge.proofs.ListLemmas.{empty_list}
 use Rattle.lrpar_table_merge.proofs.MergedConflictLemmas.{no_shift_conflict, only_reduction}
 
 -- a closure that has an item comes from an item
-closure_root : (g : Grammar) (items : ItemOf → Type 0) (x : ItemOf) → IsInClosure g items x → (y : ItemOf) × items y
+pub closure_root : (g : Grammar) (items : ItemOf → Type 0) (x : ItemOf) → IsInClosure g items x → (y : ItemOf) × items y
 closure_root g items x (Own y h) = (y, h)
 closure_root g items x (Added y z h adds) = closure_root g items y h
 
+-- a state that holds some items holds their closure
+pub closure_held : (g : Grammar) (goes : ℕ → GrammarSymbol → ℕ → Type 0) (s : ℕ) (items : ItemOf → Type 0)
+    → ((x : ItemOf) → items x → IsHeld g goes s x) → (x : ItemOf) → IsInClosure g items x → IsHeld g goes s x
+closure_held g goes s items own x (Own y h) = own y h
+closure_held g goes s items own x (Added y z h adds) = Closes s y z (closure_held g goes s items own y h) adds
+
 module _ (g : Grammar) (len : ℕ) (sets : ℕ → ItemOf → Type 0) (goes : ℕ → GrammarSymbol → ℕ → Type 0)
     (merged : AreMerged g len sets goes) where
-  -- a state that holds some items holds their closure
-  closure_held : (s : ℕ) (items : ItemOf → Type 0) → ((x : ItemOf) → items x → IsHeld g goes s x) → (x : ItemOf) → IsInClosure g items x
-      → IsHeld g goes s x
-  closure_held s items own x (Own y h) = own y h
-  closure_held s items own x (Added y z h adds) = Closes s y z (closure_held s items own y h) adds
-
   -- a state has what it holds
   within_of : (path : List GrammarSymbol) (s : ℕ) → s < len → LeadsAlong goes path s → ((x : ItemOf) → IsReachedBy g path x → IsHeld g goes s x)
       → IsWithin g len sets goes path s
   within_of path s low along holds = record { low = low; along = along; items = λ x h. (merged.held s low x).1 (holds x h) }
 
   pub within_merged : (path : List GrammarSymbol) (y : ItemOf) → IsReachedBy g path y → (s : ℕ) × IsWithin g len sets goes path s
-  within_merged [] y h = (0, within_of [] 0 merged.start refl (closure_held 0 (IsStartItem g) (λ x is. Starts x is)))
+  within_merged [] y h = (0, within_of [] 0 merged.start refl (closure_held g goes 0 (IsStartItem g) (λ x is. Starts x is)))
   within_merged (X ∷ path) y h =
       let root = closure_root g (IsAdvanced g (IsReachedBy g path) X) y h in
       let from = root.1 in
@@ -48,7 +48,7 @@ module _ (g : Grammar) (len : ℕ) (sets : ℕ → ItemOf → Type 0) (goes : �
       (Steps r to.0 X z to.1 ((merged.held r before.1.low z).0 (before.1.items z own.1)) own.2) in (
         to.0,
         within_of (X ∷ path) to.0 (merged.step r X to.0 before.1.low to.1).within (r, before.1.along, to.1)
-            (closure_held to.0 (IsAdvanced g (IsReachedBy g path) X) advanced),
+            (closure_held g goes to.0 (IsAdvanced g (IsReachedBy g path) X) advanced),
       )
 
 pub canonical_sets_are_within_merged : CanonicalSetsAreWithinMerged

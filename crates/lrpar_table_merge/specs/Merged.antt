@@ -5,7 +5,7 @@ use Rattle.std.specs.Prelude.{◌≡◌, ◌≢◌, ◌<◌, ◌≤◌, ◌+◌,
 use Rattle.lrpar_grammar.specs.Grammar.{Grammar, GrammarSymbol, Nonterminal, Terminal, rules_len, symbols_of, tokens_len}
 use Rattle.lrpar_table_rows.specs.Graph.{Graph, ItemOf, graph_len, item_at}
 use Rattle.lrpar_table_rows.specs.Table.{Table, ShiftTo, ReduceBy, Accepts, Fails, action_of, goto_of, states_len}
-use Rattle.lrpar_table_items.specs.Canonical.{AreSame, HasAfterDot, HasAccept, HasFirstReduce, HasReduce, sets_of}
+use Rattle.lrpar_table_items.specs.Canonical.{AreSame, HasAfterDot, HasAccept, HasFirstReduce, HasReduce, IsTransition, sets_of}
 use Rattle.lrpar_table_items.specs.ItemSets.{IsReachedBy}
 use Rattle.lrpar_table_build.specs.Built.{AreInOrder}
 use Rattle.lrpar_table_build.specs.BuilderLaws.{AcceptAlone, AreConflictsOf, lists_in}
@@ -75,6 +75,10 @@ pub record IsMerged (g : Grammar) (graph : Graph) (table : Table) : Type 0 where
   pub conflicts : AreConflictsOf g graph table.conflicts
   pub in_order : AreInOrder (lists_in table.conflicts)
   pub accept_alone : AcceptAlone g (graph_len graph) (sets_of graph)
+
+-- the transitions of a canonical collection
+abbrev pub CanonicalGoes : Grammar → ℕ → (ℕ → ItemOf → Type 0) → ℕ → GrammarSymbol → ℕ → Type 0
+CanonicalGoes g len sets s X n = IsTransition g len sets s X (Some n)
 
 -- a path of symbols, its last symbol first, leads from state 0 to state s
 abbrev pub LeadsAlong : (ℕ → GrammarSymbol → ℕ → Type 0) → List GrammarSymbol → ℕ → Type 0

@@ -4,12 +4,18 @@ use Rattle.lrpar_grammar.specs.Grammar.{Grammar, GrammarSymbol, IsWellFormed}
 use Rattle.lrpar_table_rows.specs.Graph.{Graph, ItemOf, graph_len}
 use Rattle.lrpar_table_rows.specs.Safe.{IsSafe}
 use Rattle.lrpar_table_rows.specs.Table.{Table}
-use Rattle.lrpar_table_items.specs.Canonical.{sets_of}
+use Rattle.lrpar_table_items.specs.Canonical.{IsCanonical, sets_of}
 use Rattle.lrpar_table_items.specs.ItemSets.{IsReachedBy}
 use Rattle.lrpar_table_build.specs.Built.{IsBuilt}
 use Rattle.lrpar_table_conditions.specs.Complete.{IsComplete}
 use Rattle.lrpar_table_viable.specs.Viable.{IsViable}
-use Rattle.lrpar_table_merge.specs.Merged.{Along, AreMerged, IsMerged, IsMergedTable, IsWithin}
+use Rattle.lrpar_table_merge.specs.Merged.{Along, AreMerged, CanonicalGoes, IsMerged, IsMergedTable, IsWithin}
+
+-- the canonical collection is one of merged item sets, by its gotos
+abbrev pub CanonicalSetsAreMerged : Type 0
+CanonicalSetsAreMerged =
+    (g : Grammar) (graph : Graph) → IsWellFormed g → IsCanonical g graph
+    → AreMerged g (graph_len graph) (sets_of graph) (CanonicalGoes g (graph_len graph) (sets_of graph))
 
 -- a table of merged item sets is safe
 abbrev pub MergedTablesAreSafe : Type 0
