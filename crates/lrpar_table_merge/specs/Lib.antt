@@ -1,2 +1,4 @@
 pub mod Compatible
 pub mod United
+pub mod Held
+pub mod PassedOn
