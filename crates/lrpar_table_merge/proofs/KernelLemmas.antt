@@ -10,12 +10,12 @@ use Rattle.lrpar_table_merge.specs.Compatible.{HaveSameCores, lookaheads_at, lr0
 use Rattle.lrpar_table_merge.specs.United.{AreUnited}
 
 -- lists with the same image have the same images place by place
-image_at : {X Y : Type 0} (f : X → Y) (xs ys : List X) → map f xs ≡ map f ys → (k : ℕ) (d : X) → k < length xs → f (get_or xs k d) ≡ f (get_or ys k d)
+pub image_at : {X Y : Type 0} (f : X → Y) (xs ys : List X) → map f xs ≡ map f ys → (k : ℕ) (d : X) → k < length xs → f (get_or xs k d) ≡ f (get_or ys k d)
 image_at f xs ys same k d low =
     let low' : k < length ys = omega (arith, low, length-map xs f, length-map ys f, ap length same) in
     sym (get_or-map f xs k d (f d) low) ∙ ap (λ zs. get_or zs k (f d)) same ∙ get_or-map f ys k d (f d) low'
 
-image_len : {X Y : Type 0} (f : X → Y) (xs ys : List X) → map f xs ≡ map f ys → length xs ≡ length ys
+pub image_len : {X Y : Type 0} (f : X → Y) (xs ys : List X) → map f xs ≡ map f ys → length xs ≡ length ys
 image_len f xs ys same = sym (length-map xs f) ∙ ap length same ∙ length-map ys f
 
 -- the order of cores doesn't depend on their lookaheads

@@ -10,3 +10,5 @@ pub mod MergedCompleteLemmas
 pub mod ListLemmas
 pub mod WithinLemmas
 pub mod CanonicalLemmas
+pub mod AmongLemmas
+pub mod PassLemmas

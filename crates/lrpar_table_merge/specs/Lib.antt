@@ -3,3 +3,4 @@ pub mod United
 pub mod Held
 pub mod Merged
 pub mod MergedLaws
+pub mod PassedOn
