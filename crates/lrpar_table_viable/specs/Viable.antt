@@ -1,6 +1,5 @@
 -- When a table is viable: each state has an item, and each core of it is there for a reason: it comes from the start, or from a
--- kernel core by closure. With the conditions of a safe table, each stack of states then has the symbols of a viable prefix. Cores
--- are written as in Safe.antt.
+-- kernel core by closure. Lookaheads play no part. Cores are written as in Safe.antt.
 use Rattle.std.specs.Prelude.{◌≡◌, ◌<◌, ◌+◌, ℕ, List, ◌∷◌, drop}
 use Rattle.lrpar_grammar.specs.Grammar.{Grammar, GrammarSymbol, Nonterminal, prods_len, rule_of, start_prod, symbols_of}
 use Rattle.lrpar_table_rows.specs.Graph.{Graph, HasCore}
