@@ -1,71 +1,82 @@
--- What the tests of the conditions of completeness decide. Items of one core are neighbours in a state; they are tested together,
--- by their lookaheads.
-use Rattle.std.proofs.Common.{◌≡◌, ◌≢◌, ◌<◌, ◌≤◌, ◌+◌, ◌-◌, ◌↔◌, ◌∙◌, ◌⊎◌, ◌||◌, ◌&&◌, ◌==◌, inl, inr, refl, sym, ap, subst, arith, ℕ, zero, suc, Bool, true, false, IsTrue, not, List, [], ◌∷◌, ◌++◌, All, length, map, drop, take, get_or, set, slice_get, Some, Option, cond, eqb, Bor, IfSome, MatchOption, None}
-use Rattle.std.proofs.lemmas.Bool.{and_parts, both_ways, cases_eq, cases_lt, eq-eqb, eqb-true, false≢true, false_from_ne_true, not-true, or_cases, or_left, or_right}
-use Rattle.std.proofs.lemmas.List.{append-nil, append_assoc, drop_more, get_or-drop, get_or-map, get_or-set_other, get_or-set_same, get_or-take, get_or_default, length-drop, length-map, length-set, length-take-le, take_all}
-use Rattle.std.proofs.lemmas.List.Elements.{All-contains, All-contains_itself, All-map, All-set, All-weaker, Contains-append_left, Contains-push, Contains-push_cases}
-use Rattle.std.proofs.lemmas.Option.{get_or_from_slice_get, slice_get-map, slice_get_within}
+-- What the tests of the conditions of completeness decide. The items of one core are tested together, by their lookaheads.
+use Rattle.std.proofs.Common.{◌≡◌, ◌≢◌, ◌<◌, ◌≤◌, ◌+◌, ◌-◌, ◌↔◌, ◌∙◌, ◌⊎◌, ◌||◌, ◌==◌, inl, inr, refl, sym, ap, subst, arith, ℕ, zero, suc, Bool, true, false, IsTrue, List, [], ◌∷◌, ◌++◌, All, length, map, drop, take, get_or, set, slice_get, Some, Option, cond, eqb, Bor, IfSome, MatchOption, None}
+use Rattle.std.proofs.lemmas.Bool.{cases_eq, eq-eqb, eqb-true, false≢true, false_from_ne_true, or_cases, or_left, or_right}
+use Rattle.std.proofs.lemmas.List.{drop_more, get_or-set_other, get_or-set_same, length-map, length-set, length-take-le, take_all, take_more}
+use Rattle.std.proofs.lemmas.List.Elements.{All-contains, All-contains_itself, All-set, Contains-append_left, Contains-push, Contains-push_cases}
+use Rattle.std.proofs.lemmas.Option.{get_or_from_slice_get, slice_get_within}
 use Rattle.std.specs.List.{Contains, HoldsAt}
-use Rattle.std.specs.Option.{option_map, option_map_or}
+use Rattle.std.specs.Option.{option_map_or}
 use Rattle.lrpar_grammar_places.specs.declared.span.PIdx.{PIdx}
 use Rattle.lrpar_grammar_places.specs.declared.span.StIdx.{StIdx}
-use Rattle.lrpar_grammar_places.specs.declared.span.Symbol.{Symbol}
 use Rattle.lrpar_grammar_places.specs.declared.span.TIdx.{TIdx}
 use Rattle.lrpar_grammar.specs.Grammar.{Grammar, GrammarSymbol, IsWellFormed, Nonterminal, Terminal, Production, prod_len, prods_from, prods_len, prods_of, rule_of, rules_len, symbols_of, tokens_len}
-use Rattle.lrpar_grammar.specs.Symbols.{symbol_of}
-use Rattle.lrpar_grammar_places.proofs.ListLemmas.{All-map-at, map-take_more}
+use Rattle.lrpar_grammar_places.proofs.ListLemmas.{All-map-at}
 use Rattle.lrpar_table_first.specs.First.{IsFirst}
 use Rattle.lrpar_table_first.specs.FirstRows.{IsFirstBefore, IsSymbolBelow, dummy_lookahead, row_at, rows_of}
 use Rattle.lrpar_grammar.specs.Tokens.{has}
 use Rattle.lrpar_grammar.specs.declared.token_set.TokenSet.{TokenSet}
 use Rattle.lrpar_table_first.proofs.GrowthLemmas.{row_in, rows-set}
 use Rattle.lrpar_table_first.proofs.SymbolLemmas.{prod_symbols}
-use Rattle.lrpar_table_rows.specs.Graph.{Graph, HasCore, HasItem, ItemOf, item_at, items_of}
+use Rattle.lrpar_table_rows.specs.Graph.{Graph, HasCore, HasItem, items_of}
+use Rattle.lrpar_table_rows.specs.PlainItems.{core_of}
 use Rattle.lrpar_table_rows.specs.Safe.{GoesBy}
 use Rattle.lrpar_table_rows.specs.PlainRows.{plain_action}
 use Rattle.lrpar_table_rows.specs.Table.{Table, TableAction, ShiftTo, ReduceBy, Accepts, Fails, action_of}
 use Rattle.lrpar_table_rows.specs.declared.rows.Action.{Action}
 use Rattle.lrpar_table_rows.specs.declared.rows.Action.TheVariants.{Shift, Reduce, Accept, Error}
 use Rattle.lrpar_table_conditions.specs.Complete.{CarriesItem, ClosesItem, EndsItem, ShiftsItem, StepsOn, EachItem, IsCompleteAt}
-use Rattle.lrpar_table_conditions.specs.Itemwise.{AreStartsOf, ClosesAmong, EndsBy, HaveStarts, ItemHolds, lookaheads_of}
+use Rattle.lrpar_table_conditions.specs.Itemwise.{AreStartsOf, ClosesAmong, EachOfCore, EndsBy, HaveStarts, ItemHolds}
 use Rattle.lrpar_table_conditions.specs.declared.completeness.CompletenessCondition.{CompletenessCondition}
 use Rattle.lrpar_table_conditions.specs.declared.completeness.CompletenessCondition.TheVariants.{C1, C2, C3, C4, C5}
 use Rattle.lrpar_table_conditions.proofs.FirstTokenLemmas.{at_drop}
-use Rattle.lrpar_table_rows.proofs.ItemLemmas.{Contains-image}
-use Rattle.lrpar_table_rows.proofs.TestLemmas.{accepted, refused}
+use Rattle.lrpar_table_rows.proofs.GraphLemmas.{all_cores}
+use Rattle.lrpar_table_rows.proofs.ItemLemmas.{Contains-image, Contains-preimage}
+use Rattle.lrpar_table_rows.proofs.TestLemmas.{accepted, each_more, refused}
 use Rattle.lrpar_table_conditions.specs.Completeness.{condition_number}
 use Rattle.lrpar_table_conditions.specs.declared.completeness.TheConstants.CompletenessCondition.{ALL}
 
--- what holds of each lookahead that was read holds of all lookaheads
-pub each_lookahead : {S : Type 0} (index : S → ℕ) (P : ℕ → Type 0) (tokens : List (TIdx S)) (i : ℕ) → length tokens ≤ i
-    → ((k : ℕ) (d : TIdx S) → k < i → P (index (get_or tokens k d).0)) → All P (lookaheads_of index tokens)
-each_lookahead {S} index P tokens i past holds =
-    All-map P (λ (token : TIdx S). index token.0) tokens (λ k d below. holds k d (omega (arith, past, below)))
+-- a lookahead that was read is that of an item with the core
+pub lookahead_read : {S : Type 0} (index : S → ℕ) (H : ℕ → Type 0) (tokens : List (TIdx S)) (i : ℕ) (token : TIdx S)
+    → ((t : ℕ) → Contains (map (λ (x : TIdx S). index x.0) tokens) t ↔ H t) → i < length tokens → token ≡ get_or tokens i token → H (index token.0)
+lookahead_read {S} index H tokens i token are within is =
+    (are (index token.0)).0 (Contains-image (λ (x : TIdx S). index x.0) tokens token (i, within, sym is))
 
--- conversely
-pub lookahead_at : {S : Type 0} (index : S → ℕ) (P : ℕ → Type 0) (tokens : List (TIdx S)) (i : ℕ) (token : TIdx S)
-    → i < length tokens → token ≡ get_or tokens i token → All P (lookaheads_of index tokens) → P (index token.0)
-lookahead_at {S} index P tokens i token within is all =
-    subst (λ (x : TIdx S). P (index x.0)) (sym is) (All-map-at P (λ (x : TIdx S). index x.0) tokens all i token within)
+-- what holds of each lookahead that was read holds for each item with the core
+pub each_lookahead : {S : Type 0} (index : S → ℕ) (H P : ℕ → Type 0) (tokens : List (TIdx S)) (i : ℕ)
+    → ((t : ℕ) → Contains (map (λ (x : TIdx S). index x.0) tokens) t ↔ H t) → length tokens ≤ i
+    → ((k : ℕ) (d : TIdx S) → k < i → P (index (get_or tokens k d).0)) → (t : ℕ) → H t → P t
+each_lookahead {S} index H P tokens i are past holds t h =
+    let x = Contains-preimage (λ (y : TIdx S). index y.0) tokens t ((are t).1 h) in
+    let all : All (λ (y : TIdx S). P (index y.0)) tokens = λ k d below. holds k d (omega (arith, past, below)) in
+    subst P x.2 (All-contains (λ (y : TIdx S). P (index y.0)) tokens x.0 all x.1)
 
--- something holds of all lookaheads of a core exactly if it holds for each item with the core
-pub each_token : (P H : ℕ → Type 0) (tokens : List ℕ) → ((t : ℕ) → Contains tokens t ↔ H t) → All P tokens ↔ ((t : ℕ) → H t → P t)
-each_token P H tokens is = (
-  λ all t h. All-contains P tokens t all ((is t).1 h),
-  λ each i d below. each (get_or tokens i d) ((is (get_or tokens i d)).0 (All-contains_itself tokens i d below)),
-)
+-- this holds for each item of s with one of the first i cores
+abbrev pub EachOfFirst : {S : Type 0} → (S → ℕ) → Graph → ℕ → (ℕ → ℕ → ℕ → Type 0) → List (PIdx S × ℕ) → ℕ → Type 0
+EachOfFirst {S} index graph s Holds cores i =
+    (n : ℕ) (d : PIdx S × ℕ) → n < i → EachOfCore graph s (index (get_or cores n d).0.0) (get_or cores n d).1 Holds
+
+-- and with one more
+pub core_more : {S : Type 0} (index : S → ℕ) (graph : Graph) (s : ℕ) (Holds : ℕ → ℕ → ℕ → Type 0) (cores : List (PIdx S × ℕ)) (i : ℕ) (core : PIdx S × ℕ)
+    → i < length cores → core ≡ get_or cores i core → EachOfCore graph s (index core.0.0) core.1 Holds → EachOfFirst index graph s Holds cores i
+    → EachOfFirst index graph s Holds cores (i + 1)
+core_more {S} index graph s Holds cores i core within is here so_far =
+    each_more (λ (x : PIdx S × ℕ). EachOfCore graph s (index x.0.0) x.1 Holds) cores i core within is here so_far
+
+-- with all cores of the state it holds for each of its items
+pub core_each : {S : Type 0} (index : S → ℕ) (graph : Graph) (s : ℕ) (Holds : ℕ → ℕ → ℕ → Type 0) (cores : List (PIdx S × ℕ)) (i : ℕ)
+    → ((p k : ℕ) → HasCore graph s p k ↔ Contains (map (core_of index) cores) (p, k)) → length cores ≤ i → EachOfFirst index graph s Holds cores i
+    → EachItem graph s Holds
+core_each {S} index graph s Holds cores i are past so_far p k t has =
+    let each = (all_cores index (λ p k. EachOfCore graph s p k Holds) graph s cores are).0 (λ n d below. so_far n d (omega (arith, past, below))) in
+    each p k (t, has) t has
 
 -- what holds of each item with the core holds of each of its lookaheads
-pub all_of_core : {S : Type 0} (index : S → ℕ) (H : ℕ → Type 0) (tokens : List (TIdx S)) → ((t : ℕ) → Contains (lookaheads_of index tokens) t ↔ H t)
+pub all_of_core : {S : Type 0} (index : S → ℕ) (H : ℕ → Type 0) (tokens : List (TIdx S)) → ((t : ℕ) → Contains (map (λ (x : TIdx S). index x.0) tokens) t ↔ H t)
     → All (λ (x : TIdx S). H (index x.0)) tokens
 all_of_core {S} index H tokens is i d below =
     let x = get_or tokens i d in
     let here = All-contains_itself tokens i d below in
     (is (index x.0)).0 (Contains-image (λ (y : TIdx S). index y.0) tokens x here)
-
--- a core of a state has a lookahead
-pub some_token : (graph : Graph) (s p k : ℕ) (tokens : List ℕ) → ((t : ℕ) → Contains tokens t ↔ HasItem graph s p k t) → HasCore graph s p k → 0 < length tokens
-some_token graph s p k tokens is core = let h = (is core.0).1 core.1 in omega (arith, h.1)
 
 -- what holds of each element holds of the one that is found at a place
 pub found_holds : {X : Type 0} (P : X → Type 0) (xs : List X) (k : ℕ) (found : Option (Bor X)) → All P xs
@@ -74,17 +85,12 @@ pub found_holds : {X : Type 0} (P : X → Type 0) (xs : List X) (k : ℕ) (found
 found_holds P xs k None all is cases = tt
 found_holds P xs k (Some x) all is cases = subst P (sym is) (all k x.now cases.0)
 
--- equivalent facts of each element
-pub each_same : {X : Type 0} (P Q : X → Type 0) (xs : List X) (b : Bool) → ((x : X) → P x ↔ Q x) → IsTrue b ↔ All P xs → IsTrue b ↔ All Q xs
-each_same P Q xs b same test = (
-  λ h. All-weaker P Q (λ x. (same x).0) xs (test.0 h),
-  λ all. test.1 (All-weaker Q P (λ x. (same x).1) xs all),
+-- equivalent facts of each item with a core
+pub each_same : (H P Q : ℕ → Type 0) (b : Bool) → ((t : ℕ) → P t ↔ Q t) → IsTrue b ↔ ((t : ℕ) → H t → P t) → IsTrue b ↔ ((t : ℕ) → H t → Q t)
+each_same H P Q b same test = (
+  λ h t has. (same t).0 (test.0 h t has),
+  λ all. test.1 (λ t has. (same t).1 (all t has)),
 )
-
--- what holds of all of some elements holds of one
-pub first_of_some : {X : Type 0} (P : X → Type 0) (xs : List X) → 0 < length xs → All P xs → (x : X) × P x
-first_of_some P [] some all = absurd (omega arith)
-first_of_some P (x ∷ xs) some all = (x, all 0 x some)
 
 -- with one more first element
 one_more : (xs : List ℕ) (y x : ℕ) → Contains xs x → Contains (y ∷ xs) x
@@ -163,33 +169,36 @@ each_of_rule g r P = (
       each q (slice_get_within g.prods q of.prod at) (ap (λ (o : Option Production). option_map_or (λ x. x.rule) o 0) at ∙ of.rule),
 )
 
+-- what was put into an empty set is all that it has
+pub only_put : (empty bits : List Bool) (Put : ℕ → Type 0) → ((t : ℕ) → has empty t ≡ false) → ((t : ℕ) → IsTrue (has bits t) ↔ (IsTrue (has empty t) ⊎ Put t))
+    → (t : ℕ) → IsTrue (has bits t) ↔ Put t
+only_put empty bits Put none put t = (
+  λ h. elim ((put t).0 h) as (λ _. Put t) [ inl before ↦ absurd (false≢true (sym (none t) ∙ before)) | inr now ↦ now ],
+  λ h. (put t).1 (inr h),
+)
+
 -- C2 by the set of lookaheads, and by the set of First(w, t) for these lookaheads t
-pub closed_core : (g : Grammar) (rows : List (List Bool)) (p k r : ℕ) (w : List GrammarSymbol) (tokens : List ℕ) (after begun cleared : List Bool) (test : Bool)
-    → drop k (symbols_of g p) ≡ Nonterminal r ∷ w → ((t : ℕ) → IsTrue (has after t) ↔ Contains tokens t) → ((t : ℕ) → has cleared t ≡ false)
-    → ((t : ℕ) → IsTrue (has begun t) ↔ (IsTrue (has cleared t) ⊎ IsFirstBefore g after w t))
+pub closed_core : (g : Grammar) (graph : Graph) (s : ℕ) (rows : List (List Bool)) (p k r : ℕ) (w : List GrammarSymbol) (after begun : List Bool) (test : Bool)
+    → drop k (symbols_of g p) ≡ Nonterminal r ∷ w → ((t : ℕ) → IsTrue (has after t) ↔ HasItem graph s p k t)
+    → ((t : ℕ) → IsTrue (has begun t) ↔ IsFirstBefore g after w t)
     → IsTrue test ↔ ((q b : ℕ) → q < prods_len g → rule_of g q ≡ r → IsTrue (has begun b) → IsTrue (has (row_at rows q) b))
-    → IsTrue test ↔ All (ClosesAmong g rows p k) tokens
-closed_core g rows p k r w tokens after begun cleared test further are none put decides = (
-  λ h i d below.
-      let t = get_or tokens i d in
-      let has_t : IsTrue (has after t) = (are t).1 (All-contains_itself tokens i d below) in
-      λ r' w' after' q b known by first.
+    → IsTrue test ↔ EachOfCore graph s p k (ClosesAmong g rows)
+closed_core g graph s rows p k r w after begun test further are firsts decides = (
+  λ h t has_t r' w' after' q b known by first.
       let same : Nonterminal r' ∷ w' ≡ Nonterminal r ∷ w = sym after' ∙ further in
       let same_rule : r' ≡ r = cc in
       let same_rest : w' ≡ w = cc in
       let first' = subst (λ (v : List GrammarSymbol). IsFirst g t v b) same_rest first in
-      decides.0 h q b known (by ∙ same_rule) ((put b).1 (inr (t, has_t, first'))),
+      decides.0 h q b known (by ∙ same_rule) ((firsts b).1 (t, (are t).1 has_t, first')),
   λ all. decides.1 (λ q b known by has_b.
-      elim ((put b).0 has_b) as (λ _. IsTrue (has (row_at rows q) b)) [
-        | inl before ↦ absurd (false≢true (sym (none b) ∙ before))
-        | inr first ↦ All-contains (ClosesAmong g rows p k) tokens first.0 all ((are first.0).0 first.1) r w further q b known by first.2
-      ]),
+      let first = (firsts b).0 has_b in
+      all first.0 ((are first.0).0 first.1) r w further q b known by first.2),
 )
 
 -- C2 if no rule is after the dot
-pub nothing_to_close : (g : Grammar) (rows : List (List Bool)) (p k : ℕ) (tokens : List ℕ) → ((r : ℕ) (w : List GrammarSymbol) → drop k (symbols_of g p) ≢ Nonterminal r ∷ w)
-    → IsTrue true ↔ All (ClosesAmong g rows p k) tokens
-nothing_to_close g rows p k tokens none = accepted (λ i d below r w further. absurd (none r w further))
+pub nothing_to_close : (g : Grammar) (graph : Graph) (s : ℕ) (rows : List (List Bool)) (p k : ℕ)
+    → ((r : ℕ) (w : List GrammarSymbol) → drop k (symbols_of g p) ≢ Nonterminal r ∷ w) → IsTrue true ↔ EachOfCore graph s p k (ClosesAmong g rows)
+nothing_to_close g graph s rows p k none = accepted (λ t has r w further. absurd (none r w further))
 
 -- by the lookaheads of a state's items with dot 0 it is C2 of the state
 pub closes_by_starts : (g : Grammar) (graph : Graph) (s p k t : ℕ) (rows : List (List Bool)) → AreStartsOf (items_of graph s) rows
@@ -200,10 +209,10 @@ closes_by_starts g graph s p k t rows starts = (
 )
 
 -- C3 by the token after the dot
-pub shifts_each : (g : Grammar) (graph : Graph) (table : Table) (s p k a : ℕ) (tokens : List ℕ) (test : Bool) → slice_get (symbols_of g p) k ≡ Some (Terminal a)
-    → IsTrue test ↔ All (StepsOn graph table s (Terminal a) p k) tokens → IsTrue test ↔ All (ShiftsItem g graph table s p k) tokens
-shifts_each g graph table s p k a tokens test at decides =
-    each_same (StepsOn graph table s (Terminal a) p k) (ShiftsItem g graph table s p k) tokens test
+pub shifts_each : (g : Grammar) (graph : Graph) (table : Table) (s p k a : ℕ) (test : Bool) → slice_get (symbols_of g p) k ≡ Some (Terminal a)
+    → IsTrue test ↔ EachOfCore graph s p k (StepsOn graph table s (Terminal a)) → IsTrue test ↔ EachOfCore graph s p k (ShiftsItem g graph table s)
+shifts_each g graph table s p k a test at decides =
+    each_same (HasItem graph s p k) (StepsOn graph table s (Terminal a) p k) (ShiftsItem g graph table s p k) test
     (λ t. (
       λ step b further.
           let both : Some (Terminal a) ≡ Some (Terminal b) = sym at ∙ further in
@@ -212,15 +221,15 @@ shifts_each g graph table s p k a tokens test at decides =
       λ shifts. shifts a at,
     )) decides
 
-pub nothing_to_shift : (g : Grammar) (graph : Graph) (table : Table) (s p k : ℕ) (tokens : List ℕ) → ((a : ℕ) → slice_get (symbols_of g p) k ≢ Some (Terminal a))
-    → IsTrue true ↔ All (ShiftsItem g graph table s p k) tokens
-nothing_to_shift g graph table s p k tokens none = accepted (λ i d below a further. absurd (none a further))
+pub nothing_to_shift : (g : Grammar) (graph : Graph) (table : Table) (s p k : ℕ) → ((a : ℕ) → slice_get (symbols_of g p) k ≢ Some (Terminal a))
+    → IsTrue true ↔ EachOfCore graph s p k (ShiftsItem g graph table s)
+nothing_to_shift g graph table s p k none = accepted (λ t has a further. absurd (none a further))
 
 -- C4 by the rule after the dot
-pub carries_each : (g : Grammar) (graph : Graph) (table : Table) (s p k r : ℕ) (tokens : List ℕ) (test : Bool) → slice_get (symbols_of g p) k ≡ Some (Nonterminal r)
-    → IsTrue test ↔ All (StepsOn graph table s (Nonterminal r) p k) tokens → IsTrue test ↔ All (CarriesItem g graph table s p k) tokens
-carries_each g graph table s p k r tokens test at decides =
-    each_same (StepsOn graph table s (Nonterminal r) p k) (CarriesItem g graph table s p k) tokens test
+pub carries_each : (g : Grammar) (graph : Graph) (table : Table) (s p k r : ℕ) (test : Bool) → slice_get (symbols_of g p) k ≡ Some (Nonterminal r)
+    → IsTrue test ↔ EachOfCore graph s p k (StepsOn graph table s (Nonterminal r)) → IsTrue test ↔ EachOfCore graph s p k (CarriesItem g graph table s)
+carries_each g graph table s p k r test at decides =
+    each_same (HasItem graph s p k) (StepsOn graph table s (Nonterminal r) p k) (CarriesItem g graph table s p k) test
     (λ t. (
       λ step b further.
           let both : Some (Nonterminal r) ≡ Some (Nonterminal b) = sym at ∙ further in
@@ -229,40 +238,35 @@ carries_each g graph table s p k r tokens test at decides =
       λ carries. carries r at,
     )) decides
 
-pub nothing_to_carry : (g : Grammar) (graph : Graph) (table : Table) (s p k : ℕ) (tokens : List ℕ) → ((r : ℕ) → slice_get (symbols_of g p) k ≢ Some (Nonterminal r))
-    → IsTrue true ↔ All (CarriesItem g graph table s p k) tokens
-nothing_to_carry g graph table s p k tokens none = accepted (λ i d below r further. absurd (none r further))
+pub nothing_to_carry : (g : Grammar) (graph : Graph) (table : Table) (s p k : ℕ) → ((r : ℕ) → slice_get (symbols_of g p) k ≢ Some (Nonterminal r))
+    → IsTrue true ↔ EachOfCore graph s p k (CarriesItem g graph table s)
+nothing_to_carry g graph table s p k none = accepted (λ t has r further. absurd (none r further))
 
 -- a transition, by the state to which it leads
-pub steps_each : (graph : Graph) (table : Table) (s : ℕ) (x : GrammarSymbol) (next p k : ℕ) (tokens : List ℕ) (test : Bool) → GoesBy table s x next
-    → ((n : ℕ) → GoesBy table s x n → n ≡ next) → IsTrue test ↔ All (HasItem graph next p (k + 1)) tokens → IsTrue test ↔ All (StepsOn graph table s x p k) tokens
-steps_each graph table s x next p k tokens test goes one decides =
-    each_same (HasItem graph next p (k + 1)) (StepsOn graph table s x p k) tokens test
+pub steps_each : (graph : Graph) (table : Table) (s : ℕ) (x : GrammarSymbol) (next p k : ℕ) (test : Bool) → GoesBy table s x next
+    → ((n : ℕ) → GoesBy table s x n → n ≡ next) → IsTrue test ↔ ((t : ℕ) → HasItem graph s p k t → HasItem graph next p (k + 1) t)
+    → IsTrue test ↔ EachOfCore graph s p k (StepsOn graph table s x)
+steps_each graph table s x next p k test goes one decides =
+    each_same (HasItem graph s p k) (HasItem graph next p (k + 1)) (StepsOn graph table s x p k) test
     (λ t. (
       λ has. (next, goes, has),
       λ step. subst (λ (n : ℕ). HasItem graph n p (k + 1) t) (one step.0 step.1) step.2,
     )) decides
 
 -- a state without a transition by the symbol has none
-pub steps_none : (graph : Graph) (table : Table) (s : ℕ) (x : GrammarSymbol) (p k : ℕ) (tokens : List ℕ) → 0 < length tokens
-    → ((n : ℕ) → ¬ (GoesBy table s x n)) → IsTrue false ↔ All (StepsOn graph table s x p k) tokens
-steps_none graph table s x p k tokens some never =
-    refused (λ all. let first = first_of_some (StepsOn graph table s x p k) tokens some all in never first.1.0 first.1.1)
+pub steps_none : (graph : Graph) (table : Table) (s : ℕ) (x : GrammarSymbol) (p k : ℕ) → HasCore graph s p k → ((n : ℕ) → ¬ (GoesBy table s x n))
+    → IsTrue false ↔ EachOfCore graph s p k (StepsOn graph table s x)
+steps_none graph table s x p k core never = refused (λ all. let first = all core.0 core.1 in never first.0 first.1)
 
 -- C5 if the dot is at the end
-pub ends_each : (g : Grammar) (table : Table) (s p k : ℕ) (tokens : List ℕ) (test : Bool) → k ≡ prod_len g p
-    → IsTrue test ↔ All (λ t. EndsBy g p (action_of table s t)) tokens → IsTrue test ↔ All (EndsItem g table s p k) tokens
-ends_each g table s p k tokens test all decides =
-    each_same (λ t. EndsBy g p (action_of table s t)) (EndsItem g table s p k) tokens test
+pub ends_each : (g : Grammar) (graph : Graph) (table : Table) (s p k : ℕ) (test : Bool) → k ≡ prod_len g p
+    → IsTrue test ↔ ((t : ℕ) → HasItem graph s p k t → EndsBy g p (action_of table s t)) → IsTrue test ↔ EachOfCore graph s p k (EndsItem g table s)
+ends_each g graph table s p k test all decides =
+    each_same (HasItem graph s p k) (λ t. EndsBy g p (action_of table s t)) (EndsItem g table s p k) test
     (λ t. (
       λ ends. record { reduces = λ _. ends.reduces; accepts = λ _. ends.accepts },
       λ ends. record { reduces = ends.reduces all; accepts = ends.accepts all },
     )) decides
-
--- and if it isn't
-pub nothing_to_end : (g : Grammar) (table : Table) (s p k : ℕ) (tokens : List ℕ) → k ≢ prod_len g p → IsTrue true ↔ All (EndsItem g table s p k) tokens
-nothing_to_end g table s p k tokens other =
-    accepted (λ i d below. record { reduces = λ all. absurd (other all); accepts = λ all. absurd (other all) })
 
 -- a condition holds for each item exactly if it holds at the state
 pub asked_at : (g : Grammar) (graph : Graph) (table : Table) (condition : CompletenessCondition) (s : ℕ) → condition ≢ C1 → condition ≢ C2
@@ -273,38 +277,75 @@ asked_at g graph table C3 s other another = (λ h. h, λ h. h)
 asked_at g graph table C4 s other another = (λ h. h, λ h. h)
 asked_at g graph table C5 s other another = (λ h. h, λ h. h)
 
--- no lookahead is in an empty set
-pub none_put : (bits : List Bool) → ((t : ℕ) → has bits t ≡ false) → (t : ℕ) → IsTrue (has bits t) ↔ Contains [] t
-none_put bits none t = (λ h. absurd (false≢true (sym (none t) ∙ h)), λ h. absurd (omega (arith, h.1)))
+-- what is there now was there before, or is added by one of the elements; and no more
+abbrev pub AreAdded : {X Y : Type 0} → (X → Y → Type 0) → List X → (Y → Type 0) → (Y → Type 0) → Type 0
+AreAdded {X} {Y} Adds xs Before Now = (y : Y) → Now y ↔ (Before y ⊎ ((x : X) × Contains xs x × Adds x y))
 
--- one more lookahead
-pub one_put : {S : Type 0} (index : S → ℕ) (items : List (TIdx S)) (i : ℕ) (item : TIdx S) (old new : List Bool) (token : ℕ)
-    → i < length items → item ≡ get_or items i item → token ≡ index item.0
-    → ((t : ℕ) → IsTrue (has old t) ↔ Contains (lookaheads_of index (take i items)) t) → ((t : ℕ) → has new t ≡ (has old t || t == token))
-    → (t : ℕ) → IsTrue (has new t) ↔ Contains (lookaheads_of index (take (i + 1) items)) t
-one_put {S} index items i item old new token within is token_is so_far put t =
-    let f : TIdx S → ℕ = λ x. index x.0 in
-    let more : lookaheads_of index (take (i + 1) items) ≡ lookaheads_of index (take i items) ++ index item.0 ∷ [] = map-take_more f items i item within is in
-    let front = lookaheads_of index (take i items) in (
-      λ h. subst (λ (ts : List ℕ). Contains ts t) (sym more)
-          (elim (or_cases (has old t) (t == token) (sym (put t) ∙ h)) as (λ _. Contains (front ++ index item.0 ∷ []) t) [
-            | inl before ↦ Contains-append_left front (index item.0 ∷ []) t ((so_far t).0 before)
-            | inr now ↦
-                let same : index item.0 ≡ t = sym (eqb-true t token now ∙ token_is) in
-                subst (Contains (front ++ index item.0 ∷ [])) same (Contains-push front (index item.0))
-          ]),
-      λ h.
-          put t ∙ elim (Contains-push_cases front (index item.0) t (subst (λ (ts : List ℕ). Contains ts t) more h)) as (λ _. (has old t || t == token) ≡ true) [
-            | inl before ↦ or_left (has old t) (t == token) ((so_far t).1 before)
-            | inr now ↦ or_right (has old t) (t == token) (eq-eqb t token (sym now ∙ sym token_is))
-          ],
+-- no element yet
+pub none_added : {X Y : Type 0} (Adds : X → Y → Type 0) (xs : List X) (Before : Y → Type 0) → AreAdded Adds (take 0 xs) Before Before
+none_added Adds xs Before y = (
+  λ h. inl h,
+  λ h. elim h as (λ _. Before y) [ inl before ↦ before | inr added ↦ absurd (let within = added.1.1 in omega (arith, within, length-take-le 0 xs)) ],
+)
+
+-- one more element
+pub one_added : {X Y : Type 0} (Adds : X → Y → Type 0) (xs : List X) (i : ℕ) (x : X) (Before Old New : Y → Type 0) → i < length xs → x ≡ get_or xs i x
+    → ((y : Y) → New y ↔ (Old y ⊎ Adds x y)) → AreAdded Adds (take i xs) Before Old → AreAdded Adds (take (i + 1) xs) Before New
+one_added {X} {Y} Adds xs i x Before Old New within is adds so_far y =
+    let more : take (i + 1) xs ≡ take i xs ++ x ∷ [] = take_more xs i x within ∙ ap (λ (z : X). take i xs ++ z ∷ []) (sym is) in
+    let Added : List X → Type 0 = λ ys. (z : X) × Contains ys z × Adds z y in
+    subst (λ (ys : List X). New y ↔ (Before y ⊎ Added ys)) (sym more) (
+      λ h. elim ((adds y).0 h) as (λ _. Before y ⊎ Added (take i xs ++ x ∷ [])) [
+        | inl old ↦ elim ((so_far y).0 old) as (λ _. Before y ⊎ Added (take i xs ++ x ∷ [])) [
+          | inl before ↦ inl before
+          | inr added ↦ inr (added.0, Contains-append_left (take i xs) (x ∷ []) added.0 added.1, added.2)
+        ]
+        | inr here ↦ inr (x, Contains-push (take i xs) x, here)
+      ],
+      λ h. elim h as (λ _. New y) [
+        | inl before ↦ (adds y).1 (inl ((so_far y).1 (inl before)))
+        | inr added ↦ elim (Contains-push_cases (take i xs) x added.0 added.1) as (λ _. New y) [
+          | inl earlier ↦ (adds y).1 (inl ((so_far y).1 (inr (added.0, earlier, added.2))))
+          | inr same ↦ (adds y).1 (inr (subst (λ (z : X). Adds z y) (sym same) added.2))
+        ]
+      ],
     )
 
 -- all of them
-pub all_put : {S : Type 0} (index : S → ℕ) (items : List (TIdx S)) (i : ℕ) (bits : List Bool) → length items ≤ i
-    → ((t : ℕ) → IsTrue (has bits t) ↔ Contains (lookaheads_of index (take i items)) t) → (t : ℕ) → IsTrue (has bits t) ↔ Contains (lookaheads_of index items) t
-all_put {S} index items i bits past put t =
-    subst (λ (xs : List (TIdx S)). IsTrue (has bits t) ↔ Contains (lookaheads_of index xs) t) (take_all i items past) (put t)
+all_added : {X Y : Type 0} (Adds : X → Y → Type 0) (xs : List X) (i : ℕ) (Before Now : Y → Type 0) → length xs ≤ i → AreAdded Adds (take i xs) Before Now
+    → AreAdded Adds xs Before Now
+all_added {X} Adds xs i Before Now past added = subst (λ (ys : List X). AreAdded Adds ys Before Now) (take_all i xs past) added
+
+-- all lookaheads of the items with a core
+pub lookaheads_added : {S : Type 0} (index : S → ℕ) (H : ℕ → Type 0) (tokens : List (TIdx S)) (i : ℕ) (Before Now : ℕ → Type 0)
+    → ((t : ℕ) → Contains (map (λ (x : TIdx S). index x.0) tokens) t ↔ H t) → length tokens ≤ i
+    → AreAdded (λ (x : TIdx S) t. index x.0 ≡ t) (take i tokens) Before Now → (t : ℕ) → Now t ↔ (Before t ⊎ H t)
+lookaheads_added {S} index H tokens i Before Now are past so_far t =
+    let all = all_added (λ (x : TIdx S) t. index x.0 ≡ t) tokens i Before Now past so_far t in (
+      λ h. elim (all.0 h) as (λ _. Before t ⊎ H t) [
+        | inl before ↦ inl before
+        | inr added ↦ inr ((are t).0 (subst (Contains (map (λ (x : TIdx S). index x.0) tokens)) added.2
+            (Contains-image (λ (x : TIdx S). index x.0) tokens added.0 added.1)))
+      ],
+      λ h. all.1 (elim h as (λ _. Before t ⊎ ((x : TIdx S) × Contains tokens x × (index x.0 ≡ t))) [
+        | inl before ↦ inl before
+        | inr item ↦ inr (Contains-preimage (λ (x : TIdx S). index x.0) tokens t ((are t).1 item))
+      ]),
+    )
+
+-- a token that is put into a set
+pub token_added : (old new : List Bool) (token t' : ℕ) → token ≡ t' → ((t : ℕ) → has new t ≡ (has old t || t == token))
+    → (t : ℕ) → IsTrue (has new t) ↔ (IsTrue (has old t) ⊎ (t' ≡ t))
+token_added old new token t' is put t = (
+  λ h. elim (or_cases (has old t) (t == token) (sym (put t) ∙ h)) as (λ _. IsTrue (has old t) ⊎ (t' ≡ t)) [
+    | inl before ↦ inl before
+    | inr now ↦ inr (sym (eqb-true t token now ∙ is))
+  ],
+  λ h. put t ∙ elim h as (λ _. (has old t || t == token) ≡ true) [
+    | inl before ↦ or_left (has old t) (t == token) before
+    | inr now ↦ or_right (has old t) (t == token) (eq-eqb t token (sym now ∙ sym is))
+  ],
+)
 
 -- what holds of all symbols holds of the one at a place
 at_place : {X : Type 0} (P : X → Type 0) (xs : List X) (k : ℕ) (x : X) → All P xs → slice_get xs k ≡ Some x → P x
@@ -313,20 +354,6 @@ at_place P xs k x all at = subst P (get_or_from_slice_get xs k x x at) (all k x 
 -- the token after a dot is one of the grammar
 pub token_low : (g : Grammar) → IsWellFormed g → (p k a : ℕ) → p < prods_len g → slice_get (symbols_of g p) k ≡ Some (Terminal a) → a < tokens_len g
 token_low g well p k a known at = at_place (IsSymbolBelow (rules_len g) (tokens_len g)) (symbols_of g p) k (Terminal a) (prod_symbols g well p known) at
-
--- the symbol after a dot, read from those of the code
-pub symbol_found : {S : Type 0} (index : S → ℕ) (xs : List (Symbol S)) (ys : List GrammarSymbol) (k : ℕ) (x shown : Symbol S) → map (symbol_of index) xs ≡ ys
-    → slice_get xs k ≡ Some x → x ≡ shown → slice_get ys k ≡ Some (symbol_of index shown)
-symbol_found {S} index xs ys k x shown are at is =
-    ap (λ (zs : List GrammarSymbol). slice_get zs k) (sym are) ∙ slice_get-map (symbol_of index) xs k ∙ ap (option_map (symbol_of index)) at
-    ∙ ap (λ (y : Symbol S). Some (symbol_of index y)) is
-
--- no symbol after the dot
-pub symbol_past : {S : Type 0} (index : S → ℕ) (xs : List (Symbol S)) (ys : List GrammarSymbol) (k : ℕ) (x : GrammarSymbol) → map (symbol_of index) xs ≡ ys
-    → length xs ≤ k → slice_get ys k ≢ Some x
-symbol_past {S} index xs ys k x are past at =
-    let within = slice_get_within ys k x at in
-    omega (arith, within, past, length-map xs (symbol_of index), ap (λ (zs : List GrammarSymbol). length zs) are)
 
 -- a rule is after the dot in one form exactly if it is in the other
 pub rule_at : (g : Grammar) (p k r : ℕ) (w : List GrammarSymbol) → drop k (symbols_of g p) ≡ Nonterminal r ∷ w → slice_get (symbols_of g p) k ≡ Some (Nonterminal r)
@@ -338,14 +365,6 @@ no_rule_at g p k none r at =
     let within = slice_get_within (symbols_of g p) k (Nonterminal r) at in
     let here = get_or_from_slice_get (symbols_of g p) k (Nonterminal r) (Nonterminal r) at in
     none r (drop (k + 1) (symbols_of g p)) (drop_more (symbols_of g p) k (Nonterminal r) within ∙ ap (λ (x : GrammarSymbol). x ∷ drop (k + 1) (symbols_of g p)) here)
-
--- there are as many numbers as lookaheads
-pub some_lookaheads : {S : Type 0} (index : S → ℕ) (tokens : List (TIdx S)) → 0 < length tokens → 0 < length (lookaheads_of index tokens)
-some_lookaheads {S} index tokens some = omega (arith, some, length-map tokens (λ (x : TIdx S). index x.0))
-
--- conversely
-pub some_of_lookaheads : {S : Type 0} (index : S → ℕ) (tokens : List (TIdx S)) → 0 < length (lookaheads_of index tokens) → 0 < length tokens
-some_of_lookaheads {S} index tokens some = omega (arith, some, length-map tokens (λ (x : TIdx S). index x.0))
 
 -- an action that is none of the code's shifts is no shift
 pub no_shift : {S : Type 0} (index : S → ℕ) (action : Action S) (is : TableAction) → plain_action index action ≡ is → ((next : StIdx S) → action ≢ Shift next)
@@ -381,147 +400,121 @@ starts_room g sets prod new room wide =
       wide = All-set (λ row. length row ≡ dummy_lookahead g + 1) (rows_of sets) prod new.bits.items wide room.wide;
     })
 
--- so do sets of the same widths
-pub starts_cleared : (g : Grammar) (before after : List (List Bool)) → HaveStarts g before → map (λ row. length row) after ≡ map (λ row. length row) before
-    → HaveStarts g after
-starts_cleared g before after room same =
-    let lens = λ (rows : List (List Bool)). length-map rows (λ row. length row) in
-    let count : length after ≡ length before = sym (lens after) ∙ ap (λ (ls : List ℕ). length ls) same ∙ lens before in
-    record {
-      prods = count ∙ room.prods;
-      wide = λ k d within.
-          let inside : k < length before = omega (arith, within, count) in
-          sym (get_or-map (λ row. length row) after k d 0 within) ∙ ap (λ ls. get_or ls k 0) same ∙ get_or-map (λ row. length row) before k d 0 inside
-          ∙ room.wide k d inside;
-    }
-
--- the lookahead of an item with dot 0 is added to the set of its production
-pub start_put : (sets : List TokenSet) (p prod token t' q t : ℕ) (d new : TokenSet) → prod < length sets → prod ≡ p → token ≡ t'
-    → ((u : ℕ) → has new.bits.items u ≡ (has (get_or sets prod d).bits.items u || u == token))
-    → IsTrue (has (row_at (rows_of (set sets prod new)) q) t) ↔ (IsTrue (has (row_at (rows_of sets) q) t) ⊎ (item_at p 0 t' ≡ item_at q 0 t))
-start_put sets p prod token t' q t d new within is token_is put =
+-- the sets with another one in place of that of production p: p has the new one, and any other production what it had
+set_at : (sets : List TokenSet) (p prod q : ℕ) (d new : TokenSet) → prod < length sets → prod ≡ p
+    → ((p ≡ q) × (row_at (rows_of (set sets prod new)) q ≡ new.bits.items) × ((get_or sets prod d).bits.items ≡ row_at (rows_of sets) q))
+    ⊎ ((p ≢ q) × (row_at (rows_of (set sets prod new)) q ≡ row_at (rows_of sets) q))
+set_at sets p prod q d new within is =
     let rows = rows_of sets in
     let inside : prod < length rows = omega (arith, within, length-map sets (λ s. s.bits.items)) in
-    let own = row_in sets prod d within in
-    let Same : ℕ → ℕ → Type 0 = λ a b. item_at p 0 t' ≡ item_at a 0 b in
-    elim (cases_eq q prod) as (λ _. IsTrue (has (row_at (rows_of (set sets prod new)) q) t) ↔ (IsTrue (has (row_at (rows_of sets) q) t) ⊎ (item_at p 0 t' ≡ item_at q 0 t))) [
-      | inl same ↦
-          let here : row_at (rows_of (set sets prod new)) q ≡ new.bits.items =
-          ap (λ rs. row_at rs q) (rows-set sets prod new) ∙ ap (row_at (set rows prod new.bits.items)) same ∙ get_or-set_same rows prod new.bits.items [] inside in
-          let old : (get_or sets prod d).bits.items ≡ row_at rows q = own ∙ ap (row_at rows) (sym same) in
-          let now : has (row_at (rows_of (set sets prod new)) q) t ≡ (has (row_at rows q) t || t == token) =
-          ap (λ b. has b t) here ∙ put t ∙ ap (λ b. has b t || t == token) old in (
-            λ h. elim (or_cases (has (row_at rows q) t) (t == token) (sym now ∙ h)) as (λ _. IsTrue (has (row_at rows q) t) ⊎ (item_at p 0 t' ≡ item_at q 0 t)) [
-              | inl before ↦ inl before
-              | inr fresh ↦
-                  let prod_same : p ≡ q = sym is ∙ sym same in
-                  let token_same : t' ≡ t = sym token_is ∙ sym (eqb-true t token fresh) in
-                  let item : item_at p 0 t' ≡ item_at q 0 t = cc in inr item
+    let now : row_at (rows_of (set sets prod new)) q ≡ row_at (set rows prod new.bits.items) q = ap (λ rs. row_at rs q) (rows-set sets prod new) in
+    elim (cases_eq q prod) as (λ _. ((p ≡ q) × (row_at (rows_of (set sets prod new)) q ≡ new.bits.items) × ((get_or sets prod d).bits.items ≡ row_at rows q))
+    ⊎ ((p ≢ q) × (row_at (rows_of (set sets prod new)) q ≡ row_at rows q))) [
+      | inl same ↦ inl (
+        sym is ∙ sym same,
+        now ∙ ap (row_at (set rows prod new.bits.items)) same ∙ get_or-set_same rows prod new.bits.items [] inside,
+        row_in sets prod d within ∙ ap (row_at rows) (sym same),
+      )
+      | inr other ↦ inr (λ same. other (sym (is ∙ same)), now ∙ get_or-set_other rows prod q new.bits.items [] other)
+    ]
+
+-- what is put into the set of production p for a core with dot 0
+pub start_put : (sets : List TokenSet) (p prod dot q t : ℕ) (d new : TokenSet) (H : ℕ → ℕ → ℕ → Type 0) → prod < length sets → prod ≡ p → dot ≡ 0
+    → ((u : ℕ) → IsTrue (has new.bits.items u) ↔ (IsTrue (has (get_or sets prod d).bits.items u) ⊎ H p dot u))
+    → IsTrue (has (row_at (rows_of (set sets prod new)) q) t) ↔ (IsTrue (has (row_at (rows_of sets) q) t) ⊎ ((p ≡ q) × (dot ≡ 0) × H q 0 t))
+start_put sets p prod dot q t d new H within is first put =
+    let after = row_at (rows_of (set sets prod new)) q in
+    let before = row_at (rows_of sets) q in
+    elim (set_at sets p prod q d new within is) as (λ _. IsTrue (has after t) ↔ (IsTrue (has before t) ⊎ ((p ≡ q) × (dot ≡ 0) × H q 0 t))) [
+      | inl here ↦
+          let item : H p dot t ≡ H q 0 t = ap (λ n. H n dot t) here.0 ∙ ap (λ n. H q n t) first in
+          let there : IsTrue (has after t) ↔ (IsTrue (has before t) ⊎ H q 0 t) =
+          subst (λ bits. IsTrue (has bits t) ↔ (IsTrue (has before t) ⊎ H q 0 t)) (sym here.1)
+          (subst (λ bits. IsTrue (has new.bits.items t) ↔ (IsTrue (has bits t) ⊎ H q 0 t)) here.2
+          (subst (λ Put. IsTrue (has new.bits.items t) ↔ (IsTrue (has (get_or sets prod d).bits.items t) ⊎ Put)) item (put t))) in (
+            λ h. elim (there.0 h) as (λ _. IsTrue (has before t) ⊎ ((p ≡ q) × (dot ≡ 0) × H q 0 t)) [
+              | inl old ↦ inl old
+              | inr now ↦ inr (here.0, first, now)
             ],
-            λ h. now ∙ elim h as (λ _. (has (row_at rows q) t || t == token) ≡ true) [
-              | inl before ↦ or_left (has (row_at rows q) t) (t == token) before
-              | inr item ↦
-                  let token_same : t' ≡ t = ap (λ (x : ItemOf). x.token) item in
-                  or_right (has (row_at rows q) t) (t == token) (eq-eqb t token (sym token_same ∙ sym token_is))
-            ],
+            λ h. there.1 (elim h as (λ _. IsTrue (has before t) ⊎ H q 0 t) [ inl old ↦ inl old | inr now ↦ inr now.2 ]),
           )
       | inr other ↦
-          let kept : has (row_at (rows_of (set sets prod new)) q) t ≡ has (row_at rows q) t =
-          ap (λ rs. has (row_at rs q) t) (rows-set sets prod new) ∙ ap (λ b. has b t) (get_or-set_other rows prod q new.bits.items [] other) in (
+          let kept : has after t ≡ has before t = ap (λ bits. has bits t) other.1 in (
             λ h. inl (sym kept ∙ h),
-            λ h. elim h as (λ _. IsTrue (has (row_at (rows_of (set sets prod new)) q) t)) [
-              | inl before ↦ kept ∙ before
-              | inr item ↦ absurd (other (sym (is ∙ ap (λ (x : ItemOf). x.prod) item)))
-            ],
+            λ h. elim h as (λ _. IsTrue (has after t)) [ inl old ↦ kept ∙ old | inr now ↦ absurd (other.0 now.0) ],
           )
     ]
 
--- an item whose dot isn't 0 is none of them
-pub no_start : (p k t q u : ℕ) (P : Type 0) → k ≢ 0 → P ↔ (P ⊎ (item_at p k t ≡ item_at q 0 u))
-no_start p k t q u P other = (
+-- for another core nothing is put
+pub no_start : (p dot q : ℕ) (P H : Type 0) → dot ≢ 0 → P ↔ (P ⊎ ((p ≡ q) × (dot ≡ 0) × H))
+no_start p dot q P H other = (
   λ h. inl h,
-  λ h. elim h as (λ _. P) [ inl before ↦ before | inr item ↦ absurd (other (ap (λ (x : ItemOf). x.dot) item)) ],
+  λ h. elim h as (λ _. P) [ inl before ↦ before | inr now ↦ absurd (other now.1) ],
 )
 
--- an element that isn't the first is among the others
-later_among : (x y : ItemOf) (xs : List ItemOf) → x ≢ y → Contains (x ∷ xs) y → Contains xs y
-later_among x y xs other (zero, below, is) = absurd (other is)
-later_among x y xs other (suc i, below, is) = (i, omega (arith, below), is)
-
--- the lookahead of an item with dot 0 is removed from the set of its production
-pub start_taken : (sets : List TokenSet) (p prod token t' q t : ℕ) (d new : TokenSet) → prod < length sets → prod ≡ p → token ≡ t'
-    → ((u : ℕ) → has new.bits.items u ≡ (has (get_or sets prod d).bits.items u && not (u == token)))
-    → IsTrue (has (row_at (rows_of (set sets prod new)) q) t) → IsTrue (has (row_at (rows_of sets) q) t) × (item_at p 0 t' ≢ item_at q 0 t)
-start_taken sets p prod token t' q t d new within is token_is taken h =
-    let rows = rows_of sets in
-    let inside : prod < length rows = omega (arith, within, length-map sets (λ s. s.bits.items)) in
-    elim (cases_eq q prod) as (λ _. IsTrue (has (row_at rows q) t) × (item_at p 0 t' ≢ item_at q 0 t)) [
-      | inl same ↦
-          let here : row_at (rows_of (set sets prod new)) q ≡ new.bits.items =
-          ap (λ rs. row_at rs q) (rows-set sets prod new) ∙ ap (row_at (set rows prod new.bits.items)) same ∙ get_or-set_same rows prod new.bits.items [] inside in
-          let old : (get_or sets prod d).bits.items ≡ row_at rows q = row_in sets prod d within ∙ ap (row_at rows) (sym same) in
-          let now : has (row_at (rows_of (set sets prod new)) q) t ≡ (has (row_at rows q) t && not (t == token)) =
-          ap (λ b. has b t) here ∙ taken t ∙ ap (λ b. has b t && not (t == token)) old in
-          let both = and_parts (has (row_at rows q) t) (not (t == token)) (sym now ∙ h) in (
-            both.0,
-            λ item.
-                let token_same : t' ≡ t = ap (λ (x : ItemOf). x.token) item in
-                both_ways _ (not-true _ both.1) (eq-eqb t token (sym token_same ∙ sym token_is)),
-          )
-      | inr other ↦
-          let kept : has (row_at (rows_of (set sets prod new)) q) t ≡ has (row_at rows q) t =
-          ap (λ rs. has (row_at rs q) t) (rows-set sets prod new) ∙ ap (λ b. has b t) (get_or-set_other rows prod q new.bits.items [] other) in
-          (sym kept ∙ h, λ item. other (sym (is ∙ ap (λ (x : ItemOf). x.prod) item)))
+-- the set of production p is emptied
+pub start_taken : (sets : List TokenSet) (p prod dot q t : ℕ) (new : TokenSet) → prod < length sets → prod ≡ p → ((u : ℕ) → has new.bits.items u ≡ false)
+    → IsTrue (has (row_at (rows_of (set sets prod new)) q) t) → IsTrue (has (row_at (rows_of sets) q) t) × (p ≡ q → dot ≢ 0)
+start_taken sets p prod dot q t new within is none h =
+    elim (set_at sets p prod q new new within is) as (λ _. IsTrue (has (row_at (rows_of sets) q) t) × (p ≡ q → dot ≢ 0)) [
+      | inl here ↦ absurd (false≢true (sym (none t) ∙ sym (ap (λ bits. has bits t) here.1) ∙ h))
+      | inr other ↦ (sym (ap (λ bits. has bits t) other.1) ∙ h, λ same. absurd (other.0 same))
     ]
 
--- the sets have only lookaheads of items with dot 0 among these
-abbrev pub HaveFirstsAmong : List ItemOf → List (List Bool) → Type 0
-HaveFirstsAmong items rows = (q t : ℕ) → IsTrue (has (row_at rows q) t) → Contains items (item_at q 0 t)
+-- a state's item with dot 0 has one of the cores that were read
+start_listed : {S : Type 0} (index : S → ℕ) (graph : Graph) (s : ℕ) (cores : List (PIdx S × ℕ)) (q t : ℕ)
+    → ((p k : ℕ) → HasCore graph s p k ↔ Contains (map (core_of index) cores) (p, k)) → HasItem graph s q 0 t
+    → (core : PIdx S × ℕ) × Contains cores core × (index core.0.0 ≡ q) × (core.1 ≡ 0)
+start_listed index graph s cores q t are item =
+    let found = Contains-preimage (core_of index) cores (q, 0) ((are q 0).0 (t, item)) in
+    (found.0, found.1, ap (λ (core : ℕ × ℕ). core.0) found.2, ap (λ (core : ℕ × ℕ). core.1) found.2)
 
--- one item fewer
-pub starts_fewer : (item : ItemOf) (items rest : List ItemOf) (old new : List (List Bool)) → items ≡ item ∷ rest → HaveFirstsAmong items old
-    → ((q t : ℕ) → IsTrue (has (row_at new q) t) → IsTrue (has (row_at old q) t) × (item ≢ item_at q 0 t)) → HaveFirstsAmong rest new
-starts_fewer item items rest old new is so_far left q t h =
-    let among : Contains (item ∷ rest) (item_at q 0 t) = subst (λ (xs : List ItemOf). Contains xs (item_at q 0 t)) is (so_far q t (left q t h).0) in
-    later_among item (item_at q 0 t) rest (left q t h).1 among
+-- what a core adds to the sets of the productions, if its dot is 0: to that of its production its lookaheads
+abbrev pub AddsStarts : {S : Type 0} → (S → ℕ) → Graph → ℕ → PIdx S × ℕ → ℕ × ℕ → Type 0
+AddsStarts index graph s core entry = (index core.0.0 ≡ entry.0) × (core.1 ≡ 0) × HasItem graph s entry.0 0 entry.1
 
--- if no item is left, the sets are empty
-pub starts_gone : (rows : List (List Bool)) → HaveFirstsAmong [] rows → (q t : ℕ) → has (row_at rows q) t ≡ false
-starts_gone rows among q t = false_from_ne_true (has (row_at rows q) t) (λ h. absurd (omega (arith, (among q t h).1)))
+-- the production of an entry has its token
+abbrev pub HasEntry : List (List Bool) → ℕ × ℕ → Type 0
+HasEntry rows entry = IsTrue (has (row_at rows entry.0) entry.1)
 
--- no item yet
-pub starts_none : (rows : List (List Bool)) → ((q t : ℕ) → has (row_at rows q) t ≡ false) → AreStartsOf [] rows
-starts_none rows none q t = (λ h. absurd (false≢true (sym (none q t) ∙ h)), λ h. absurd (omega (arith, h.1)))
-
--- one more item
-pub starts_more : (items : List ItemOf) (item : ItemOf) (old new : List (List Bool)) → AreStartsOf items old
-    → ((q t : ℕ) → IsTrue (has (row_at new q) t) ↔ (IsTrue (has (row_at old q) t) ⊎ (item ≡ item_at q 0 t))) → AreStartsOf (items ++ item ∷ []) new
-starts_more items item old new so_far put q t = (
-  λ h.
-      elim ((put q t).0 h) as (λ _. Contains (items ++ item ∷ []) (item_at q 0 t)) [
-        | inl before ↦ Contains-append_left items (item ∷ []) (item_at q 0 t) ((so_far q t).0 before)
-        | inr now ↦ subst (Contains (items ++ item ∷ [])) now (Contains-push items item)
+-- what all cores of a state add to empty sets are the lookaheads of its items with dot 0
+pub starts_added : {S : Type 0} (index : S → ℕ) (graph : Graph) (s : ℕ) (cores : List (PIdx S × ℕ)) (i : ℕ) (empty rows : List (List Bool))
+    → ((p k : ℕ) → HasCore graph s p k ↔ Contains (map (core_of index) cores) (p, k)) → length cores ≤ i → ((q t : ℕ) → has (row_at empty q) t ≡ false)
+    → AreAdded (AddsStarts index graph s) (take i cores) (HasEntry empty) (HasEntry rows) → AreStartsOf (items_of graph s) rows
+starts_added {S} index graph s cores i empty rows are past none so_far q t =
+    let all = all_added (AddsStarts index graph s) cores i (HasEntry empty) (HasEntry rows) past so_far (q, t) in (
+      λ h. elim (all.0 h) as (λ _. HasItem graph s q 0 t) [
+        | inl before ↦ absurd (false≢true (sym (none q t) ∙ before))
+        | inr added ↦ added.2.2
       ],
-  λ h.
-      elim (Contains-push_cases items item (item_at q 0 t) h) as (λ _. IsTrue (has (row_at new q) t)) [
-        | inl before ↦ (put q t).1 (inl ((so_far q t).1 before))
-        | inr now ↦ (put q t).1 (inr now)
-      ],
-)
+      λ item. let core = start_listed index graph s cores q t are item in all.1 (inr (core.0, core.1, (core.2, core.3, item))),
+    )
 
--- the items so far and the next one, then those that are left
-pub one_read : (seen : List ItemOf) (item : ItemOf) (left rest all : List ItemOf) → left ≡ item ∷ rest → seen ++ left ≡ all → (seen ++ item ∷ []) ++ rest ≡ all
-one_read seen item left rest all is so_far = append_assoc seen (item ∷ []) rest ∙ ap (λ (xs : List ItemOf). seen ++ xs) (sym is) ∙ so_far
+-- the sets have nothing new, and nothing of the first i cores with dot 0
+abbrev pub AreLeft : {S : Type 0} → (S → ℕ) → List (PIdx S × ℕ) → ℕ → List (List Bool) → List (List Bool) → Type 0
+AreLeft {S} index cores i before rows =
+    (q t : ℕ) → IsTrue (has (row_at rows q) t) → IsTrue (has (row_at before q) t)
+    × ((n : ℕ) (d : PIdx S × ℕ) → n < i → index (get_or cores n d).0.0 ≡ q → (get_or cores n d).1 ≢ 0)
 
--- the next item is one of all
-pub next_among : (seen : List ItemOf) (item : ItemOf) (left rest all : List ItemOf) → left ≡ item ∷ rest → seen ++ left ≡ all → Contains all item
-next_among seen item left rest all is so_far =
-    subst (λ (xs : List ItemOf). Contains xs item) (one_read seen item left rest all is so_far)
-    (Contains-append_left (seen ++ item ∷ []) rest item (Contains-push seen item))
+-- one core more
+pub fewer_left : {S : Type 0} (index : S → ℕ) (cores : List (PIdx S × ℕ)) (i : ℕ) (core : PIdx S × ℕ) (before old new : List (List Bool))
+    → i < length cores → core ≡ get_or cores i core
+    → ((q t : ℕ) → IsTrue (has (row_at new q) t) → IsTrue (has (row_at old q) t) × (index core.0.0 ≡ q → core.1 ≢ 0))
+    → AreLeft index cores i before old → AreLeft index cores (i + 1) before new
+fewer_left {S} index cores i core before old new within is taken so_far q t h =
+    let left = so_far q t (taken q t h).0 in
+    (left.0, each_more (λ (x : PIdx S × ℕ). index x.0.0 ≡ q → x.1 ≢ 0) cores i core within is (taken q t h).1 left.1)
 
--- if none is left, those so far are all
-pub all_read : (seen left all : List ItemOf) → left ≡ [] → seen ++ left ≡ all → seen ≡ all
-all_read seen left all none so_far = sym (append-nil seen) ∙ ap (λ (xs : List ItemOf). seen ++ xs) (sym none) ∙ so_far
+-- with all cores of the state, nothing is left of the lookaheads of its items with dot 0
+pub none_left : {S : Type 0} (index : S → ℕ) (graph : Graph) (s : ℕ) (cores : List (PIdx S × ℕ)) (i : ℕ) (before rows : List (List Bool))
+    → ((p k : ℕ) → HasCore graph s p k ↔ Contains (map (core_of index) cores) (p, k)) → length cores ≤ i → AreStartsOf (items_of graph s) before
+    → AreLeft index cores i before rows → (q t : ℕ) → has (row_at rows q) t ≡ false
+none_left {S} index graph s cores i before rows are past starts left q t =
+    false_from_ne_true (has (row_at rows q) t) (λ h.
+    let here = left q t h in
+    let core = start_listed index graph s cores q t are ((starts q t).0 here.0) in
+    let none : All (λ (x : PIdx S × ℕ). index x.0.0 ≡ q → x.1 ≢ 0) cores = λ n d below. here.1 n d (omega (arith, past, below)) in
+    All-contains (λ (x : PIdx S × ℕ). index x.0.0 ≡ q → x.1 ≢ 0) cores core.0 none core.1 core.2 core.3)
 
 -- the productions of a rule, as numbers of the code, are of the grammar
 pub of_rule_known : {S : Type 0} (index : S → ℕ) (g : Grammar) (r : ℕ) (prods : List (PIdx S)) (i : ℕ) (pidx : PIdx S) → map (λ p. index p.0) prods ≡ prods_of g r

@@ -1,11 +1,10 @@
 -- The conditions of completeness at a state, for the items of one core; and what is known when they are tested.
-use Rattle.std.specs.Prelude.{◌≡◌, ◌≢◌, ◌≤◌, ◌<◌, ◌+◌, ◌↔◌, ℕ, Bool, IsTrue, List, ◌∷◌, All, Contains, drop, length, map, slice_index_or}
-use Rattle.lrpar_grammar_places.specs.declared.span.TIdx.{TIdx}
+use Rattle.std.specs.Prelude.{◌≡◌, ◌≢◌, ◌<◌, ◌+◌, ◌↔◌, ℕ, Bool, IsTrue, List, ◌∷◌, All, Contains, drop, length}
 use Rattle.lrpar_grammar.specs.Grammar.{Grammar, GrammarSymbol, IsWellFormed, Nonterminal, prods_len, rule_of, start_prod, symbols_of}
 use Rattle.lrpar_table_first.specs.First.{IsFirst}
 use Rattle.lrpar_table_first.specs.FirstRows.{AreFirsts, HoldNothing, dummy_lookahead, row_at, rows_of}
 use Rattle.lrpar_grammar.specs.Tokens.{has}
-use Rattle.lrpar_table_rows.specs.Graph.{Graph, ItemOf, item_at}
+use Rattle.lrpar_table_rows.specs.Graph.{Graph, HasItem, ItemOf, item_at}
 use Rattle.lrpar_table_rows.specs.Safe.{HasShape}
 use Rattle.lrpar_table_rows.specs.Table.{Table, TableAction, ReduceBy, Accepts}
 use Rattle.lrpar_table_conditions.specs.Complete.{CarriesItem, EndsItem, ShiftsItem}
@@ -46,9 +45,9 @@ ClosesAmong g rows p k t =
     (r : ℕ) (w : List GrammarSymbol) → drop k (symbols_of g p) ≡ Nonterminal r ∷ w
     → (q b : ℕ) → q < prods_len g → rule_of g q ≡ r → IsFirst g t w b → IsTrue (has (row_at rows q) b)
 
--- lookaheads by their numbers
-abbrev pub lookaheads_of : {S : Type 0} → (S → ℕ) → List (TIdx S) → List ℕ
-lookaheads_of index tokens = map (λ token. index token.0) tokens
+-- this holds for each item of s with the core p, k
+abbrev pub EachOfCore : Graph → ℕ → ℕ → ℕ → (ℕ → ℕ → ℕ → Type 0) → Type 0
+EachOfCore graph s p k Holds = (t : ℕ) → HasItem graph s p k t → Holds p k t
 
 -- what a condition other than C1 and C2 requires of state s for an item
 abbrev pub ItemHolds : Grammar → Graph → Table → CompletenessCondition → ℕ → ℕ → ℕ → ℕ → Type 0

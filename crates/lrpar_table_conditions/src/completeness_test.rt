@@ -2,10 +2,11 @@
 ghost use Rattle.std.specs.Prelude.{◌≡◌, ◌<◌, ◌≤◌, ◌+◌, ◌↔◌, ℕ, IfErr, IsTrue, MatchOption, OnOk, All, length};
 ghost use Rattle.lrpar_grammar.specs.Grammar.{IsWellFormed, prod_len, prods_len, tokens_len};
 ghost use Rattle.lrpar_table_first.specs.FirstRows.{rows_of};
+ghost use Rattle.lrpar_table_rows.specs.Graph.{HasCore};
 ghost use Rattle.lrpar_table_rows.specs.Safe.{HasShape};
 ghost use Rattle.lrpar_table_rows.specs.Table.{states_len};
 ghost use Rattle.lrpar_table_conditions.specs.Complete.{ClosesItem, EachItem, FailsFirstAt, HasStartItem, IsComplete, IsCompleteAt, IsCompleteFault, IsFirstFault};
-ghost use Rattle.lrpar_table_conditions.specs.Itemwise.{AreReady, ClosesAmong, HaveRoomFor, IsKnown, ItemHolds, lookaheads_of};
+ghost use Rattle.lrpar_table_conditions.specs.Itemwise.{AreReady, ClosesAmong, EachOfCore, HaveRoomFor, IsKnown, ItemHolds};
 ghost use Rattle.lrpar_table_conditions.specs.declared.completeness_fault.CompleteFault.TheVariants.{Memory};
 
 mod cores;
@@ -171,8 +172,7 @@ impl<'a, StorageT: StorageIndex> Completeness<'a, StorageT> {
             (ClosesAmong self.now.grm.now (rows_of sets.old.starts.items)) }
     {
         for (pidx, dot) in self.sgraph.cores(s) {
-            let tokens = self.sgraph.lookaheads(s, *pidx, *dot);
-            if !self.closes_core(*pidx, *dot, tokens, sets) {
+            if !self.closes_core(s, *pidx, *dot, sets) {
                 return false;
             }
         }
@@ -187,37 +187,32 @@ impl<'a, StorageT: StorageIndex> Completeness<'a, StorageT> {
             (ItemHolds self.now.grm.now self.now.sgraph.now self.now.stable.now condition (StorageT.index s.0)) }
     {
         for (pidx, dot) in self.sgraph.cores(s) {
-            let tokens = self.sgraph.lookaheads(s, *pidx, *dot);
-            if !self.core_holds(condition, s, *pidx, *dot, tokens) {
+            if !self.core_holds(condition, s, *pidx, *dot) {
                 return false;
             }
         }
         true
     }
 
-    // Whether the condition holds for the items with this production, this dot and these lookaheads.
+    // Whether the condition holds for the items with this core.
     fn core_holds(
         &self,
         condition: CompletenessCondition,
         s: StIdx<StorageT>,
         pidx: PIdx<StorageT>,
         dot: usize,
-        tokens: &[TIdx<StorageT>],
     ) -> bool
         requires known { IsKnown self.now.grm.now self.now.sgraph.now self.now.stable.now (rows_of self.now.firsts.now) }
         requires state { StorageT.index s.0 < states_len self.now.stable.now }
-        requires prod { StorageT.index pidx.0 < prods_len self.now.grm.now }
-        requires dot { dot ≤ prod_len self.now.grm.now (StorageT.index pidx.0) }
-        requires tokens { All (λ t. t < tokens_len self.now.grm.now) (lookaheads_of StorageT.index tokens.now) }
-        requires some { 0 < length tokens.now }
+        requires core { HasCore self.now.sgraph.now (StorageT.index s.0) (StorageT.index pidx.0) dot }
         ensures { let g = self.now.grm.now in let graph = self.now.sgraph.now in let table = self.now.stable.now in IsTrue result
-            ↔ All (ItemHolds g graph table condition (StorageT.index s.0) (StorageT.index pidx.0) dot) (lookaheads_of StorageT.index tokens.now) }
+            ↔ EachOfCore graph (StorageT.index s.0) (StorageT.index pidx.0) dot (ItemHolds g graph table condition (StorageT.index s.0)) }
     {
         match condition {
             CompletenessCondition::C1 | CompletenessCondition::C2 => true,
-            CompletenessCondition::C3 => self.shifts_core(s, pidx, dot, tokens),
-            CompletenessCondition::C4 => self.carries_core(s, pidx, dot, tokens),
-            CompletenessCondition::C5 => self.ends_core(s, pidx, dot, tokens),
+            CompletenessCondition::C3 => self.shifts_core(s, pidx, dot),
+            CompletenessCondition::C4 => self.carries_core(s, pidx, dot),
+            CompletenessCondition::C5 => self.ends_core(s, pidx, dot),
         }
     }
 }

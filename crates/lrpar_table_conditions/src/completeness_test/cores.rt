@@ -1,13 +1,12 @@
 //! The conditions of completeness for the items of one core.
-ghost use Rattle.std.specs.Prelude.{◌≡◌, ◌≢◌, ◌<◌, ◌≤◌, ◌+◌, ◌↔◌, ◌⊎◌, ◌&&◌, ◌==◌, ℕ, All, Contains, IfSome, IsTrue, MatchOption, Some, length, map, not, slice_get};
-ghost use Rattle.lrpar_grammar.specs.Grammar.{Nonterminal, Terminal, prod_len, prods_len, rule_of, rules_len, symbols_of, tokens_len};
+ghost use Rattle.std.specs.Prelude.{◌≡◌, ◌≢◌, ◌<◌, ◌≤◌, ◌+◌, ◌↔◌, ◌⊎◌, ℕ, IfSome, IsTrue, MatchOption, Some, length, slice_get};
+ghost use Rattle.lrpar_grammar.specs.Grammar.{Nonterminal, Terminal, prod_len, prods_len, rule_of, rules_len, symbols_of};
 ghost use Rattle.lrpar_table_first.specs.FirstRows.{HoldNothing, dummy_lookahead, row_at, rows_of};
 ghost use Rattle.lrpar_grammar.specs.Tokens.{has};
-ghost use Rattle.lrpar_table_rows.specs.Graph.{HasItem, item_at, items_of};
-ghost use Rattle.lrpar_table_rows.specs.Safe.{IsItem};
+ghost use Rattle.lrpar_table_rows.specs.Graph.{HasCore, HasItem, items_of};
 ghost use Rattle.lrpar_table_rows.specs.Table.{action_of, states_len};
 ghost use Rattle.lrpar_table_conditions.specs.Complete.{CarriesItem, EndsItem, ShiftsItem, StepsOn};
-ghost use Rattle.lrpar_table_conditions.specs.Itemwise.{AreStartsOf, ClosesAmong, EndsBy, HaveRoomFor, HaveStarts, IsKnown, lookaheads_of};
+ghost use Rattle.lrpar_table_conditions.specs.Itemwise.{AreStartsOf, ClosesAmong, EachOfCore, EndsBy, HaveRoomFor, HaveStarts, IsKnown};
 
 use crate::completeness_test::Completeness;
 use crate::completeness_test::sets::WorkSets;
@@ -19,28 +18,28 @@ use lrpar_table_rows::table::Action;
 
 impl<'a, StorageT: StorageIndex> Completeness<'a, StorageT> {
     // C2, closure: if a rule is after the dot, with the symbols w after it, whether the state has an item with dot 0 for each of its
-    // productions, with each token of First(w, t) for the lookaheads t. `starts` has the lookaheads of the state's items with dot 0.
+    // productions, with each token of First(w, t) for the core's lookaheads t. `starts` has the lookaheads of the state's items with
+    // dot 0. Only if a rule is after the dot are the core's lookaheads looked for.
     pub(super) fn closes_core(
         &self,
+        s: StIdx<StorageT>,
         pidx: PIdx<StorageT>,
         dot: usize,
-        tokens: &[TIdx<StorageT>],
         sets: &mut WorkSets,
     ) -> bool
         requires known { IsKnown self.now.grm.now self.now.sgraph.now self.now.stable.now (rows_of self.now.firsts.now) }
-        requires prod { StorageT.index pidx.0 < prods_len self.now.grm.now }
-        requires dot { dot ≤ prod_len self.now.grm.now (StorageT.index pidx.0) }
-        requires tokens { All (λ t. t < tokens_len self.now.grm.now) (lookaheads_of StorageT.index tokens.now) }
+        requires core { HasCore self.now.sgraph.now (StorageT.index s.0) (StorageT.index pidx.0) dot }
         requires room { HaveRoomFor self.now.grm.now sets.old }
         ensures room { HaveRoomFor self.now.grm.now sets.new }
         ensures kept { sets.new.starts.items ≡ sets.old.starts.items }
-        ensures test { IsTrue result ↔ All (ClosesAmong self.now.grm.now (rows_of sets.old.starts.items) (StorageT.index pidx.0) dot)
-            (lookaheads_of StorageT.index tokens.now) }
+        ensures test { IsTrue result ↔ EachOfCore self.now.sgraph.now (StorageT.index s.0) (StorageT.index pidx.0) dot
+            (ClosesAmong self.now.grm.now (rows_of sets.old.starts.items)) }
     {
         match rule_after(self.grm, pidx, dot) {
             None => true,
             Some((rule, rest)) => {
-                put_lookaheads(tokens, &mut sets.after);
+                sets.after.clear();
+                self.add_lookaheads(s, pidx, dot, &mut sets.after);
                 sets.begun.clear();
                 add_first_before(
                     self.grm,
@@ -83,33 +82,33 @@ impl<'a, StorageT: StorageIndex> Completeness<'a, StorageT> {
         ensures room { HaveStarts self.now.grm.now (rows_of starts.new) }
         ensures starts { AreStartsOf (items_of self.now.sgraph.now (StorageT.index s.0)) (rows_of starts.new) }
     {
-        for (pidx, dot, token) in self.sgraph.items(s) {
-            self.put_start(pidx, dot, token, starts);
+        for (pidx, dot) in self.sgraph.cores(s) {
+            self.put_start(s, *pidx, *dot, starts);
         }
     }
 
-    // Adds the lookahead of the item to its production's set, if its dot is 0.
+    // Adds the lookaheads of the core to its production's set, if its dot is 0.
     fn put_start(
         &self,
+        s: StIdx<StorageT>,
         pidx: PIdx<StorageT>,
         dot: usize,
-        token: TIdx<StorageT>,
         starts: &mut [TokenSet],
     )
-        requires item { IsItem self.now.grm.now (StorageT.index pidx.0) dot (StorageT.index token.0) }
+        requires known { IsKnown self.now.grm.now self.now.sgraph.now self.now.stable.now (rows_of self.now.firsts.now) }
+        requires core { HasCore self.now.sgraph.now (StorageT.index s.0) (StorageT.index pidx.0) dot }
         requires room { HaveStarts self.now.grm.now (rows_of starts.old) }
         ensures room { HaveStarts self.now.grm.now (rows_of starts.new) }
-        ensures put { (q t : ℕ) → IsTrue (has (row_at (rows_of starts.new) q) t)
-            ↔ (IsTrue (has (row_at (rows_of starts.old) q) t) ⊎ (item_at (StorageT.index pidx.0) dot (StorageT.index token.0) ≡ item_at q 0 t)) }
+        ensures put { (q t : ℕ) → IsTrue (has (row_at (rows_of starts.new) q) t) ↔ (IsTrue (has (row_at (rows_of starts.old) q) t)
+            ⊎ ((StorageT.index pidx.0 ≡ q) × (dot ≡ 0) × HasItem self.now.sgraph.now (StorageT.index s.0) q 0 t)) }
     {
-        if dot != 0 {
-            return;
+        if dot == 0 {
+            let prod = usize::from(pidx);
+            self.add_lookaheads(s, pidx, dot, &mut starts[prod]);
         }
-        let prod = usize::from(pidx);
-        starts[prod].insert(usize::from(token));
     }
 
-    // Removes the lookaheads of the state's items with dot 0 from the sets, which are then empty.
+    // Empties the sets, which have the lookaheads of the state's items with dot 0.
     pub(super) fn take_starts(&self, s: StIdx<StorageT>, starts: &mut [TokenSet])
         requires known { IsKnown self.now.grm.now self.now.sgraph.now self.now.stable.now (rows_of self.now.firsts.now) }
         requires state { StorageT.index s.0 < states_len self.now.stable.now }
@@ -118,49 +117,61 @@ impl<'a, StorageT: StorageIndex> Completeness<'a, StorageT> {
         ensures room { HaveStarts self.now.grm.now (rows_of starts.new) }
         ensures none { HoldNothing (rows_of starts.new) }
     {
-        for (pidx, dot, token) in self.sgraph.items(s) {
-            self.take_start(pidx, dot, token, starts);
+        for (pidx, dot) in self.sgraph.cores(s) {
+            self.take_start(s, *pidx, *dot, starts);
         }
     }
 
-    // Removes the lookahead of the item from its production's set, if its dot is 0.
+    // Empties the set of the core's production, if its dot is 0.
     fn take_start(
-        &self,
-        pidx: PIdx<StorageT>,
-        dot: usize,
-        token: TIdx<StorageT>,
-        starts: &mut [TokenSet],
-    )
-        requires item { IsItem self.now.grm.now (StorageT.index pidx.0) dot (StorageT.index token.0) }
-        requires room { HaveStarts self.now.grm.now (rows_of starts.old) }
-        ensures room { HaveStarts self.now.grm.now (rows_of starts.new) }
-        ensures left { (q t : ℕ) → IsTrue (has (row_at (rows_of starts.new) q) t)
-            → IsTrue (has (row_at (rows_of starts.old) q) t) × (item_at (StorageT.index pidx.0) dot (StorageT.index token.0) ≢ item_at q 0 t) }
-    {
-        if dot != 0 {
-            return;
-        }
-        let prod = usize::from(pidx);
-        remove(&mut starts[prod], usize::from(token));
-    }
-
-    // C3: if a token is after the dot, the state shifts it to a state with the advanced items.
-    pub(super) fn shifts_core(
         &self,
         s: StIdx<StorageT>,
         pidx: PIdx<StorageT>,
         dot: usize,
-        tokens: &[TIdx<StorageT>],
-    ) -> bool
+        starts: &mut [TokenSet],
+    )
+        requires known { IsKnown self.now.grm.now self.now.sgraph.now self.now.stable.now (rows_of self.now.firsts.now) }
+        requires core { HasCore self.now.sgraph.now (StorageT.index s.0) (StorageT.index pidx.0) dot }
+        requires room { HaveStarts self.now.grm.now (rows_of starts.old) }
+        ensures room { HaveStarts self.now.grm.now (rows_of starts.new) }
+        ensures left { (q t : ℕ) → IsTrue (has (row_at (rows_of starts.new) q) t)
+            → IsTrue (has (row_at (rows_of starts.old) q) t) × (StorageT.index pidx.0 ≡ q → dot ≢ 0) }
+    {
+        if dot == 0 {
+            let prod = usize::from(pidx);
+            starts[prod].clear();
+        }
+    }
+
+    // Adds the lookaheads of the state's items with this core to the set.
+    fn add_lookaheads(
+        &self,
+        s: StIdx<StorageT>,
+        pidx: PIdx<StorageT>,
+        dot: usize,
+        set: &mut TokenSet,
+    )
+        requires known { IsKnown self.now.grm.now self.now.sgraph.now self.now.stable.now (rows_of self.now.firsts.now) }
+        requires room { length set.old.bits.items ≡ dummy_lookahead self.now.grm.now + 1 }
+        ensures room { length set.new.bits.items ≡ length set.old.bits.items }
+        ensures put { (t : ℕ) → IsTrue (has set.new.bits.items t) ↔ (IsTrue (has set.old.bits.items t)
+            ⊎ HasItem self.now.sgraph.now (StorageT.index s.0) (StorageT.index pidx.0) dot t) }
+    {
+        for token in self.sgraph.lookaheads(s, pidx, dot) {
+            set.insert(usize::from(*token));
+        }
+    }
+
+    // C3: if a token is after the dot, the state shifts it to a state with the advanced items.
+    pub(super) fn shifts_core(&self, s: StIdx<StorageT>, pidx: PIdx<StorageT>, dot: usize) -> bool
         requires known { IsKnown self.now.grm.now self.now.sgraph.now self.now.stable.now (rows_of self.now.firsts.now) }
         requires state { StorageT.index s.0 < states_len self.now.stable.now }
-        requires prod { StorageT.index pidx.0 < prods_len self.now.grm.now }
-        requires some { 0 < length tokens.now }
-        ensures { IsTrue result ↔ All (ShiftsItem self.now.grm.now self.now.sgraph.now self.now.stable.now (StorageT.index s.0) (StorageT.index pidx.0) dot)
-            (lookaheads_of StorageT.index tokens.now) }
+        requires core { HasCore self.now.sgraph.now (StorageT.index s.0) (StorageT.index pidx.0) dot }
+        ensures { IsTrue result ↔ EachOfCore self.now.sgraph.now (StorageT.index s.0) (StorageT.index pidx.0) dot
+            (ShiftsItem self.now.grm.now self.now.sgraph.now self.now.stable.now (StorageT.index s.0)) }
     {
         match self.token_after(pidx, dot) {
-            Some(token) => self.shifts_to(s, token, pidx, dot, tokens),
+            Some(token) => self.shifts_to(s, token, pidx, dot),
             None => true,
         }
     }
@@ -187,40 +198,31 @@ impl<'a, StorageT: StorageIndex> Completeness<'a, StorageT> {
         token: TIdx<StorageT>,
         pidx: PIdx<StorageT>,
         dot: usize,
-        tokens: &[TIdx<StorageT>],
     ) -> bool
         requires state { StorageT.index s.0 < states_len self.now.stable.now }
         requires token { StorageT.index token.0 < self.now.stable.now.tokens }
-        requires some { 0 < length tokens.now }
+        requires core { HasCore self.now.sgraph.now (StorageT.index s.0) (StorageT.index pidx.0) dot }
         requires prod { StorageT.index pidx.0 < prods_len self.now.grm.now }
         requires dot { dot < prod_len self.now.grm.now (StorageT.index pidx.0) }
-        ensures { IsTrue result ↔ All (StepsOn self.now.sgraph.now self.now.stable.now (StorageT.index s.0) (Terminal (StorageT.index token.0)) (StorageT.index pidx.0) dot)
-            (lookaheads_of StorageT.index tokens.now) }
+        ensures { IsTrue result ↔ EachOfCore self.now.sgraph.now (StorageT.index s.0) (StorageT.index pidx.0) dot
+            (StepsOn self.now.sgraph.now self.now.stable.now (StorageT.index s.0) (Terminal (StorageT.index token.0))) }
     {
         match self.stable.action(s, token) {
-            Action::Shift(next) => self.has_advanced(next, pidx, dot, tokens),
+            Action::Shift(next) => self.has_advanced(s, pidx, dot, next),
             _ => false,
         }
     }
 
     // C4: if a rule is after the dot, the state has a goto by it to a state with the advanced items.
-    pub(super) fn carries_core(
-        &self,
-        s: StIdx<StorageT>,
-        pidx: PIdx<StorageT>,
-        dot: usize,
-        tokens: &[TIdx<StorageT>],
-    ) -> bool
+    pub(super) fn carries_core(&self, s: StIdx<StorageT>, pidx: PIdx<StorageT>, dot: usize) -> bool
         requires known { IsKnown self.now.grm.now self.now.sgraph.now self.now.stable.now (rows_of self.now.firsts.now) }
         requires state { StorageT.index s.0 < states_len self.now.stable.now }
-        requires prod { StorageT.index pidx.0 < prods_len self.now.grm.now }
-        requires dot { dot ≤ prod_len self.now.grm.now (StorageT.index pidx.0) }
-        requires some { 0 < length tokens.now }
-        ensures { IsTrue result ↔ All (CarriesItem self.now.grm.now self.now.sgraph.now self.now.stable.now (StorageT.index s.0) (StorageT.index pidx.0) dot)
-            (lookaheads_of StorageT.index tokens.now) }
+        requires core { HasCore self.now.sgraph.now (StorageT.index s.0) (StorageT.index pidx.0) dot }
+        ensures { IsTrue result ↔ EachOfCore self.now.sgraph.now (StorageT.index s.0) (StorageT.index pidx.0) dot
+            (CarriesItem self.now.grm.now self.now.sgraph.now self.now.stable.now (StorageT.index s.0)) }
     {
         match rule_after(self.grm, pidx, dot) {
-            Some((rule, _)) => self.goes_to(s, rule, pidx, dot, tokens),
+            Some((rule, _)) => self.goes_to(s, rule, pidx, dot),
             None => true,
         }
     }
@@ -232,38 +234,38 @@ impl<'a, StorageT: StorageIndex> Completeness<'a, StorageT> {
         rule: RIdx<StorageT>,
         pidx: PIdx<StorageT>,
         dot: usize,
-        tokens: &[TIdx<StorageT>],
     ) -> bool
         requires state { StorageT.index s.0 < states_len self.now.stable.now }
         requires rule { StorageT.index rule.0 < self.now.stable.now.rules }
-        requires some { 0 < length tokens.now }
+        requires core { HasCore self.now.sgraph.now (StorageT.index s.0) (StorageT.index pidx.0) dot }
         requires prod { StorageT.index pidx.0 < prods_len self.now.grm.now }
         requires dot { dot < prod_len self.now.grm.now (StorageT.index pidx.0) }
-        ensures { IsTrue result ↔ All (StepsOn self.now.sgraph.now self.now.stable.now (StorageT.index s.0) (Nonterminal (StorageT.index rule.0)) (StorageT.index pidx.0) dot)
-            (lookaheads_of StorageT.index tokens.now) }
+        ensures { IsTrue result ↔ EachOfCore self.now.sgraph.now (StorageT.index s.0) (StorageT.index pidx.0) dot
+            (StepsOn self.now.sgraph.now self.now.stable.now (StorageT.index s.0) (Nonterminal (StorageT.index rule.0))) }
     {
         match self.stable.goto(s, rule) {
-            Some(next) => self.has_advanced(next, pidx, dot, tokens),
+            Some(next) => self.has_advanced(s, pidx, dot, next),
             None => false,
         }
     }
 
-    // Whether the state has the advanced items: with this production, the dot one further, and these lookaheads. If the state has
-    // the same lookaheads and no others, as most states of a built table do, each is at its own place there. So it is looked for
-    // at its place, and by a binary search if another one is there.
+    // Whether the state `next` has the advanced items: with this production, the dot one further, and the lookaheads that the core
+    // has in `s`. If `next` has the same lookaheads and no others, as most states of a built table do, each is at its own place there.
+    // So it is looked for at its place, and by a binary search if another one is there.
     fn has_advanced(
         &self,
-        next: StIdx<StorageT>,
+        s: StIdx<StorageT>,
         pidx: PIdx<StorageT>,
         dot: usize,
-        tokens: &[TIdx<StorageT>],
+        next: StIdx<StorageT>,
     ) -> bool
         requires prod { StorageT.index pidx.0 < prods_len self.now.grm.now }
         requires dot { dot < prod_len self.now.grm.now (StorageT.index pidx.0) }
-        ensures { IsTrue result ↔ All (HasItem self.now.sgraph.now (StorageT.index next.0) (StorageT.index pidx.0) (dot + 1))
-            (lookaheads_of StorageT.index tokens.now) }
+        ensures { IsTrue result ↔ ((t : ℕ) → HasItem self.now.sgraph.now (StorageT.index s.0) (StorageT.index pidx.0) dot t
+            → HasItem self.now.sgraph.now (StorageT.index next.0) (StorageT.index pidx.0) (dot + 1) t) }
     {
         let _symbols = self.grm.prod(pidx);
+        let tokens = self.sgraph.lookaheads(s, pidx, dot);
         let near = self.sgraph.lookaheads(next, pidx, dot + 1);
         for place in 0..tokens.len() {
             let token = tokens[place];
@@ -293,31 +295,24 @@ impl<'a, StorageT: StorageIndex> Completeness<'a, StorageT> {
     }
 
     // C5: if the items are complete, the state ends the production at their lookaheads.
-    pub(super) fn ends_core(
-        &self,
-        s: StIdx<StorageT>,
-        pidx: PIdx<StorageT>,
-        dot: usize,
-        tokens: &[TIdx<StorageT>],
-    ) -> bool
+    pub(super) fn ends_core(&self, s: StIdx<StorageT>, pidx: PIdx<StorageT>, dot: usize) -> bool
         requires known { IsKnown self.now.grm.now self.now.sgraph.now self.now.stable.now (rows_of self.now.firsts.now) }
         requires state { StorageT.index s.0 < states_len self.now.stable.now }
-        requires prod { StorageT.index pidx.0 < prods_len self.now.grm.now }
-        requires tokens { All (λ t. t < tokens_len self.now.grm.now) (lookaheads_of StorageT.index tokens.now) }
-        ensures { IsTrue result ↔ All (EndsItem self.now.grm.now self.now.stable.now (StorageT.index s.0) (StorageT.index pidx.0) dot)
-            (lookaheads_of StorageT.index tokens.now) }
+        requires core { HasCore self.now.sgraph.now (StorageT.index s.0) (StorageT.index pidx.0) dot }
+        ensures { IsTrue result ↔ EachOfCore self.now.sgraph.now (StorageT.index s.0) (StorageT.index pidx.0) dot
+            (EndsItem self.now.grm.now self.now.stable.now (StorageT.index s.0)) }
     {
-        dot != self.grm.prod(pidx).len() || self.ends_each(s, pidx, tokens)
+        dot != self.grm.prod(pidx).len() || self.ends_each(s, pidx, dot)
     }
 
-    // Whether the state ends the production at each of these items' lookaheads.
-    fn ends_each(&self, s: StIdx<StorageT>, pidx: PIdx<StorageT>, tokens: &[TIdx<StorageT>]) -> bool
+    // Whether the state ends the production at each lookahead of the items with this core.
+    fn ends_each(&self, s: StIdx<StorageT>, pidx: PIdx<StorageT>, dot: usize) -> bool
+        requires known { IsKnown self.now.grm.now self.now.sgraph.now self.now.stable.now (rows_of self.now.firsts.now) }
         requires state { StorageT.index s.0 < states_len self.now.stable.now }
-        requires tokens { All (λ t. t < self.now.stable.now.tokens) (lookaheads_of StorageT.index tokens.now) }
-        ensures { IsTrue result ↔ All (λ t. EndsBy self.now.grm.now (StorageT.index pidx.0) (action_of self.now.stable.now (StorageT.index s.0) t))
-            (lookaheads_of StorageT.index tokens.now) }
+        ensures { IsTrue result ↔ ((t : ℕ) → HasItem self.now.sgraph.now (StorageT.index s.0) (StorageT.index pidx.0) dot t
+            → EndsBy self.now.grm.now (StorageT.index pidx.0) (action_of self.now.stable.now (StorageT.index s.0) t)) }
     {
-        for token in tokens {
+        for token in self.sgraph.lookaheads(s, pidx, dot) {
             if !self.ends_at(s, pidx, *token) {
                 return false;
             }
@@ -338,25 +333,4 @@ impl<'a, StorageT: StorageIndex> Completeness<'a, StorageT> {
             Action::Shift(_) | Action::Error => false,
         }
     }
-}
-
-// Sets the set to these lookaheads.
-fn put_lookaheads<StorageT: StorageIndex>(tokens: &[TIdx<StorageT>], set: &mut TokenSet)
-    requires { All (λ t. t < length set.old.bits.items) (lookaheads_of StorageT.index tokens.now) }
-    ensures room { length set.new.bits.items ≡ length set.old.bits.items }
-    ensures tokens { (t : ℕ) → IsTrue (has set.new.bits.items t) ↔ Contains (lookaheads_of StorageT.index tokens.now) t }
-{
-    set.clear();
-    for token in tokens {
-        set.insert(usize::from(*token));
-    }
-}
-
-// Removes the token from the set.
-fn remove(set: &mut TokenSet, token: usize)
-    requires { token < length set.old.bits.items }
-    ensures room { length set.new.bits.items ≡ length set.old.bits.items }
-    ensures tokens { (t : ℕ) → has set.new.bits.items t ≡ (has set.old.bits.items t && not (t == token)) }
-{
-    set.bits[token] = false;
 }

@@ -3,7 +3,7 @@ use Rattle.lrpar_table_first.specs.FirstRows.{HoldNothing, rows_of}
 use Rattle.lrpar_grammar.specs.declared.token_set.TokenSet.{TokenSet}
 use Rattle.lrpar_table_first.proofs.GrowthLemmas.{lent_back}
 use Rattle.lrpar_table_rows.specs.Graph.{items_of}
-use Rattle.lrpar_table_conditions.specs.Complete.{ClosesItem, EachItem}
+use Rattle.lrpar_table_conditions.specs.Complete.{EachItem}
 use Rattle.lrpar_table_conditions.specs.Itemwise.{AreStartsOf, ClosesAmong, HaveStarts}
 use Rattle.lrpar_table_conditions.proofs.ItemwiseLemmas.{closes_by_starts, starts_len}
 use Rattle.lrpar_table_conditions.proofs.completeness_test.Completeness.closes_items.Goals as goal

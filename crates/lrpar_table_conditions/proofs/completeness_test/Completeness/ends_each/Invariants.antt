@@ -7,4 +7,4 @@ use Rattle.lrpar_table_conditions.proofs.completeness_test.Completeness.ends_eac
 abbrev pub invariant-loop-token : goal.invariant-loop-token
 invariant-loop-token g l =
     let index = g.StorageT.StorageIndex.index in
-    (k : ℕ) (d : _) → k < l.token-index → EndsBy l.self.grm.now (index l.pidx.0) (action_of l.self.stable.now (index l.s.0) (index (get_or l.tokens k d).0))
+    (k : ℕ) (d : _) → k < l.token-index → EndsBy l.self.grm.now (index l.pidx.0) (action_of l.self.stable.now (index l.s.0) (index (get_or l.token-items k d).0))
