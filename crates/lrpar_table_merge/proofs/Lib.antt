@@ -4,3 +4,4 @@ pub mod UniteLemmas
 pub mod KernelLemmas
 pub mod AmongLemmas
 pub mod PassLemmas
+pub mod HeldLemmas
