@@ -12,3 +12,4 @@ pub mod WithinLemmas
 pub mod CanonicalLemmas
 pub mod AmongLemmas
 pub mod PassLemmas
+pub mod PassedHeldLemmas

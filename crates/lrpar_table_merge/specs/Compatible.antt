@@ -1,5 +1,5 @@
--- Kernels with the same LR(0) cores, and whether they are weakly compatible. States with weakly compatible kernels can be merged without a
--- new reduce/reduce conflict.
+-- Kernels with the same LR(0) cores, and whether they are weakly compatible: the test by which states are merged. That merging such states
+-- makes no new reduce/reduce conflict is not proved here.
 use Rattle.std.specs.Prelude.{◌≡◌, ◌≢◌, ◌<◌, ◌⊎◌, ℕ, Bool, IsTrue, List, [], length, map, slice_index_or}
 use Rattle.lrpar_grammar.specs.Tokens.{has}
 use Rattle.lrpar_table_items.specs.Cores.{CoreSet}
@@ -24,8 +24,8 @@ lookaheads_at cores i = slice_index_or (lookahead_rows cores) i []
 abbrev pub HaveCommon : List Bool → List Bool → Type 0
 HaveCommon tokens others = (t : ℕ) × IsTrue (has tokens t) × IsTrue (has others t)
 
--- two cores of two kernels don't get a common lookahead by the merging: l and m are the lookaheads of the one core in the two
--- kernels, l' and m' those of the other core. Neither l and m' nor m and l' have a common token; or l and l' have one, or m and m'
+-- two cores are compatible in two kernels: l and m are the lookaheads of the one core in the two kernels, l' and m' those of the other core.
+-- Either neither l and m' nor m and l' have a common token, or l and l' have one, or m and m'
 abbrev pub IsPairCompatible : List Bool → List Bool → List Bool → List Bool → Type 0
 IsPairCompatible l m l' m' = ((¬ (HaveCommon l m')) × (¬ (HaveCommon m l'))) ⊎ (HaveCommon l l' ⊎ HaveCommon m m')
 

@@ -7,8 +7,8 @@ use lrpar_grammar::span::StorageIndex;
 use lrpar_grammar::token_set::TokenSet;
 use lrpar_table_items::cores::CoreItems;
 
-/// Whether the kernels are weakly compatible. Two states with such kernels can be merged: that makes no new reduce/reduce conflict.
-/// Each pair of cores is tested, by up to four passes over the tokens.
+/// Whether the kernels are weakly compatible: they have the same LR(0) cores, and each pair of cores is compatible. Each pair is tested, by
+/// up to four passes over the tokens.
 pub fn are_weakly_compatible<StorageT: StorageIndex>(
     kernel: &[CoreItems<StorageT>],
     other: &[CoreItems<StorageT>],
