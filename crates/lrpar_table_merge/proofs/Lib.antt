@@ -2,7 +2,7 @@ pub mod SameCoreLemmas
 pub mod PairLemmas
 pub mod UniteLemmas
 pub mod KernelLemmas
-pub mod HeldLemmas
+pub mod MergedHeldLemmas
 pub mod MergedSafeLemmas
 pub mod MergedViableLemmas
 pub mod MergedConflictLemmas
