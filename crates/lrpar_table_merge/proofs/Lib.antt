@@ -10,3 +10,4 @@ pub mod MergedCompleteLemmas
 pub mod ListLemmas
 pub mod WithinLemmas
 pub mod CanonicalLemmas
+pub mod BuiltMergedLemmas
