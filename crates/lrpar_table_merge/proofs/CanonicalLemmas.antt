@@ -11,7 +11,7 @@ use Rattle.lrpar_table_build.proofs.SetLemmas.{next_more, same_back, same_on}
 use Rattle.lrpar_table_merge.specs.Held.{Closes, IsHeld, Starts, Steps}
 use Rattle.lrpar_table_merge.specs.Merged.{AreMerged, CanonicalGoes}
 use Rattle.lrpar_table_merge.specs.MergedLaws.{CanonicalSetsAreMerged}
-use Rattle.lrpar_table_merge.proofs.HeldLemmas.{added_to}
+use Rattle.lrpar_table_merge.proofs.MergedHeldLemmas.{added_to}
 use Rattle.lrpar_table_merge.proofs.WithinLemmas.{closure_held, closure_root}
 
 module _ (g : Grammar) (len : ℕ) (sets : ℕ → ItemOf → Type 0) (well : IsWellFormed g) (canonical : AreCanonical g len sets) where

@@ -1,65 +1,43 @@
--- What the items that states hold have in common. Each of them is in a set that gotos reach, so what holds of the items of all such sets
--- holds of it.
-use Rattle.std.proofs.Common.{◌≡◌, ◌≢◌, ◌<◌, ◌+◌, refl, sym, ap, subst, arith, ℕ, List, [], ◌∷◌, Some, slice_get}
-use Rattle.lrpar_grammar.specs.Grammar.{Grammar, GrammarSymbol, IsWellFormed, Nonterminal, end_token, rule_of, start_prod, symbols_of}
+-- The items that states hold, from sets of items that are propagated step by step.
+use Rattle.std.proofs.Common.{◌+◌, refl, sym, subst, inl, inr, ℕ, List}
+use Rattle.lrpar_grammar.specs.Grammar.{Grammar, GrammarSymbol}
 use Rattle.lrpar_table_rows.specs.Graph.{ItemOf, item_at}
-use Rattle.lrpar_table_rows.specs.Safe.{IsItem}
-use Rattle.lrpar_table_items.specs.Canonical.{HasAfterDot}
-use Rattle.lrpar_table_items.specs.ItemSets.{Added, Adds, IsReachedBy, Own}
-use Rattle.lrpar_table_build.proofs.ReachedLemmas.{added_is_listed, head_after, reached_at_end, reached_items}
-use Rattle.lrpar_table_merge.specs.Held.{Closes, IsHeld, Starts, Steps}
-use Rattle.lrpar_table_merge.specs.Merged.{AreMerged}
-
--- the item set that a path leads to has what its items add
-pub added_to : (g : Grammar) (path : List GrammarSymbol) (x y : ItemOf) → IsReachedBy g path x → Adds g x y → IsReachedBy g path y
-added_to g [] x y has adds = Added x y has adds
-added_to g (s ∷ path) x y has adds = Added x y has adds
+use Rattle.lrpar_table_items.specs.Cores.{CoreSet, IsAmong}
+use Rattle.lrpar_table_items.specs.ItemSets.{IsAdvanced, IsInClosure, Own, Added, IsStartItem}
+use Rattle.lrpar_table_items.specs.Next.{kernel_at}
+use Rattle.lrpar_table_merge.specs.Held.{IsHeld, Starts, Closes, Steps}
+use Rattle.lrpar_table_merge.specs.PassedOn.{IsPassedTo}
 
 module _ (g : Grammar) (goes : ℕ → GrammarSymbol → ℕ → Type 0) where
-  -- an item that a state holds is in a set that gotos reach
-  pub held_reached : (s : ℕ) (x : ItemOf) → IsHeld g goes s x → (path : List GrammarSymbol) × IsReachedBy g path x
-  held_reached s x (Starts y is) = ([], Own y is)
-  held_reached s x (Closes r y z h adds) = let from = held_reached r y h in (from.0, added_to g from.0 y z from.1 adds)
-  held_reached s x (Steps r n X y go h at) =
-      let from = held_reached r y h in
-      let z = item_at y.prod (y.dot + 1) y.token in (X ∷ from.0, Own z (y, from.1, at, refl))
+  -- the sets have only items that the states hold
+  abbrev pub AreHeld : (ℕ → ItemOf → Type 0) → Type 0
+  AreHeld sets = (s : ℕ) (x : ItemOf) → sets s x → IsHeld g goes s x
 
-  module _ (well : IsWellFormed g) where
-    -- so it is one of the grammar
-    pub held_items : (s : ℕ) (x : ItemOf) → IsHeld g goes s x → IsItem g x.prod x.dot x.token
-    held_items s x h = let from = held_reached s x h in reached_items g well from.0 x from.1
+  -- then so do their closures
+  pub closure_held : (sets : ℕ → ItemOf → Type 0) → AreHeld sets → (s : ℕ) (x : ItemOf) → IsInClosure g (sets s) x → IsHeld g goes s x
+  closure_held sets held s x (Own y h) = held s y h
+  closure_held sets held s x (Added y z h adds) = Closes s y z (closure_held sets held s y h) adds
 
-    -- the start production's items have the end token
-    pub held_at_end : (s : ℕ) (x : ItemOf) → IsHeld g goes s x → x.prod ≡ start_prod g → x.token ≡ end_token g
-    held_at_end s x h = let from = held_reached s x h in reached_at_end g well from.0 x from.1
+  -- and what a transition leads to
+  pub advanced_held : (sets : ℕ → ItemOf → Type 0) → AreHeld sets → (s n : ℕ) (symbol : GrammarSymbol) (x : ItemOf) → goes s symbol n
+      → IsAdvanced g (IsInClosure g (sets s)) symbol x → IsHeld g goes n x
+  advanced_held sets held s n symbol x to h =
+      subst (IsHeld g goes n) (sym h.3) (Steps s n symbol h.0 to (closure_held sets held s h.0 h.1) h.2)
 
-    -- only state 0 has the start item
-    pub held_start_item : (s : ℕ) (x : ItemOf) → IsHeld g goes s x → x.prod ≡ start_prod g → x.dot ≡ 0 → s ≡ 0
-    held_start_item s x (Starts y is) last fresh = refl
-    held_start_item s x (Closes r y z h adds) last fresh = absurd (added_is_listed g well y z adds last)
-    held_start_item s x (Steps r n X y go h at) last fresh = absurd (omega (arith, fresh))
+  -- if the sets have the start item and what transitions lead to, their closures have all items that the states hold
+  pub all_held : (sets : ℕ → ItemOf → Type 0) → ((x : ItemOf) → IsStartItem g x → sets 0 x)
+      → ((s n : ℕ) (symbol : GrammarSymbol) (x : ItemOf) → goes s symbol n → IsAdvanced g (IsInClosure g (sets s)) symbol x → sets n x)
+      → (s : ℕ) (x : ItemOf) → IsHeld g goes s x → IsInClosure g (sets s) x
+  all_held sets start steps s x (Starts y h) = Own y (start y h)
+  all_held sets start steps s x (Closes s' y z h adds) = Added y z (all_held sets start steps s' y h) adds
+  all_held sets start steps s x (Steps s' n symbol y to h after) =
+      let z = item_at y.prod (y.dot + 1) y.token in Own z (steps s' n symbol z to (y, all_held sets start steps s' y h, after, refl))
 
-  -- for an item with its dot at the start, other than the start item, an item of its state has its rule after the dot
-  pub held_with_rule : (s : ℕ) (y : ItemOf) → IsHeld g goes s y → y.dot ≡ 0 → y.prod ≢ start_prod g
-      → HasAfterDot g (IsHeld g goes) s (Nonterminal (rule_of g y.prod))
-  held_with_rule s y (Starts z is) fresh listed = absurd (listed (ap (λ (x : ItemOf). x.prod) is))
-  held_with_rule s y (Closes r x z h adds) fresh listed = (
-    x,
-    h,
-    subst (λ (q : ℕ). slice_get (symbols_of g x.prod) x.dot ≡ Some (Nonterminal q)) (sym adds.of_rule)
-        (head_after (symbols_of g x.prod) x.dot (Nonterminal adds.rule) adds.rest adds.before),
-  )
-  held_with_rule s y (Steps r n X x go h at) fresh listed = absurd (omega (arith, fresh))
-
-  module _ (len : ℕ) (sets : ℕ → ItemOf → Type 0) (merged : AreMerged g len sets goes) where
-    -- only the len states hold items
-    pub held_within : (s : ℕ) (x : ItemOf) → IsHeld g goes s x → s < len
-    held_within s x (Starts y is) = merged.start
-    held_within s x (Closes r y z h adds) = held_within r y h
-    held_within s x (Steps r n X y go h at) = (merged.step r X n (held_within r y h) go).within
-
-    -- in state 0, all dots are at the start
-    pub held_fresh : (s : ℕ) (x : ItemOf) → IsHeld g goes s x → s ≡ 0 → x.dot ≡ 0
-    held_fresh s x (Starts y is) first = ap (λ (z : ItemOf). z.dot) is
-    held_fresh s x (Closes r y z h adds) first = adds.fresh
-    held_fresh s x (Steps r n X y go h at) first = absurd ((merged.step r X n (held_within r y h) go).never_back first)
+  -- the kernels have only held items after one more kernel of such items was passed on
+  pub passed_held : (before after : List (List CoreSet)) (state : ℕ) (next : List CoreSet) → IsPassedTo before state next after
+      → AreHeld (λ s. IsAmong (kernel_at before s)) → ((x : ItemOf) → IsAmong next x → IsHeld g goes state x) → AreHeld (λ s. IsAmong (kernel_at after s))
+  passed_held before after state next passed held comes s x h =
+      elim ((passed.items s x).0 h) [
+        | inl own ↦ held s x own
+        | inr came ↦ subst (λ n. IsHeld g goes n x) (sym came.0) (comes x came.1)
+      ]

@@ -2,7 +2,10 @@ pub mod SameCoreLemmas
 pub mod PairLemmas
 pub mod UniteLemmas
 pub mod KernelLemmas
+pub mod AmongLemmas
+pub mod PassLemmas
 pub mod HeldLemmas
+pub mod MergedHeldLemmas
 pub mod MergedSafeLemmas
 pub mod MergedViableLemmas
 pub mod MergedConflictLemmas
@@ -10,6 +13,4 @@ pub mod MergedCompleteLemmas
 pub mod ListLemmas
 pub mod WithinLemmas
 pub mod CanonicalLemmas
-pub mod AmongLemmas
-pub mod PassLemmas
-pub mod PassedHeldLemmas
+pub mod BuiltMergedLemmas

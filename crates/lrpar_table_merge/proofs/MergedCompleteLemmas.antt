@@ -16,7 +16,7 @@ use Rattle.lrpar_table_conditions.specs.declared.completeness.CompletenessCondit
 use Rattle.lrpar_table_merge.specs.Held.{Closes, Starts, Steps}
 use Rattle.lrpar_table_merge.specs.Merged.{Along, AreMerged, IsMergedTable}
 use Rattle.lrpar_table_merge.specs.MergedLaws.{MergedTablesAreCompleteWithoutConflicts}
-use Rattle.lrpar_table_merge.proofs.HeldLemmas.{held_within}
+use Rattle.lrpar_table_merge.proofs.MergedHeldLemmas.{held_within}
 use Rattle.lrpar_table_merge.proofs.ListLemmas.{empty_list}
 use Rattle.lrpar_table_merge.proofs.MergedConflictLemmas.{item_known, no_reduction_at_end, no_shift_conflict, no_shift_of_end, only_reduction}
 

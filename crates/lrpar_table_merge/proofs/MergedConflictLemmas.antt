@@ -12,7 +12,7 @@ use Rattle.lrpar_table_build.specs.BuilderLaws.{AcceptAlone, AreConflictsOf, lis
 use Rattle.lrpar_table_build.proofs.DecidedLemmas.{first_reduction}
 use Rattle.lrpar_table_build.proofs.ReachedLemmas.{no_end_token}
 use Rattle.lrpar_table_merge.specs.Merged.{AreMerged}
-use Rattle.lrpar_table_merge.proofs.HeldLemmas.{held_at_end, held_items}
+use Rattle.lrpar_table_merge.proofs.MergedHeldLemmas.{held_at_end, held_items}
 
 module _ (g : Grammar) (graph : Graph) (goes : ℕ → GrammarSymbol → ℕ → Type 0) (well : IsWellFormed g)
     (merged : AreMerged g (graph_len graph) (sets_of graph) goes) where

@@ -16,7 +16,7 @@ use Rattle.lrpar_table_build.proofs.ReachedLemmas.{no_end_token}
 use Rattle.lrpar_table_merge.specs.Held.{IsHeld}
 use Rattle.lrpar_table_merge.specs.Merged.{ActsAsMerged, Along, AreMerged, IsMergedTable}
 use Rattle.lrpar_table_merge.specs.MergedLaws.{MergedTablesAreSafe}
-use Rattle.lrpar_table_merge.proofs.HeldLemmas.{held_at_end, held_fresh, held_items, held_start_item, held_with_rule}
+use Rattle.lrpar_table_merge.proofs.MergedHeldLemmas.{held_at_end, held_fresh, held_items, held_start_item, held_with_rule}
 
 module _ (g : Grammar) (graph : Graph) (table : Table) (goes : ℕ → GrammarSymbol → ℕ → Type 0) where
   -- the action of the state at token t, and the items that call for it

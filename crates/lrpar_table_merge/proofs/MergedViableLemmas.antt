@@ -9,7 +9,7 @@ use Rattle.lrpar_table_viable.specs.Viable.{AddsCore, IsJustified, IsViable}
 use Rattle.lrpar_table_merge.specs.Held.{Closes, IsHeld, Starts, Steps}
 use Rattle.lrpar_table_merge.specs.Merged.{Along, AreMerged}
 use Rattle.lrpar_table_merge.specs.MergedLaws.{MergedTablesAreViable}
-use Rattle.lrpar_table_merge.proofs.HeldLemmas.{held_within}
+use Rattle.lrpar_table_merge.proofs.MergedHeldLemmas.{held_within}
 
 module _ (g : Grammar) (graph : Graph) (table : Table) (goes : ℕ → GrammarSymbol → ℕ → Type 0)
     (merged : AreMerged g (graph_len graph) (sets_of graph) goes) (start : table.start ≡ 0) where

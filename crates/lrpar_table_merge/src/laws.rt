@@ -1,9 +1,14 @@
 //! Laws about merged tables. Each function has such a law as its contract, and does nothing.
-ghost use Rattle.lrpar_table_merge.specs.MergedLaws.{CanonicalSetsAreMerged, CanonicalSetsAreWithinMerged, MergedTablesAreCompleteWithoutConflicts, MergedTablesAreSafe, MergedTablesAreViable, NoMergedConflictsAreNoCanonical};
+ghost use Rattle.lrpar_table_merge.specs.MergedLaws.{BuiltTablesAreMerged, CanonicalSetsAreMerged, CanonicalSetsAreWithinMerged, MergedTablesAreCompleteWithoutConflicts, MergedTablesAreSafe, MergedTablesAreViable, NoMergedConflictsAreNoCanonical};
 
 /// The canonical collection of a grammar is one of merged item sets, in which nothing is merged.
 pub fn canonical_sets_are_merged()
     ensures { CanonicalSetsAreMerged }
+{}
+
+/// So the table that `from_yacc` builds of a grammar is a merged one.
+pub fn built_tables_are_merged()
+    ensures { BuiltTablesAreMerged }
 {}
 
 /// If a graph has merged item sets, and the table has in each state the actions after conflict resolution, the table is safe. So it
