@@ -61,7 +61,9 @@ pub mod laws {
         sequences_that_work_are_replayed, spans_are_worked_out, sum_run_is_worked_out,
         tests_of_sequences_are_bounded, values_fold_without_errors,
     };
-    pub use lrpar_parse_completion::laws::completions_always_repair;
+    pub use lrpar_parse_completion::laws::{
+        completions_always_repair, completions_always_repair_over_viable_tables,
+    };
     pub use lrpar_parse_cpctplus::laws::{
         cheapest_repairs_are_chains, cheapest_repairs_have_one_answer,
         last_steps_give_the_least_cost, no_sequence_is_cheaper_than_repairs,

@@ -3,7 +3,6 @@
 use Rattle.std.proofs.Common.{◌≡◌, refl, sym, subst, arith, ℕ, List, [], ◌∷◌, length, All, Option}
 use Rattle.std.specs.List.{Contains}
 use Rattle.std.proofs.lemmas.List.Elements.{All-cons, All-head, All-nil}
-use Rattle.lrpar_table_build.specs.Built.{IsBuilt}
 use Rattle.lrpar_table_check.specs.Checked.{Checked}
 use Rattle.lrpar_table_sentences.specs.Choices.{ChoiceOf}
 use Rattle.lrpar_table_stacks.specs.Stack.{IsStack}

@@ -1,24 +1,22 @@
 -- Tokens that are fed in turn. They lead to one stack; and a run over them that accepts feeds them all and then accepts. So a completion
 -- is a repair: all its tokens are inserted, and all lexemes that are left are deleted.
-use Rattle.std.proofs.Common.{◌≡◌, ◌<◌, ◌≤◌, ◌+◌, ◌-◌, ◌∙◌, inl, inr, refl, sym, ap, subst, arith, ℕ, zero, suc, Bool, true, false, List, [], ◌∷◌, ◌++◌, length, drop, take, get_or, slice_get, Option, Some, None, Vec, All}
+use Rattle.std.proofs.Common.{◌≡◌, ◌<◌, ◌≤◌, ◌+◌, ◌-◌, ◌∙◌, inr, refl, sym, ap, subst, arith, ℕ, zero, suc, Bool, true, false, List, [], ◌∷◌, ◌++◌, length, drop, take, get_or, slice_get, Option, Some, Vec, All}
 use Rattle.std.specs.Prelude.{map, replicate}
 use Rattle.std.specs.Option.{option_map, option_map_or}
-use Rattle.std.proofs.lemmas.Bool.{cases_lt}
 use Rattle.std.proofs.lemmas.List.Elements.{All-get_or}
 use Rattle.std.proofs.lemmas.List.{drop_more, drop_all, map-append, take_all}
 use Rattle.std.proofs.lemmas.Option.{get_or_from_slice_get, slice_get-get_or, slice_get-map, slice_get_within}
 use Rattle.lrpar_grammar_places.specs.declared.span.StIdx.{StIdx}
 use Rattle.lrpar_grammar_places.specs.declared.span.TIdx.{TIdx}
-use Rattle.lrpar_grammar.specs.Grammar.{Grammar, end_token, tokens_len}
-use Rattle.lrpar_table_rows.specs.Table.{Table, ShiftTo, Fails, action_of}
+use Rattle.lrpar_grammar.specs.Grammar.{Grammar, end_token}
+use Rattle.lrpar_table_rows.specs.Table.{Table, ShiftTo}
 use Rattle.lrpar_table_stacks.specs.Expected.{AcceptsAtEnd, tokens_of}
-use Rattle.lrpar_table_stacks.specs.Path.{NeverSticks}
 use Rattle.lrpar_table_stacks.specs.Reduction.{Feeds, top_action}
 use Rattle.lrpar_table_stacks.specs.Run.{Accepted, Far, FarEnd, Stopped, accepts, goes_on, stops, token_at}
 use Rattle.lrpar_table_stacks.specs.Settled.{IsFedBy}
-use Rattle.lrpar_table_stacks.specs.Stack.{states_of, top_of}
+use Rattle.lrpar_table_stacks.specs.Stack.{states_of}
 use Rattle.lrpar_table_stacks.proofs.Reductions.{settles_one_way}
-use Rattle.lrpar_table_stacks.proofs.RunLemmas.{HasPath, feeds_one_way, feeds_path, settles_path}
+use Rattle.lrpar_table_stacks.proofs.RunLemmas.{feeds_one_way}
 use Rattle.lrpar_parse_repair.specs.Asked.{Asked}
 use Rattle.lrpar_parse_repair.specs.Sequences.{PlainStep, PlainInsert, PlainDelete, CanGoOn, Works}
 use Rattle.lrpar_parse_completion.specs.Completing.{Completes}

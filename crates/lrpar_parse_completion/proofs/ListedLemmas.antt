@@ -1,6 +1,6 @@
 -- The tokens of a completion are those of the grammar other than the end token: they are leaves of trees, and no production of the
 -- grammar has the end token.
-use Rattle.std.proofs.Common.{◌≡◌, ◌<◌, sym, subst, ℕ, List, [], ◌∷◌, All, drop, get_or}
+use Rattle.std.proofs.Common.{◌<◌, sym, subst, ℕ, List, [], ◌∷◌, All, drop, get_or}
 use Rattle.std.proofs.lemmas.List.Elements.{All-append, All-cons, All-drop, All-from_get_or, All-head, All-nil, All-tail}
 use Rattle.std.proofs.lemmas.Option.{slice_get-get_or}
 use Rattle.lrpar_grammar.specs.Grammar.{Grammar, GrammarSymbol, IsListedSymbol, IsWellFormed, Nonterminal, Terminal, end_token, rule_of, rules_len, symbols_of}

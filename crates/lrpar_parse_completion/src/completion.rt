@@ -22,7 +22,8 @@ use std::marker::Model;
 /// How many tokens of a completion are tried at each place, if nothing else is set.
 const MOST: usize = 8;
 
-/// A recoverer that always repairs, over a table that is built and complete, of a grammar whose reachable rules are productive.
+/// A recoverer that always repairs, over a table that is complete and viable, as each built table without conflicts is, of a grammar
+/// whose reachable rules are productive.
 ///
 /// At an error point it makes a completion of the stack: tokens that, fed from there, lead to a stack that accepts. From the lexeme that
 /// has no action on, it looks for the first place at which the parse can go on after the lexemes before it are deleted and some first
