@@ -14,3 +14,4 @@ pub mod ListLemmas
 pub mod WithinLemmas
 pub mod CanonicalLemmas
 pub mod BuiltMergedLemmas
+pub mod MergedFitLemmas

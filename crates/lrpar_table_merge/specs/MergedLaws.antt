@@ -1,12 +1,14 @@
 -- What follows for a table of merged item sets.
 use Rattle.std.specs.Prelude.{◌≡◌, ◌↔◌, ℕ, List, Option, None}
 use Rattle.lrpar_grammar.specs.Grammar.{Grammar, GrammarSymbol, IsWellFormed}
+use Rattle.lrpar_table_rows.specs.ConflictsFit.{ConflictsFit}
 use Rattle.lrpar_table_rows.specs.Graph.{Graph, ItemOf, graph_len}
 use Rattle.lrpar_table_rows.specs.Safe.{IsSafe}
 use Rattle.lrpar_table_rows.specs.Table.{Table}
 use Rattle.lrpar_table_items.specs.Canonical.{IsCanonical, sets_of}
 use Rattle.lrpar_table_items.specs.ItemSets.{IsReachedBy}
 use Rattle.lrpar_table_build.specs.Built.{IsBuilt}
+use Rattle.lrpar_table_build.specs.BuilderLaws.{lists_in}
 use Rattle.lrpar_table_conditions.specs.Complete.{IsComplete}
 use Rattle.lrpar_table_viable.specs.Viable.{IsViable}
 use Rattle.lrpar_table_merge.specs.Merged.{Along, AreMerged, CanonicalGoes, IsMerged, IsMergedTable, IsWithin}
@@ -37,6 +39,11 @@ MergedTablesAreViable =
 abbrev pub MergedTablesAreCompleteWithoutConflicts : Type 0
 MergedTablesAreCompleteWithoutConflicts =
     (g : Grammar) (graph : Graph) (table : Table) → IsWellFormed g → IsMerged g graph table → IsComplete g graph table ↔ (table.conflicts ≡ None)
+
+-- its conflicts fit the grammar
+abbrev pub MergedConflictsFit : Type 0
+MergedConflictsFit =
+    (g : Grammar) (graph : Graph) (table : Table) → IsWellFormed g → IsMerged g graph table → ConflictsFit g (lists_in table.conflicts)
 
 -- each canonical item set is within a merged one: if gotos reach an item by a path, the path leads to a state with all items that they
 -- reach by it

@@ -1,5 +1,5 @@
 //! Laws about merged tables. Each function has such a law as its contract, and does nothing.
-ghost use Rattle.lrpar_table_merge.specs.MergedLaws.{BuiltTablesAreMerged, CanonicalSetsAreMerged, CanonicalSetsAreWithinMerged, MergedTablesAreCompleteWithoutConflicts, MergedTablesAreSafe, MergedTablesAreViable, NoMergedConflictsAreNoCanonical};
+ghost use Rattle.lrpar_table_merge.specs.MergedLaws.{BuiltTablesAreMerged, CanonicalSetsAreMerged, CanonicalSetsAreWithinMerged, MergedConflictsFit, MergedTablesAreCompleteWithoutConflicts, MergedTablesAreSafe, MergedTablesAreViable, NoMergedConflictsAreNoCanonical};
 
 /// The canonical collection of a grammar is one of merged item sets, in which nothing is merged.
 pub fn canonical_sets_are_merged()
@@ -26,6 +26,11 @@ pub fn merged_tables_are_viable()
 /// A table of merged item sets with their conflicts is complete if and only if it has no conflicts: no test of C1 to C5 is needed.
 pub fn merged_tables_are_complete_without_conflicts()
     ensures { MergedTablesAreCompleteWithoutConflicts }
+{}
+
+/// The conflicts of merged item sets fit the grammar.
+pub fn merged_conflicts_fit()
+    ensures { MergedConflictsFit }
 {}
 
 /// Each canonical item set is within a merged one. If gotos reach some items by a path of symbols, the transitions lead along the path
