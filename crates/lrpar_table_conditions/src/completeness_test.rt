@@ -1,6 +1,6 @@
 //! Whether a table is complete: the conditions, each tested at one state.
-ghost use Rattle.std.specs.Prelude.{◌≡◌, ◌<◌, ◌≤◌, ◌+◌, ◌↔◌, ℕ, IfErr, IsTrue, MatchOption, OnOk, All, length};
-ghost use Rattle.lrpar_grammar.specs.Grammar.{IsWellFormed, prod_len, prods_len, tokens_len};
+ghost use Rattle.std.specs.Prelude.{◌≡◌, ◌<◌, ◌↔◌, ℕ, IfErr, IsTrue, MatchOption, OnOk};
+ghost use Rattle.lrpar_grammar.specs.Grammar.{IsWellFormed};
 ghost use Rattle.lrpar_table_first.specs.FirstRows.{rows_of};
 ghost use Rattle.lrpar_table_rows.specs.Graph.{HasCore};
 ghost use Rattle.lrpar_table_rows.specs.Safe.{HasShape};
@@ -15,7 +15,7 @@ mod sets;
 use crate::completeness::CompletenessCondition;
 use crate::completeness_fault::CompleteFault;
 use lrpar_grammar::grammar::YaccGrammar;
-use lrpar_grammar::span::{PIdx, StIdx, StorageIndex, TIdx};
+use lrpar_grammar::span::{PIdx, StIdx, StorageIndex};
 use lrpar_grammar::token_set::TokenSet;
 use lrpar_table_first::first::first_sets;
 use lrpar_table_rows::table::{StateGraph, StateTable};
