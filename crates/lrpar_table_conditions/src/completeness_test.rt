@@ -145,7 +145,7 @@ impl<'a, StorageT: StorageIndex> Completeness<'a, StorageT> {
     }
 
     // C2, closure: for each item of the state. The sets of items with dot 0 are empty before and after, so a state costs time for its
-    // own items alone.
+    // own cores alone.
     fn closes_items(&self, s: StIdx<StorageT>, sets: &mut WorkSets) -> bool
         requires known { IsKnown self.now.grm.now self.now.sgraph.now self.now.stable.now (rows_of self.now.firsts.now) }
         requires state { StorageT.index s.0 < states_len self.now.stable.now }
