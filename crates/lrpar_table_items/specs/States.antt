@@ -1,9 +1,9 @@
 -- The states that are built: each with its cores, and its transitions by the symbols after the dots of its items.
-use Rattle.std.specs.Prelude.{◌≡◌, ◌<◌, ℕ, List, [], All, length, map, nat_eq, slice_index_or}
+use Rattle.std.specs.Prelude.{◌≡◌, ◌<◌, ℕ, List, [], All, Some, length, map, nat_eq, slice_index_or}
 use Rattle.std.specs.Map.{keys_of, lookup}
 use Rattle.std.specs.declared.vec.Vec.{Vec}
 use Rattle.lrpar_grammar_places.specs.declared.span.StIdx.{StIdx}
-use Rattle.lrpar_grammar.specs.Grammar.{Grammar, GrammarSymbol, Nonterminal, Terminal}
+use Rattle.lrpar_grammar.specs.Grammar.{Grammar, GrammarSymbol, Nonterminal, Terminal, rules_len, tokens_len}
 use Rattle.lrpar_table_rows.specs.Graph.{ItemOf}
 use Rattle.lrpar_table_rows.specs.PlainRows.{goto_entry}
 use Rattle.lrpar_table_items.specs.Canonical.{AreCanonical, AreSame, IsTransition}
@@ -39,6 +39,18 @@ state_at states s = slice_index_or states s (record { cores = []; gotos = []; sh
 -- the items of each state
 abbrev pub sets_at : List StateOf → ℕ → ItemOf → Type 0
 sets_at states s = IsAmong (state_at states s).cores
+
+-- each state has cores of the grammar, each once, and transitions by symbols of the grammar to some of the states, symbols ascending:
+-- what the rows of a table need, whatever the item sets are
+pub record AreStateRows (g : Grammar) (states : List StateOf) : Type 0 where
+  pub cores : (s : ℕ) → s < length states → All (IsCoreOf g) (state_at states s).cores
+  pub once : (s : ℕ) → s < length states → AreOnce (state_at states s).cores
+  pub gotos_ascend : (s : ℕ) → s < length states → AscendFrom 0 (keys_of (state_at states s).gotos)
+  pub shifts_ascend : (s : ℕ) → s < length states → AscendFrom 0 (keys_of (state_at states s).shifts)
+  pub gotos_fit : (s r next : ℕ) → s < length states → lookup (nat_eq r) (state_at states s).gotos ≡ Some next
+      → (r < rules_len g) × (next < length states)
+  pub shifts_fit : (s t next : ℕ) → s < length states → lookup (nat_eq t) (state_at states s).shifts ≡ Some next
+      → (t < tokens_len g) × (next < length states)
 
 -- the states' item sets are the canonical collection; each state has each core once, and its transitions in ascending order
 pub record AreStates (g : Grammar) (states : List StateOf) : Type 0 where

@@ -89,8 +89,8 @@ fn start_kernels<StorageT: StorageIndex>(
     Ok(kernels)
 }
 
-// The kernel of the start item `^: . S {end}`.
-fn start_kernel<StorageT: StorageIndex>(
+/// The kernel of the start item `^: . S {end}`.
+pub fn start_kernel<StorageT: StorageIndex>(
     alloc: Global,
     grm: &YaccGrammar<StorageT>,
 ) -> Result<Vec<CoreItems<StorageT>>, AllocError>

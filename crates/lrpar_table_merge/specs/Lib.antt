@@ -4,3 +4,4 @@ pub mod Held
 pub mod Merged
 pub mod MergedLaws
 pub mod PassedOn
+pub mod MergedStates

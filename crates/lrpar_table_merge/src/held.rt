@@ -9,12 +9,13 @@ ghost use Rattle.lrpar_table_items.specs.Next.{kernel_rows};
 ghost use Rattle.lrpar_table_merge.specs.Compatible.{HaveSameCores, lookahead_rows};
 ghost use Rattle.lrpar_table_merge.specs.PassedOn.{AreBeginnings, IsMisfit, IsPassedTo, all_missing};
 ghost use Rattle.lrpar_table_merge.specs.United.{AreUnited, rooms_of};
-ghost use Rattle.lrpar_table_merge.specs.declared.held.HeldFault.TheVariants.{Misfit};
+ghost use Rattle.lrpar_table_merge.specs.declared.held.HeldFault.TheVariants.{Memory, Misfit};
 
 use crate::compatible::have_same_cores;
 use crate::unite::unite;
 use lrpar_grammar::span::StorageIndex;
 use lrpar_table_items::cores::CoreItems;
+use std::alloc::{AllocError, AllocFailed};
 
 /// Why items aren't propagated.
 #[derive(Clone, Copy, Debug, PartialEq, Eq)]
@@ -23,6 +24,29 @@ pub enum HeldFault {
     Misfit,
     /// An allocation failed.
     Memory,
+}
+
+impl From<AllocError> for HeldFault {
+    ghost from_gives = { λ _ fault. fault ≡ Memory };
+
+    fn from(_: AllocError) -> HeldFault {
+        HeldFault::Memory
+    }
+}
+
+impl<T: Drop> From<AllocFailed<T>> for HeldFault {
+    ghost from_gives = { λ _ fault. fault ≡ Memory };
+
+    fn from(_: AllocFailed<T>) -> HeldFault {
+        HeldFault::Memory
+    }
+}
+
+/// The transitions of a state: the next state by each rule and by each token, if there is one.
+#[derive(Drop)]
+pub struct Transitions {
+    pub rules: Vec<Option<usize>>,
+    pub tokens: Vec<Option<usize>>,
 }
 
 /// Adds the lookaheads of a kernel to those of the kernel of this state. Returns whether any of them was new. If there is no such state, or
