@@ -5,3 +5,4 @@ pub mod Merged
 pub mod MergedLaws
 pub mod PassedOn
 pub mod MergedStates
+pub mod MergedBy
