@@ -1,2 +1,3 @@
 pub mod ParserData
 pub mod TableLaws
+pub mod MergedParserData

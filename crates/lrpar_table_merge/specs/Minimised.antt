@@ -1,0 +1,31 @@
+-- The result of the table builder with a choice: canonical item sets, or merged ones.
+use Rattle.std.specs.Prelude.{◌<◌, ℕ}
+use Rattle.lrpar_grammar.specs.Grammar.{Grammar}
+use Rattle.lrpar_table_precedence.specs.Precedence.{PrecedenceLists}
+use Rattle.lrpar_table_rows.specs.Graph.{Graph, graph_len}
+use Rattle.lrpar_table_rows.specs.Table.{Table}
+use Rattle.lrpar_table_items.specs.Canonical.{IsAcceptConflict, sets_of}
+use Rattle.lrpar_table_items.specs.declared.fault.BuildFault.{BuildFault}
+use Rattle.lrpar_table_items.specs.declared.fault.BuildFault.TheVariants.{AcceptReduceConflict, Memory, StorageTooSmall, TooManyStates}
+use Rattle.lrpar_table_build.specs.Built.{IsBuildRefusal, IsBuiltBy}
+use Rattle.lrpar_table_merge.specs.MergedBy.{IsMergedBy, HasMergedAcceptConflict}
+use Rattle.lrpar_table_merge.specs.declared.build.Minimiser.{Minimiser}
+use Rattle.lrpar_table_merge.specs.declared.build.Minimiser.TheVariants.{Canonical, Pager}
+
+-- the graph has canonical item sets or merged ones, and the table their actions after conflict resolution by the precedences
+abbrev pub IsMinimisedBy : Minimiser → Grammar → PrecedenceLists → Graph → Table → Type 0
+IsMinimisedBy Canonical g lists graph table = IsBuiltBy g lists graph table
+IsMinimisedBy Pager g lists graph table = IsMergedBy g lists graph table
+
+-- why no merged table is built: merged item sets call for accept and for a reduction; or there are too many of them, which depends on the
+-- order of merging; or an allocation failed
+abbrev pub IsMergedRefusal : Grammar → BuildFault → Type 0
+IsMergedRefusal g TooManyStates = Unit {0}
+IsMergedRefusal g StorageTooSmall = Unit {0}
+IsMergedRefusal g (AcceptReduceConflict n) = HasMergedAcceptConflict g n
+IsMergedRefusal g Memory = Unit {0}
+
+-- why no table is built, if `most` states are allowed and the storage type has `limit` numbers
+abbrev pub IsMinimisedRefusal : Minimiser → Grammar → ℕ → ℕ → BuildFault → Type 0
+IsMinimisedRefusal Canonical g most limit fault = IsBuildRefusal g most limit fault
+IsMinimisedRefusal Pager g most limit fault = IsMergedRefusal g fault

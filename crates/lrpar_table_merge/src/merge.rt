@@ -1,0 +1,364 @@
+//! The merging of item sets whose kernels are weakly compatible.
+//!
+//! D. Pager, 'A practical general method for constructing LR(k) parsers', Acta Informatica 7, 1977.
+ghost use Rattle.std.specs.Prelude.{◌≡◌, ◌<◌, ◌≤◌, All, IfOk, IfSome, OnOk, length, map};
+ghost use Rattle.lrpar_grammar.specs.Grammar.{Grammar, IsWellFormed};
+ghost use Rattle.lrpar_table_items.specs.CoreOrder.{IsKernel};
+ghost use Rattle.lrpar_table_items.specs.Cores.{core_set};
+ghost use Rattle.lrpar_table_items.specs.Next.{kernel_at, kernel_rows};
+ghost use Rattle.lrpar_table_items.specs.Working.{AreSets};
+ghost use Rattle.lrpar_table_merge.specs.Compatible.{AreWeaklyCompatible};
+ghost use Rattle.lrpar_table_merge.specs.Merging.{AreCoreRows, AreKernelsOrEmpty, AreMerging, kernels_of};
+
+use crate::compatible::are_weakly_compatible;
+use crate::held::Transitions;
+use crate::unite::unite;
+use lrpar_grammar::grammar::YaccGrammar;
+use lrpar_grammar::span::StorageIndex;
+use lrpar_table_items::cores::{CoreItems, copied};
+use lrpar_table_items::fault::BuildFault;
+use lrpar_table_items::sets::{Sets, closed};
+use lrpar_table_items::states::start_kernel;
+use lrpar_table_items::successors::Successors;
+use std::alloc::{AllocError, Global};
+
+/// A state while item sets are merged: its kernel, where it goes, and whether it has to be worked on.
+#[derive(Drop)]
+pub struct MergedState<StorageT> {
+    pub kernel: Vec<CoreItems<StorageT>>,
+    pub transitions: Transitions,
+    pub waits: bool,
+}
+
+/// The states so far; and for each production the states whose kernels begin with a core of it, ascending.
+#[derive(Drop)]
+pub struct Merging<StorageT> {
+    pub states: Vec<MergedState<StorageT>>,
+    pub by_prod: Vec<Vec<usize>>,
+}
+
+/// The kernels of merged states and their transitions, at most `max_states` of them. A kernel goes into the first state that is weakly
+/// compatible with it, which is then worked on again; otherwise it makes a new state. States that nothing leads to any more are left out.
+///
+/// Nothing is promised of the lookaheads and of the transitions: `propagate` and `merged_states` look at them.
+pub(crate) fn merge<StorageT: StorageIndex>(
+    alloc: Global,
+    grm: &YaccGrammar<StorageT>,
+    sets: &mut Sets,
+    max_states: usize,
+) -> Result<(Vec<Vec<CoreItems<StorageT>>>, Vec<Transitions>), BuildFault>
+    requires well_formed { IsWellFormed grm.now }
+    requires sets { AreSets grm.now sets.old }
+    ensures sets { AreSets grm.now sets.new }
+    ensures cores { IfOk result (λ merged. AreCoreRows grm.now (kernel_rows StorageT.index merged.0.items)) }
+    ensures room { IfOk result (λ merged. length merged.0.items ≤ max_states) }
+    ensures fits { IfOk result (λ merged. length merged.0.items ≤ StorageT.limit) }
+{
+    let mut merging = Merging::new(alloc, grm)?;
+    let start = start_kernel(alloc, grm)?;
+    let _start = merging.place(alloc, grm, max_states, &start)?;
+    // Each round but the last adds a state or lookaheads, so the last one comes long before the bound.
+    for _ in 0..usize::MAX {
+        if !merging.work_on_all(alloc, grm, sets, max_states)? {
+            break;
+        }
+    }
+    let reached = reached(alloc, &merging.states)?;
+    Ok(finished(alloc, &merging.states, &reached)?)
+}
+
+impl<StorageT: StorageIndex> Merging<StorageT> {
+    // No states.
+    fn new(alloc: Global, grm: &YaccGrammar<StorageT>) -> Result<Self, AllocError>
+        ensures { IfOk result (AreMerging StorageT.index grm.now 0 0) }
+    {
+        let mut by_prod = Vec::with_capacity(alloc, grm.prods_len())?;
+        for _ in 0..grm.prods_len() {
+            by_prod.push(Vec::new(alloc))?;
+        }
+        Ok(Merging {
+            states: Vec::new(alloc),
+            by_prod,
+        })
+    }
+
+    // Works on each state that waits. Returns whether any did.
+    fn work_on_all(
+        &mut self,
+        alloc: Global,
+        grm: &YaccGrammar<StorageT>,
+        sets: &mut Sets,
+        max_states: usize,
+    ) -> Result<bool, BuildFault>
+        requires well_formed { IsWellFormed grm.now }
+        requires sets { AreSets grm.now sets.old }
+        requires merging { AreMerging StorageT.index grm.now max_states StorageT.limit self.old }
+        ensures sets { AreSets grm.now sets.new }
+        ensures merging { OnOk result (AreMerging StorageT.index grm.now max_states StorageT.limit self.new) }
+    {
+        let mut waited = false;
+        for number in 0..max_states {
+            if number >= self.states.len() {
+                break;
+            }
+            if self.states[number].waits {
+                waited = true;
+                self.work_on(alloc, grm, sets, max_states, number)?;
+            }
+        }
+        Ok(waited)
+    }
+
+    // Places the kernels to which the state goes.
+    fn work_on(
+        &mut self,
+        alloc: Global,
+        grm: &YaccGrammar<StorageT>,
+        sets: &mut Sets,
+        max_states: usize,
+        number: usize,
+    ) -> Result<(), BuildFault>
+        requires well_formed { IsWellFormed grm.now }
+        requires sets { AreSets grm.now sets.old }
+        requires number { number < length self.old.states.items }
+        requires merging { AreMerging StorageT.index grm.now max_states StorageT.limit self.old }
+        ensures sets { AreSets grm.now sets.new }
+        ensures merging { OnOk result (AreMerging StorageT.index grm.now max_states StorageT.limit self.new) }
+    {
+        let successors = self.successors(alloc, grm, sets, number)?;
+        self.states[number].waits = false;
+        let rules = self.place_all(alloc, grm, max_states, &successors.rules)?;
+        let tokens = self.place_all(alloc, grm, max_states, &successors.tokens)?;
+        if number < self.states.len() {
+            self.states[number].transitions = Transitions { rules, tokens };
+        }
+        Ok(())
+    }
+
+    // The closure of the state's kernel, and the kernels to which it goes.
+    fn successors(
+        &self,
+        alloc: Global,
+        grm: &YaccGrammar<StorageT>,
+        sets: &mut Sets,
+        number: usize,
+    ) -> Result<Successors<StorageT>, AllocError>
+        requires well_formed { IsWellFormed grm.now }
+        requires sets { AreSets grm.now sets.old }
+        requires number { number < length self.now.states.items }
+        requires kernels { All (IsKernel grm.now) (kernels_of StorageT.index self.now.states.items) }
+        ensures sets { AreSets grm.now sets.new }
+        ensures rules { IfOk result (λ successors. AreKernelsOrEmpty grm.now (kernel_rows StorageT.index successors.rules.items)) }
+        ensures tokens { IfOk result (λ successors. AreKernelsOrEmpty grm.now (kernel_rows StorageT.index successors.tokens.items)) }
+    {
+        let kernel = copied(alloc, &self.states[number].kernel)?;
+        let items = closed(alloc, grm, sets, kernel)?;
+        Successors::new(alloc, grm, items)
+    }
+
+    // The states of the kernels; those of kernels without cores are none.
+    fn place_all(
+        &mut self,
+        alloc: Global,
+        grm: &YaccGrammar<StorageT>,
+        max_states: usize,
+        kernels: &[Vec<CoreItems<StorageT>>],
+    ) -> Result<Vec<Option<usize>>, BuildFault>
+        requires merging { AreMerging StorageT.index grm.now max_states StorageT.limit self.old }
+        requires kernels { AreKernelsOrEmpty grm.now (kernel_rows StorageT.index kernels.now) }
+        ensures merging { OnOk result (AreMerging StorageT.index grm.now max_states StorageT.limit self.new) }
+    {
+        let mut row = Vec::with_capacity(alloc, kernels.len())?;
+        for kernel in kernels {
+            let next = if kernel.is_empty() {
+                None
+            } else {
+                Some(self.place(alloc, grm, max_states, kernel)?)
+            };
+            row.push(next)?;
+        }
+        Ok(row)
+    }
+
+    // The state into which the kernel goes: the first that is weakly compatible with it, or a new one.
+    fn place(
+        &mut self,
+        alloc: Global,
+        grm: &YaccGrammar<StorageT>,
+        max_states: usize,
+        kernel: &[CoreItems<StorageT>],
+    ) -> Result<usize, BuildFault>
+        requires merging { AreMerging StorageT.index grm.now max_states StorageT.limit self.old }
+        requires kernel { IsKernel grm.now (map (core_set StorageT.index) kernel.now) }
+        ensures merging { OnOk result (AreMerging StorageT.index grm.now max_states StorageT.limit self.new) }
+    {
+        let first = usize::from(kernel[0].prod);
+        match self.find(&self.by_prod[first], kernel) {
+            Some(number) => {
+                if unite(&mut self.states[number].kernel, kernel) {
+                    self.states[number].waits = true;
+                }
+                Ok(number)
+            }
+            None => self.push(alloc, grm, max_states, first, kernel),
+        }
+    }
+
+    // The first of the numbers whose state is weakly compatible with the kernel.
+    fn find(&self, numbers: &[usize], kernel: &[CoreItems<StorageT>]) -> Option<usize>
+        ensures low { IfSome result (λ number. number < length self.now.states.items) }
+        ensures compatible { IfSome result (λ number. AreWeaklyCompatible
+            (kernel_at (kernels_of StorageT.index self.now.states.items) number) (map (core_set StorageT.index) kernel.now)) }
+    {
+        for number in numbers {
+            if *number < self.states.len()
+                && are_weakly_compatible(&self.states[*number].kernel, kernel)
+            {
+                return Some(*number);
+            }
+        }
+        None
+    }
+
+    // A new state with this kernel, which begins with a core of the production.
+    fn push(
+        &mut self,
+        alloc: Global,
+        grm: &YaccGrammar<StorageT>,
+        max_states: usize,
+        prod: usize,
+        kernel: &[CoreItems<StorageT>],
+    ) -> Result<usize, BuildFault>
+        requires prod { prod < length self.old.by_prod.items }
+        requires merging { AreMerging StorageT.index grm.now max_states StorageT.limit self.old }
+        requires kernel { IsKernel grm.now (map (core_set StorageT.index) kernel.now) }
+        ensures merging { OnOk result (AreMerging StorageT.index grm.now max_states StorageT.limit self.new) }
+    {
+        let number = self.states.len();
+        if number >= max_states {
+            return Err(BuildFault::TooManyStates);
+        }
+        if StorageT::from_index(number).is_none() {
+            return Err(BuildFault::StorageTooSmall);
+        }
+        let kernel = copied(alloc, kernel)?;
+        self.by_prod[prod].push(number)?;
+        self.states.push(MergedState {
+            kernel,
+            transitions: Transitions {
+                rules: Vec::new(alloc),
+                tokens: Vec::new(alloc),
+            },
+            waits: true,
+        })?;
+        Ok(number)
+    }
+}
+
+// Which states transitions lead to, from state 0.
+fn reached<StorageT: StorageIndex>(
+    alloc: Global,
+    states: &[MergedState<StorageT>],
+) -> Result<Vec<bool>, AllocError>
+    ensures { IfOk result (λ marks. length marks.items ≡ length states.now) }
+{
+    let mut marks = vec![in alloc; false; states.len()]?;
+    if let Some(start) = marks.get_mut(0) {
+        *start = true;
+    }
+    for _ in 0..states.len() {
+        if !mark_all(states, &mut marks) {
+            break;
+        }
+    }
+    Ok(marks)
+}
+
+// Marks the states to which those with a mark go. Returns whether any of them had none.
+fn mark_all<StorageT: StorageIndex>(states: &[MergedState<StorageT>], marks: &mut Vec<bool>) -> bool
+    requires { length marks.old.items ≡ length states.now }
+    ensures { length marks.new.items ≡ length states.now }
+{
+    let mut marked = false;
+    for number in 0..states.len() {
+        if marks[number] {
+            let transitions = &states[number].transitions;
+            let by_rules = mark_row(&transitions.rules, marks);
+            let by_tokens = mark_row(&transitions.tokens, marks);
+            marked = marked || by_rules || by_tokens;
+        }
+    }
+    marked
+}
+
+// Marks the states of the row. Returns whether any of them had no mark.
+fn mark_row(row: &[Option<usize>], marks: &mut Vec<bool>) -> bool
+    ensures { length marks.new.items ≡ length marks.old.items }
+{
+    let mut marked = false;
+    for entry in row {
+        if let Some(next) = *entry {
+            if next < marks.len() && !marks[next] {
+                marks[next] = true;
+                marked = true;
+            }
+        }
+    }
+    marked
+}
+
+// The kernels and the transitions of the states with a mark, which are numbered anew.
+fn finished<StorageT: StorageIndex>(
+    alloc: Global,
+    states: &[MergedState<StorageT>],
+    marks: &[bool],
+) -> Result<(Vec<Vec<CoreItems<StorageT>>>, Vec<Transitions>), AllocError>
+    requires { length marks.now ≡ length states.now }
+    ensures cores { IfOk result (λ merged. (g : Grammar) → All (IsKernel g) (kernels_of StorageT.index states.now)
+        → AreCoreRows g (kernel_rows StorageT.index merged.0.items)) }
+    ensures len { IfOk result (λ merged. length merged.0.items ≤ length states.now) }
+{
+    let numbers = numbers_of(alloc, marks)?;
+    let mut kernels = Vec::new(alloc);
+    let mut all = Vec::new(alloc);
+    for number in 0..states.len() {
+        if marks[number] {
+            let state = &states[number];
+            kernels.push(copied(alloc, &state.kernel)?)?;
+            let rules = renumbered(alloc, &state.transitions.rules, &numbers)?;
+            let tokens = renumbered(alloc, &state.transitions.tokens, &numbers)?;
+            all.push(Transitions { rules, tokens })?;
+        }
+    }
+    Ok((kernels, all))
+}
+
+// For each mark, how many there are before it.
+fn numbers_of(alloc: Global, marks: &[bool]) -> Result<Vec<usize>, AllocError> {
+    let mut numbers = Vec::with_capacity(alloc, marks.len())?;
+    let mut next = 0;
+    for mark in marks {
+        numbers.push(next)?;
+        if *mark {
+            next += 1;
+        }
+    }
+    Ok(numbers)
+}
+
+// The row with the new numbers of its states.
+fn renumbered(
+    alloc: Global,
+    row: &[Option<usize>],
+    numbers: &[usize],
+) -> Result<Vec<Option<usize>>, AllocError> {
+    let mut renumbered = Vec::with_capacity(alloc, row.len())?;
+    for entry in row {
+        let next = match *entry {
+            Some(state) => numbers.get(state).copied(),
+            None => None,
+        };
+        renumbered.push(next)?;
+    }
+    Ok(renumbered)
+}
