@@ -2,6 +2,7 @@
 use crate::kind::GrammarKind;
 use crate::plan::{Format, Recovery};
 use lrpar_grammar::grammar::YaccKind;
+use lrpar_table::build::Minimiser;
 use program_files::fault::{Fault, Misuse};
 use std::alloc::Global;
 
@@ -12,8 +13,12 @@ pub(crate) struct Options<'a> {
     pub(crate) is_quiet: bool,
     /// Whether the states of the table are printed.
     pub(crate) shows_states: bool,
+    /// Whether more is said of the table.
+    pub(crate) is_verbose: bool,
     /// The kind of the grammar file, if the words name it.
     pub(crate) kind: Option<GrammarKind>,
+    /// Whether item sets are merged.
+    pub(crate) minimiser: Minimiser,
     pub(crate) recovery: Recovery,
     /// How many lexemes have to follow a repair, if the words say so.
     pub(crate) shifts: Option<usize>,
@@ -36,11 +41,14 @@ A LEXER with a line %% is a .l file of lrlex. A GRAMMAR is a grammar text, or a 
 
   -q           print errors alone: no trees, no warnings, no notes
   -d           print the states of the table
+  -v           say how many actions and gotos the table has, and whether its states are merged
   -y grmtools  GRAMMAR is a .y file whose rules have types
   -y original  GRAMMAR is a .y file of yacc
   -y profile   GRAMMAR is a grammar text: declarations, rules, and nothing else
                Without -y it is what the yacckind of its %grmtools{..} says; else a grammar text, if it can be read as one;
                else of the kind grmtools, if a rule has a type, and original, if it has something else of .y files
+  --minimise pager      merge states whose lookaheads allow it: a small table (the default)
+  --minimise canonical  merge none: an error is found before any reduction that it doesn't allow
   -r none      search for no repairs: the first error of an input is the last
   -r cpctplus  search for the cheapest repairs at each error, and go on with the first of them
   -r complete  the same; where none is found, insert and delete what leads to the nearest place to go on (the default)
@@ -58,7 +66,9 @@ Status 0: each input has a tree and no error; 1: an input has errors; 2: there i
 struct Said<'a> {
     is_quiet: bool,
     shows_states: bool,
+    is_verbose: bool,
     kind: Option<GrammarKind>,
+    minimiser: Minimiser,
     search: Search,
     limit: Option<usize>,
     shifts: Option<usize>,
@@ -70,6 +80,7 @@ struct Said<'a> {
 #[derive(Clone, Copy)]
 enum Valued {
     Kind,
+    Minimiser,
     Recovery,
     Limit,
     Shifts,
@@ -97,7 +108,9 @@ pub(crate) fn options_of(alloc: Global, args: &[String]) -> Result<Options<'_>, 
     let mut said = Said {
         is_quiet: false,
         shows_states: false,
+        is_verbose: false,
         kind: None,
+        minimiser: Minimiser::Pager,
         search: Search::Complete,
         limit: None,
         shifts: None,
@@ -128,6 +141,7 @@ fn taken<'a>(
     match word {
         "-q" => said.is_quiet = true,
         "-d" => said.shows_states = true,
+        "-v" => said.is_verbose = true,
         "--" => {
             for path in others {
                 said.paths.push(path.as_str())?;
@@ -146,6 +160,7 @@ fn taken<'a>(
 fn option_named(word: &str) -> Option<Valued> {
     match word {
         "-y" => Some(Valued::Kind),
+        "--minimise" => Some(Valued::Minimiser),
         "-r" => Some(Valued::Recovery),
         "--limit" => Some(Valued::Limit),
         "--shifts" => Some(Valued::Shifts),
@@ -166,6 +181,7 @@ fn value<'a>(option: Valued, words: &'a [String]) -> Result<(&'a str, &'a [Strin
 fn needs(option: Valued) -> Misuse {
     match option {
         Valued::Kind => Misuse::Kind,
+        Valued::Minimiser => Misuse::Minimiser,
         Valued::Recovery => Misuse::Recovery,
         Valued::Limit => Misuse::Limit,
         Valued::Shifts => Misuse::Shifts,
@@ -177,6 +193,7 @@ fn needs(option: Valued) -> Misuse {
 fn take_value(said: &mut Said<'_>, option: Valued, value: &str) -> Result<(), Fault> {
     match option {
         Valued::Kind => said.kind = Some(kind_of(value)?),
+        Valued::Minimiser => said.minimiser = minimiser_of(value)?,
         Valued::Recovery => said.search = search_of(value)?,
         Valued::Limit => said.limit = Some(number_of(option, value)?),
         Valued::Shifts => said.shifts = Some(shifts_of(value)?),
@@ -192,6 +209,15 @@ fn kind_of(name: &str) -> Result<GrammarKind, Fault> {
         "original" => Ok(GrammarKind::Yacc(YaccKind::Original)),
         "profile" => Ok(GrammarKind::Profile),
         _ => Err(Fault::Usage(needs(Valued::Kind))),
+    }
+}
+
+// The minimiser of that name.
+fn minimiser_of(name: &str) -> Result<Minimiser, Fault> {
+    match name {
+        "pager" => Ok(Minimiser::Pager),
+        "canonical" => Ok(Minimiser::Canonical),
+        _ => Err(Fault::Usage(needs(Valued::Minimiser))),
     }
 }
 
@@ -242,7 +268,9 @@ fn options_said(said: Said<'_>) -> Result<Options<'_>, Fault> {
     let Said {
         is_quiet,
         shows_states,
+        is_verbose,
         kind,
+        minimiser,
         search: _,
         limit: _,
         shifts,
@@ -260,7 +288,9 @@ fn options_said(said: Said<'_>) -> Result<Options<'_>, Fault> {
     Ok(Options {
         is_quiet,
         shows_states,
+        is_verbose,
         kind,
+        minimiser,
         recovery,
         shifts,
         format,
