@@ -22,6 +22,8 @@ pub enum Misuse {
     UnknownOption,
     #[error("-y needs grmtools, original or profile")]
     Kind,
+    #[error("--minimise needs pager or canonical")]
+    Minimiser,
     #[error("-r needs none, cpctplus or complete")]
     Recovery,
     #[error("--limit needs a number")]

@@ -1,18 +1,16 @@
 //! The conflicts of a table, with a counterexample of each.
 ghost use Rattle.lrpar_conflict_examples.specs.ExamplesFit.{ExamplesFit};
 ghost use Rattle.lrpar_grammar.specs.Grammar.{Grammar};
-ghost use Rattle.lrpar_table_build.specs.Built.{IsBuilt};
 
 use crate::show::push_reports;
 use lrpar_conflict_examples::examples::{
-    ConflictExample, ConflictsLeft, ExampleFault, UnmetConflict, conflict_examples,
-    conflict_examples_with, format_examples,
+    ConflictExample, MergedConflicts, NoExamples, UnmetConflict, conflict_examples_by,
+    format_examples,
 };
 use lrpar_grammar::grammar::YaccGrammar;
 use lrpar_report::{Level, Report, Reporter, conflict_reports, push_token};
-use lrpar_table::build::{BuildFault, from_yacc};
 use lrpar_table::precedences::Precedences;
-use lrpar_table::table::{StateGraph, StateTable};
+use lrpar_table::table::StateTable;
 use program_files::tables::MAX_STATES;
 use std::alloc::{AllocError, Global};
 
@@ -22,28 +20,9 @@ const BOUND: usize = 1_000;
 /// How many conflicts of a grammar are shown at most, and how many counterexamples.
 const MOST: usize = 10;
 
-/// Adds a warning for each of the first conflicts of the grammar, and then the first counterexamples of conflicts of the table. If a
-/// reachable rule derives no text, there are no counterexamples, and one warning says so.
+/// Adds a warning for each of the first conflicts of the table, the first counterexamples, and a note of each of the first conflicts that have
+/// none. If a reachable rule derives no text, there are no counterexamples, and one warning says so.
 pub(crate) fn push_conflicts(
-    out: &mut String,
-    alloc: Global,
-    reporter: &Reporter<'_>,
-    grm: &YaccGrammar<u32>,
-    sgraph: &StateGraph<u32>,
-    stable: &StateTable<u32>,
-) -> Result<(), AllocError>
-    requires { IsBuilt grm.now sgraph.now stable.now }
-{
-    match conflict_examples(alloc, grm, sgraph, stable, BOUND) {
-        Ok(examples) => push_with_examples(out, alloc, reporter, grm, stable, &examples),
-        Err(ExampleFault::Memory) => Err(AllocError),
-        Err(_) => push_count(out, alloc, reporter, stable),
-    }
-}
-
-/// The same for a grammar with precedences and their table: warnings and counterexamples of the conflicts that they leave, and a note of each
-/// of the first that no parse meets.
-pub(crate) fn push_unresolved(
     out: &mut String,
     alloc: Global,
     reporter: &Reporter<'_>,
@@ -54,60 +33,77 @@ pub(crate) fn push_unresolved(
     if stable.conflicts().is_none() {
         return Ok(());
     }
-    match from_yacc(alloc, grm, MAX_STATES) {
-        Ok((sgraph, plain)) => {
-            match conflict_examples_with(alloc, grm, precedences, &sgraph, &plain, BOUND) {
-                Ok(left) => push_left(out, alloc, reporter, grm, stable, &left),
-                Err(ExampleFault::Memory) => Err(AllocError),
-                Err(_) => push_count(out, alloc, reporter, stable),
-            }
+    match conflict_examples_by(alloc, grm, precedences, stable, MAX_STATES, BOUND) {
+        Ok(found) => push_found(out, alloc, reporter, grm, stable, &found),
+        Err(NoExamples::Memory) => Err(AllocError),
+        Err(NoExamples::Unproductive(_)) => {
+            push_count(out, alloc, reporter, stable, "a rule derives no text")
         }
-        Err(BuildFault::Memory) => Err(AllocError),
-        Err(_) => push_count(out, alloc, reporter, stable),
+        Err(NoExamples::Unbuilt(_)) => {
+            let why = "the canonical table, in which they are looked for, is too large";
+            push_count(out, alloc, reporter, stable, why)
+        }
     }
 }
 
-// Adds warnings and counterexamples of conflicts. If no parse meets some of them, the warnings don't say that there are examples, and notes
+// Adds warnings and counterexamples of conflicts. If some have no counterexample, the warnings don't say that there are examples, and notes
 // say which.
-fn push_left(
+fn push_found(
     out: &mut String,
     alloc: Global,
     reporter: &Reporter<'_>,
     grm: &YaccGrammar<u32>,
     stable: &StateTable<u32>,
-    left: &ConflictsLeft<u32>,
+    found: &MergedConflicts<u32>,
 ) -> Result<(), AllocError>
-    requires { ExamplesFit grm.now left.now.examples.items }
+    requires { ExamplesFit grm.now found.now.examples.items }
 {
-    if left.unmet.is_empty() {
-        return push_with_examples(out, alloc, reporter, grm, stable, &left.examples);
+    if found.unmet.is_empty() && found.merged.is_empty() {
+        return push_with_examples(out, alloc, reporter, grm, stable, &found.examples);
     }
     let reports = conflict_reports(alloc, grm, stable)?;
     let shown = reports.get(..MOST).unwrap_or(&reports);
     push_reports(out, alloc, reporter, shown)?;
-    let first = first_of(&left.examples);
+    let first = first_of(&found.examples);
     out.push_str(format_examples(alloc, grm, first)?.as_str())?;
-    for conflict in left.unmet.iter().take(MOST) {
-        push_unmet(out, alloc, reporter, grm, conflict)?;
-    }
-    push_more(out, alloc, reporter, reports.len(), left.examples.len())
+    push_notes(out, alloc, reporter, grm, found)?;
+    push_more(out, alloc, reporter, reports.len(), found.examples.len())
 }
 
-// Adds a note of a conflict that no parse meets.
-fn push_unmet(
+// Adds notes of the first conflicts that have no counterexample.
+fn push_notes(
+    out: &mut String,
+    alloc: Global,
+    reporter: &Reporter<'_>,
+    grm: &YaccGrammar<u32>,
+    found: &MergedConflicts<u32>,
+) -> Result<(), AllocError> {
+    for conflict in found.unmet.iter().take(MOST) {
+        let why = ": precedences take away each way there";
+        push_note(out, alloc, reporter, grm, conflict, "no parse meets", why)?;
+    }
+    for conflict in found.merged.iter().take(MOST) {
+        let why = ", with --minimise canonical there is none";
+        push_note(out, alloc, reporter, grm, conflict, "merging alone makes", why)?;
+    }
+    Ok(())
+}
+
+// Adds a note of a conflict.
+fn push_note(
     out: &mut String,
     alloc: Global,
     reporter: &Reporter<'_>,
     grm: &YaccGrammar<u32>,
     conflict: &UnmetConflict<u32>,
+    what: &str,
+    why: &str,
 ) -> Result<(), AllocError> {
-    let mut message = String::from_str(alloc, "no parse meets the conflict at ")?;
+    let mut message = String::from_str(alloc, what)?;
+    message.push_str(" the conflict at ")?;
     push_token(&mut message, grm, conflict.token)?;
     let state = usize::from(conflict.state);
-    write!(
-        message,
-        " in state {state}: precedences take away each way there"
-    )?;
+    write!(message, " in state {state}{why}")?;
     reporter.push(
         out,
         alloc,
@@ -121,12 +117,13 @@ fn push_count(
     alloc: Global,
     reporter: &Reporter<'_>,
     stable: &StateTable<u32>,
+    why: &str,
 ) -> Result<(), AllocError> {
     let Some(conflicts) = stable.conflicts() else {
         return Ok(());
     };
     let count = conflicts.rr_len().saturating_add(conflicts.sr_len());
-    let text = format!(in alloc; "conflicts without examples, as a rule derives no text: {count}")?;
+    let text = format!(in alloc; "conflicts without examples, as {why}: {count}")?;
     reporter.push(out, alloc, &Report::warning(alloc, text.as_str())?)
 }
 

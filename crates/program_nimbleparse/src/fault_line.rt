@@ -4,7 +4,7 @@ use std::fmt;
 
 /// How the program is called.
 pub(crate) const USAGE: &str =
-    "usage: nimbleparse [-q] [-d] [-y grmtools|original|profile] [-r none|cpctplus|complete] [--limit N] [--shifts K] [--format brackets|tree|json|dot] LEXER GRAMMAR [INPUT..]";
+    "usage: nimbleparse [-q] [-d] [-v] [-y grmtools|original|profile] [--minimise pager|canonical] [-r none|cpctplus|complete] [--limit N] [--shifts K] [--format brackets|tree|json|dot] LEXER GRAMMAR [INPUT..]";
 
 /// A fault as the program prints it: a message as it is, and else the program's name and the fault; after wrong words how the program
 /// is called.

@@ -1,8 +1,7 @@
 //! The grammar of a file and its table, or why there is none.
-ghost use Rattle.lrpar_table_build.specs.Built.{IsBuilt};
 ghost use Rattle.lrpar_table_rows.specs.Safe.{IsSafe};
 
-use crate::conflicts::{push_conflicts, push_unresolved};
+use crate::conflicts::push_conflicts;
 use crate::expects::{expect, has_expected};
 use crate::kind::GrammarKind;
 use crate::show::{fault_of_report, push_reports, write_messages};
@@ -11,7 +10,7 @@ use crate::states::push_states;
 use lrpar_grammar::grammar::{Declarations, YaccGrammar};
 use lrpar_grammar::span::TIdx;
 use lrpar_report::{Report, Reporter, build_report, chain_report, rule_warnings_but};
-use lrpar_table::build::{BuildFault, from_yacc, from_yacc_with};
+use lrpar_table::build::{BuildFault, Minimiser, from_yacc_by};
 use lrpar_table::check::{CheckFault, ParserData, Refused};
 use lrpar_table::precedences::Precedences;
 use lrpar_table::table::{StateGraph, StateTable};
@@ -32,6 +31,8 @@ pub struct Asked {
     pub is_quiet: bool,
     /// Whether the states of the table are printed.
     pub shows_states: bool,
+    /// Whether its item sets are merged.
+    pub minimiser: Minimiser,
 }
 
 /// The checked table of a grammar, and what its file says of repairs and precedences.
@@ -73,11 +74,7 @@ pub fn table_of<O: Write, E: Write>(
     };
     let avoided = avoided_tokens(alloc, &grammar, declared)?;
     let has_precedences = matches!(declared, Some(declared) if !declared.levels.is_empty());
-    let data = if has_precedences {
-        resolved_data(alloc, reporter, grammar, declared, asked, out, err)?
-    } else {
-        built_data(alloc, reporter, grammar, declared, asked, out, err)?
-    };
+    let data = built_data(alloc, reporter, grammar, declared, asked, out, err)?;
     Ok(GrammarTable {
         data,
         avoided,
@@ -102,7 +99,7 @@ fn avoided_tokens(
     Ok(tokens)
 }
 
-// The checked table of a grammar without precedences.
+// The checked table of a grammar whose conflicts are resolved by the precedences that its file declares, if it declares any.
 fn built_data<O: Write, E: Write>(
     alloc: Global,
     reporter: &Reporter<'_>,
@@ -112,34 +109,11 @@ fn built_data<O: Write, E: Write>(
     out: &mut O,
     err: &mut E,
 ) -> Result<ParserData<u32>, Fault> {
-    match from_yacc(alloc, &grm, MAX_STATES) {
-        Ok((sgraph, stable)) => {
-            if !asked.is_quiet {
-                let notes = built_notes(alloc, reporter, &grm, declared, &sgraph, &stable)?;
-                write_notes(asked, notes, &grm, &sgraph, &stable, out, err)?;
-            }
-            expect(alloc, reporter, declared, &stable)?;
-            checked(alloc, reporter, grm, sgraph, stable)
-        }
-        Err(fault) => Err(unbuilt(alloc, reporter, &grm, fault)),
-    }
-}
-
-// The checked table of a grammar whose conflicts are resolved by the precedences that its file declares.
-fn resolved_data<O: Write, E: Write>(
-    alloc: Global,
-    reporter: &Reporter<'_>,
-    grm: YaccGrammar<u32>,
-    declared: Option<&Declarations<'_>>,
-    asked: Asked,
-    out: &mut O,
-    err: &mut E,
-) -> Result<ParserData<u32>, Fault> {
     let precedences = precedences_of(alloc, &grm, declared)?;
-    match from_yacc_with(alloc, &grm, &precedences, MAX_STATES) {
+    match from_yacc_by(alloc, &grm, &precedences, asked.minimiser, MAX_STATES) {
         Ok((sgraph, stable)) => {
             if !asked.is_quiet {
-                let notes = resolved_notes(alloc, reporter, &grm, declared, &precedences, &stable)?;
+                let notes = notes_of(alloc, reporter, &grm, declared, &precedences, &stable)?;
                 write_notes(asked, notes, &grm, &sgraph, &stable, out, err)?;
             }
             expect(alloc, reporter, declared, &stable)?;
@@ -162,31 +136,7 @@ fn precedences_of(
 }
 
 // Warnings of rules that are of no use, and of conflicts, unless these are what the file expects.
-fn built_notes(
-    alloc: Global,
-    reporter: &Reporter<'_>,
-    grm: &YaccGrammar<u32>,
-    declared: Option<&Declarations<'_>>,
-    sgraph: &StateGraph<u32>,
-    stable: &StateTable<u32>,
-) -> Result<String, AllocError>
-    requires { IsBuilt grm.now sgraph.now stable.now }
-{
-    let mut notes = String::new(alloc);
-    push_reports(
-        &mut notes,
-        alloc,
-        reporter,
-        &unused_rules(alloc, grm, declared)?,
-    )?;
-    if !has_expected(declared, stable) {
-        push_conflicts(&mut notes, alloc, reporter, grm, sgraph, stable)?;
-    }
-    Ok(notes)
-}
-
-// The same of a grammar whose conflicts are resolved by precedences.
-fn resolved_notes(
+fn notes_of(
     alloc: Global,
     reporter: &Reporter<'_>,
     grm: &YaccGrammar<u32>,
@@ -202,7 +152,7 @@ fn resolved_notes(
         &unused_rules(alloc, grm, declared)?,
     )?;
     if !has_expected(declared, stable) {
-        push_unresolved(&mut notes, alloc, reporter, grm, precedences, stable)?;
+        push_conflicts(&mut notes, alloc, reporter, grm, precedences, stable)?;
     }
     Ok(notes)
 }

@@ -18,6 +18,7 @@ use lrpar_parse_completion::{Completion, NoCompletion};
 use lrpar_parse_cpctplus::CpctPlus;
 use lrpar_parse_repair::repair::Recoverer;
 use lrpar_report::{Level, Look, Report, Reporter, token_warnings};
+use lrpar_table::build::Minimiser;
 use lrpar_table::check::ParserData;
 use lrpar_table::table::StateTable;
 use program_files::fault::{Fault, Misuse};
@@ -191,6 +192,7 @@ impl<'a> Work<'a> {
             kind: self.options.kind,
             is_quiet: self.options.is_quiet,
             shows_states: self.options.shows_states,
+            minimiser: self.options.minimiser,
         }
     }
 
@@ -289,6 +291,9 @@ fn warnings(
     let mut text = String::new(alloc);
     push_token_warnings(&mut text, alloc, &reporter, table.data.grm(), rules)?;
     push_sizes(&mut text, alloc, &reporter, table)?;
+    if work.options.is_verbose {
+        push_table(&mut text, alloc, &reporter, &table.data, work.options.minimiser)?;
+    }
     Ok(text)
 }
 
@@ -328,6 +333,24 @@ fn push_sizes(
         let resolved = data.stable().resolved().len();
         write!(text, ", conflicts resolved by precedences {resolved}")?;
     }
+    reporter.push(out, alloc, &Report::new(alloc, Level::Note, text.as_str())?)
+}
+
+// Adds a note of the table: how many states it has, whether they are merged, and how many actions and gotos they have.
+fn push_table(
+    out: &mut String,
+    alloc: Global,
+    reporter: &Reporter<'_>,
+    data: &ParserData<u32>,
+    minimiser: Minimiser,
+) -> Result<(), AllocError> {
+    let states = data.stable().states_len();
+    let entries = data.stable().entries();
+    let how = match minimiser {
+        Minimiser::Canonical => "canonical",
+        Minimiser::Pager => "merged where lookaheads allow it",
+    };
+    let text = format!(in alloc; "states {states}, {how}, with {entries} actions and gotos")?;
     reporter.push(out, alloc, &Report::new(alloc, Level::Note, text.as_str())?)
 }
 

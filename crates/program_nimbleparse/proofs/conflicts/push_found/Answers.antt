@@ -1,6 +1,6 @@
 use Rattle.std.proofs.Common.{sym, subst}
 use Rattle.lrpar_conflict_examples.specs.ExamplesFit.{ExamplesFit}
-use Rattle.program_nimbleparse.proofs.conflicts.push_left.Goals as goal
+use Rattle.program_nimbleparse.proofs.conflicts.push_found.Goals as goal
 
 pub format_examples-requires : goal.format_examples-requires
 format_examples-requires c = record {
