@@ -16,4 +16,6 @@ mod lrpar_files;
 #[cfg(test)]
 mod placed;
 #[cfg(test)]
+mod small;
+#[cfg(test)]
 mod tables;
