@@ -1,6 +1,6 @@
 //! The table builder, and the checked table of a grammar alone.
 ghost use Rattle.std.specs.Prelude.{IfErr, IfOk};
-ghost use Rattle.lrpar_table.specs.MergedParserData.{IsMergedParserData, IsUnmerged};
+ghost use Rattle.lrpar_table.specs.MergedParserData.{IsMergedParserData, IsMinimisedData, IsUnmerged, IsUnminimised};
 ghost use Rattle.lrpar_table.specs.ParserData.{IsParserDataBy, IsParserDataOf, IsUnbuilt, IsUnbuiltBy};
 
 use lrpar_grammar::grammar::YaccGrammar;
@@ -99,6 +99,29 @@ pub fn merged_parser_data<StorageT: StorageIndex>(
 {
     let precedences = Precedences::none(alloc);
     match from_yacc_by(alloc, &grm, &precedences, Minimiser::Pager, max_states) {
+        Err(fault) => Err(Unbuilt::Table(fault, grm)),
+        Ok((sgraph, stable)) => match ParserData::of_safe(alloc, grm, sgraph, stable, cap) {
+            Ok(data) => Ok(data),
+            Err(refused) => Err(Unbuilt::Chains(refused)),
+        },
+    }
+}
+
+/// The checked table of the grammar by precedences and a minimiser, as `from_yacc_by` builds it.
+///
+/// The faults are those of `from_yacc_by`, and then as for `parser_data`.
+pub fn parser_data_by<StorageT: StorageIndex>(
+    alloc: Global,
+    grm: YaccGrammar<StorageT>,
+    precedences: &Precedences,
+    minimiser: Minimiser,
+    max_states: usize,
+    cap: u16,
+) -> Result<ParserData<StorageT>, Unbuilt<StorageT>>
+    ensures built { IfOk result (IsMinimisedData minimiser grm precedences.now max_states cap) }
+    ensures refused { IfErr result (IsUnminimised minimiser StorageT.limit grm precedences.now max_states cap) }
+{
+    match from_yacc_by(alloc, &grm, precedences, minimiser, max_states) {
         Err(fault) => Err(Unbuilt::Table(fault, grm)),
         Ok((sgraph, stable)) => match ParserData::of_safe(alloc, grm, sgraph, stable, cap) {
             Ok(data) => Ok(data),

@@ -47,6 +47,7 @@ pub fn from_yacc_by<StorageT: StorageIndex>(
 ) -> Result<(StateGraph<StorageT>, StateTable<StorageT>), BuildFault>
     // Canonical item sets or merged ones, and a table with their actions after conflict resolution.
     ensures built { IfOk result (λ built. IsMinimisedBy minimiser grm.now precedences.now built.0 built.1) }
+    ensures safe { IfOk result (λ built. IsSafe grm.now built.0 built.1) }
     ensures room { IfOk result (λ built. graph_len built.0 ≤ max_states) }
     // As for `from_yacc`; `AcceptReduceConflict`: a merged set calls for accept and a reduction.
     ensures refused { IfErr result (IsMinimisedRefusal minimiser grm.now max_states StorageT.limit) }

@@ -16,6 +16,7 @@ pub const INPUTS: &[&str] = &[
     "file",
     "kind",
     "cap",
+    "minimiser",
     "show",
     "lexemes",
     "shifts",

@@ -4,7 +4,7 @@ use crate::rows::{push_conflicts, push_place};
 use crate::subject::{MAX_STATES, Tables, of_unbuilt, read_back};
 use lrpar_grammar::grammar::{YaccFile, YaccGrammar};
 use lrpar_grammar::span::{PIdx, TIdx};
-use lrpar_table::build::parser_data_with;
+use lrpar_table::build::{Minimiser, parser_data_by};
 use lrpar_table::check::ParserData;
 use lrpar_table::precedences::{Precedences, Resolution};
 use lrpar_table::table::StateTable;
@@ -24,7 +24,11 @@ pub fn built_by_precedences(
     let cap = cap_at(case, "cap")?;
     let (grammar, text) = file_of(alloc, case, text)?.into_parts();
     let precedences = Precedences::declared(alloc, &grammar, &text.declarations)?;
-    match parser_data_with(alloc, grammar, &precedences, MAX_STATES, cap) {
+    let minimiser = match case.value_or_nothing("minimiser") {
+        "pager" => Minimiser::Pager,
+        _ => Minimiser::Canonical,
+    };
+    match parser_data_by(alloc, grammar, &precedences, minimiser, MAX_STATES, cap) {
         Ok(data) => Ok(data),
         Err(unbuilt) => Err(of_unbuilt(&unbuilt, case.number)),
     }
