@@ -77,7 +77,7 @@ module _ (g : Grammar) (well : IsWellFormed g) (states : List StateOf) (goes : �
     same_sets = graph_sets g states are.tokens graph items
 
     -- the rows are those of a table, in numbers that are large enough
-    rows_fit : ℕ
+    abbrev rows_fit : ℕ
     rows_fit = length states + tokens_len g + rules_len g
 
     table_fits : IsTable rows_fit (table_of_states precedences g states)

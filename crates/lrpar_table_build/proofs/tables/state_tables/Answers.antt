@@ -9,6 +9,12 @@ use Rattle.lrpar_table_build.proofs.tables.state_tables.Goals as goal
 pub table_of_states-requires-clause-actions : goal.table_of_states-requires-clause-actions
 table_of_states-requires-clause-actions g c = (c.args.precedences.now, rw c.deref.ensures.value at c.in_ok-actions.ensures.rows)
 
+pub returns-clause-items : goal.returns-clause-items
+returns-clause-items g c = rw c.deref-2.ensures.value at c.in_ok-graph.ensures.items
+
+pub returns-clause-none : goal.returns-clause-none
+returns-clause-none g c = rw c.deref.ensures.value at c.in_ok-actions.ensures.none
+
 pub returns-clause-table : goal.returns-clause-table
 returns-clause-table g c =
     let index = g.StorageT.StorageIndex.index in
