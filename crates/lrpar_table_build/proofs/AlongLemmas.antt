@@ -1,11 +1,11 @@
 -- A graph and a table of states are built right, whatever relation the transitions go along.
-use Rattle.std.proofs.Common.{◌≡◌, ◌≢◌, ◌<◌, ◌+◌, ◌≤◌, ◌↔◌, ◌∷◌, refl, sym, ap, subst, arith, ℕ, List, [], Option, Some, None, length, nat_eq}
+use Rattle.std.proofs.Common.{◌≡◌, ◌≢◌, ◌<◌, ◌+◌, ◌↔◌, ◌∷◌, refl, sym, ap, subst, arith, ℕ, List, [], Option, Some, None, length, nat_eq}
 use Rattle.std.specs.List.{Contains}
 use Rattle.std.specs.Map.{lookup}
 use Rattle.lrpar_grammar.specs.Grammar.{Grammar, GrammarSymbol, IsWellFormed, Nonterminal, Terminal, end_token, prod_len, rules_len, start_prod, tokens_len}
 use Rattle.lrpar_table_precedence.specs.Precedence.{PrecedenceLists}
 use Rattle.lrpar_table_rows.specs.Graph.{Graph, HasItem, ItemOf, graph_len, item_at}
-use Rattle.lrpar_table_rows.specs.Table.{IsTable, Table}
+use Rattle.lrpar_table_rows.specs.Table.{IsTable}
 use Rattle.lrpar_table_rows.proofs.EntryLemmas.{no_action_after, no_action_past, no_goto_past}
 use Rattle.lrpar_table_build.specs.BuilderLaws.{AcceptAlone}
 use Rattle.lrpar_table_items.specs.Canonical.{AreSame, IsAcceptConflict, HasAccept, sets_of}

@@ -3,26 +3,20 @@ use Rattle.std.proofs.Common.{◌≡◌, ◌≢◌, ◌<◌, ◌≤◌, ◌+◌,
 use Rattle.std.specs.List.{Contains, flat_map, range_with_len}
 use Rattle.std.specs.List.Sorted.{IsStrictlyIncreasing}
 use Rattle.std.specs.Map.{keys_of, lookup}
-use Rattle.std.proofs.lemmas.Bool.{cases_eq, cases_lt, eq-eqb, ne_eqb}
-use Rattle.std.proofs.lemmas.List.{get_or-map, get_or_past, length-map}
+use Rattle.std.proofs.lemmas.Bool.{cases_eq, eq-eqb, ne_eqb}
+use Rattle.std.proofs.lemmas.List.{get_or-map, length-map}
 use Rattle.std.proofs.lemmas.List.Elements.{All-append, All-cons, All-nil, Contains-get_or}
 use Rattle.std.proofs.lemmas.Map.Entries.{lookup_head, lookup_tail}
-use Rattle.lrpar_grammar.specs.Grammar.{Grammar, GrammarSymbol, IsWellFormed, Nonterminal, Terminal, end_token, rules_len, start_prod, tokens_len}
+use Rattle.lrpar_grammar.specs.Grammar.{Grammar, rules_len, start_prod, tokens_len}
 use Rattle.lrpar_table_precedence.specs.Precedence.{PrecedenceLists}
 use Rattle.lrpar_table_precedence.specs.declared.precedence.Resolution.{Resolution}
 use Rattle.lrpar_table_precedence.specs.declared.precedence.Resolution.TheVariants.{Shift, Reduce, Error}
-use Rattle.lrpar_table_rows.specs.Graph.{item_at}
 use Rattle.lrpar_table_rows.specs.Table.{AreEntries, ConflictLists, IsActionEntry, IsActionWithin, IsGotoEntry, IsTable, ResolvedOf, Table, TableAction, ShiftTo, ReduceBy, Accepts, Fails, action_of, actions_at, goto_of, with_resolved}
 use Rattle.lrpar_table_rows.proofs.EntryLemmas.{entry_found}
-use Rattle.lrpar_table_items.specs.Canonical.{IsTransition, HasAfterDot}
-use Rattle.lrpar_table_items.specs.Cores.{IsAmong}
-use Rattle.lrpar_table_items.specs.ItemSets.{Own}
 use Rattle.lrpar_table_items.specs.StateRows.{action_rows, goto_rows, table_of_states, table_with}
 use Rattle.lrpar_table_items.specs.States.{AreStateRows, StateOf, state_at}
 use Rattle.lrpar_table_items.specs.Resolution.{AscendFrom, chosen, decides_at, entry_at, is_complete_at, reductions, resolved, resolved_at, resolved_row}
 use Rattle.lrpar_table_items.proofs.EntryLemmas.{lookup_past}
-use Rattle.lrpar_table_build.proofs.MemberLemmas.{member_none}
-use Rattle.lrpar_table_build.proofs.ReachedLemmas.{symbol_listed}
 use Rattle.lrpar_table_items.proofs.ResolutionLemmas.{ascend_lower}
 
 -- numbers that ascend, each above the one before

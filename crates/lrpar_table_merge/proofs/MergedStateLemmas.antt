@@ -3,11 +3,11 @@
 use Rattle.std.proofs.Common.{◌≡◌, ◌<◌, ◌+◌, ◌↔◌, refl, sym, subst, ℕ, List, Option, Some, None, length, nat_eq}
 use Rattle.std.specs.Map.{lookup}
 use Rattle.std.proofs.lemmas.List.{length-map}
-use Rattle.lrpar_grammar.specs.Grammar.{Grammar, GrammarSymbol, IsWellFormed, Nonterminal, Terminal, end_token, start_prod, tokens_len}
+use Rattle.lrpar_grammar.specs.Grammar.{Grammar, GrammarSymbol, IsWellFormed, Nonterminal, Terminal, start_prod, tokens_len}
 use Rattle.lrpar_table_precedence.specs.Precedence.{PrecedenceLists}
 use Rattle.lrpar_table_rows.specs.Graph.{Graph, HasItem, ItemOf, graph_len, item_at}
 use Rattle.lrpar_table_rows.specs.Table.{Table}
-use Rattle.lrpar_table_items.specs.Canonical.{AreSame, HasAfterDot, HasAccept, sets_of}
+use Rattle.lrpar_table_items.specs.Canonical.{AreSame, sets_of}
 use Rattle.lrpar_table_items.specs.Resolution.{IsAcceptReduce}
 use Rattle.lrpar_table_items.specs.StateRows.{IsRefusalOf, IsRefusedState, item_rows, table_of_states}
 use Rattle.lrpar_table_items.specs.States.{StateOf, sets_at, state_at}
@@ -17,8 +17,8 @@ use Rattle.lrpar_table_build.proofs.AlongLemmas.{built_along, graph_sets, refuse
 use Rattle.lrpar_table_build.proofs.SetLemmas.{before_other, before_same, same_on}
 use Rattle.lrpar_table_build.proofs.StepLemmas.{AreStatesAlong, IsStepAlong, IsTableAlong}
 use Rattle.lrpar_table_merge.specs.Held.{IsHeld}
-use Rattle.lrpar_table_merge.specs.Merged.{Along, AreMerged, IsMergedStep}
-use Rattle.lrpar_table_merge.specs.MergedBy.{HasMergedAcceptConflict, IsMergedBy, IsMergedRefusal, IsMergedTableBy}
+use Rattle.lrpar_table_merge.specs.Merged.{Along, AreMerged}
+use Rattle.lrpar_table_merge.specs.MergedBy.{IsMergedBy, IsMergedRefusal, IsMergedTableBy}
 use Rattle.lrpar_table_merge.specs.MergedStates.{AreMergedStates, steps_of_states}
 use Rattle.lrpar_table_merge.proofs.MergedHeldLemmas.{held_at_end, held_items}
 

@@ -1,6 +1,6 @@
 -- Tables of merged item sets whose conflicts are resolved by precedences.
-use Rattle.std.specs.Prelude.{◌≡◌, ◌<◌, ◌≤◌, ℕ, Option, Some, None}
-use Rattle.lrpar_grammar.specs.Grammar.{Grammar, GrammarSymbol, Nonterminal, Terminal, rules_len, tokens_len}
+use Rattle.std.specs.Prelude.{◌≡◌, ◌<◌, ◌≤◌, ℕ, Option, None}
+use Rattle.lrpar_grammar.specs.Grammar.{Grammar, GrammarSymbol, Terminal, rules_len, tokens_len}
 use Rattle.lrpar_table_precedence.specs.Precedence.{PrecedenceLists, resolution_of}
 use Rattle.lrpar_table_rows.specs.Graph.{Graph, ItemOf, graph_len}
 use Rattle.lrpar_table_rows.specs.Table.{Table, ShiftTo, ReduceBy, Accepts, Fails, action_of, goto_of, states_len}
