@@ -55,7 +55,7 @@ pub(crate) fn tables<StorageT: StorageIndex>(
 }
 
 /// The item sets of any states, canonical or merged, and the table of them, with the actions after conflict resolution by the precedences,
-/// with their conflicts, and with those that the precedences resolve.
+/// with their conflicts, and with those that the precedences resolve. There must be a state, since a table starts in number 0.
 ///
 /// It returns `AcceptReduceConflict` with a state that calls for accept and for a reduction, and `Memory` if an allocation fails. After an
 /// `Err` nothing is left of the states. It takes time proportional to the number of states times tokens times complete cores.
