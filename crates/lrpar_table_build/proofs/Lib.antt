@@ -4,9 +4,12 @@ pub mod SafeLemmas
 pub mod ConflictLemmas
 pub mod MemberLemmas
 pub mod SetLemmas
+pub mod StepLemmas
 pub mod ReductionLemmas
 pub mod TableRowLemmas
 pub mod ListedLemmas
+pub mod StateLemmas
+pub mod AlongLemmas
 pub mod BuiltLemmas
 pub mod TablesLemmas
 pub mod KeptApartLemmas

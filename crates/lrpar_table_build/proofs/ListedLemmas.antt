@@ -8,7 +8,7 @@ use Rattle.std.specs.Ordering.{nat_cmp, ordering_then}
 use Rattle.std.specs.declared.cmp.Ordering.{Ordering}
 use Rattle.std.specs.declared.cmp.Ordering.TheVariants.{Less, Equal, Greater}
 use Rattle.std.proofs.lemmas.Bool.{cond-false, cond-true, eq-eqb, le-ltb, lt-ltb}
-use Rattle.lrpar_grammar.specs.Grammar.{Grammar, Terminal, tokens_len}
+use Rattle.lrpar_grammar.specs.Grammar.{Grammar, GrammarSymbol, Terminal, tokens_len}
 use Rattle.lrpar_table_precedence.specs.Precedence.{PrecedenceLists, resolution_of}
 use Rattle.lrpar_table_precedence.specs.declared.precedence.Resolution.{Resolution}
 use Rattle.lrpar_table_rows.specs.Graph.{Graph, ItemOf, graph_len}
@@ -16,14 +16,15 @@ use Rattle.lrpar_table_rows.specs.Table.{ConflictLists, ReduceReduce, ResolvedOf
 use Rattle.lrpar_table_rows.proofs.ItemLemmas.{Contains-image, Contains-preimage}
 use Rattle.lrpar_table_build.specs.BuilderLaws.{AreConflictsBy, AreResolvedBy, lists_in}
 use Rattle.lrpar_table_build.specs.Built.{AreInOrder, AreResolvedInOrder, reduce_reduce_cmp, shift_reduce_cmp}
-use Rattle.lrpar_table_items.specs.Canonical.{AreSame, IsReduceConflict, IsShiftConflict, IsTransition, IsUnresolvedConflict, HasAfterDot, HasFirstReduce, sets_of}
+use Rattle.lrpar_table_items.specs.Canonical.{AreSame, IsReduceConflict, IsShiftConflict, IsUnresolvedConflict, HasFirstReduce, sets_of}
 use Rattle.lrpar_table_items.specs.Cores.{CoreSet, IsAmong, IsCoreOf}
 use Rattle.lrpar_table_items.specs.StateRows.{reduce_conflicts_below, shift_conflicts_below, unless_empty}
-use Rattle.lrpar_table_items.specs.States.{AreStates, StateOf, sets_at, state_at}
+use Rattle.lrpar_table_items.specs.States.{StateOf, sets_at, state_at}
 use Rattle.lrpar_table_items.specs.Resolution.{AscendFrom, reduce_conflicts, reduce_conflicts_at, reductions, resolution_with, resolutions, shift_conflicts, shift_conflicts_at, unresolved}
 use Rattle.lrpar_table_build.proofs.MemberLemmas.{filter_has, filter_member, image_has, image_member, joined_has, joined_member, member_cases, member_later, member_none, range_has, range_member, sorted_filter, sorted_first, sorted_images, sorted_joined, sorted_none}
 use Rattle.lrpar_table_build.proofs.ReductionLemmas.{first_alone, first_is, first_least, none_is, reductions_ascend, candidate_is}
 use Rattle.lrpar_table_build.proofs.SetLemmas.{before_other, before_same}
+use Rattle.lrpar_table_build.proofs.StepLemmas.{AreStatesAlong, before_step, step_before}
 
 -- numbers in order
 less_is : (a b : ℕ) → a < b → nat_cmp a b ≡ Less
@@ -354,18 +355,7 @@ first_splits g sets s cores known is t p first =
     ] in
     cases (reductions g cores t) refl
 
--- if there is a transition by a token, an item has the token after its dot
-step_before : (g : Grammar) (sets : ℕ → ItemOf → Type 0) (len s t : ℕ) (step : Option ℕ) (next : ℕ) → IsTransition g len sets s (Terminal t) step → step ≡ Some next
-    → HasAfterDot g sets s (Terminal t)
-step_before g sets len s t None next h is = absurd (cc)
-step_before g sets len s t (Some other) next h is = h.0
-
-before_step : (g : Grammar) (sets : ℕ → ItemOf → Type 0) (len s t : ℕ) (step : Option ℕ) → IsTransition g len sets s (Terminal t) step
-    → HasAfterDot g sets s (Terminal t) → (next : ℕ) × (step ≡ Some next)
-before_step g sets len s t None h before = absurd (h before)
-before_step g sets len s t (Some next) h before = (next, refl)
-
-module _ (g : Grammar) (states : List StateOf) (are : AreStates g states) (sets : ℕ → ItemOf → Type 0)
+module _ (g : Grammar) (states : List StateOf) (goes : ℕ → GrammarSymbol → ℕ → Type 0) (are : AreStatesAlong g states goes) (sets : ℕ → ItemOf → Type 0)
     (same : (s : ℕ) → AreSame (sets s) (sets_at states s)) where
   -- the listed conflicts are those of the sets
   reduce_is : (x : ReduceReduce) → x.state < length states
@@ -374,7 +364,7 @@ module _ (g : Grammar) (states : List StateOf) (are : AreStates g states) (sets 
       let s = x.state in
       let t = x.token in
       let cores = (state_at states s).cores in
-      let known = are.cores s below in
+      let known = are.rows.cores s below in
       let prods = reductions g cores t in (
         λ h.
             let up : AscendFrom 0 (x.first ∷ h.0) = subst (AscendFrom 0) h.1 (reductions_ascend g cores t) in
@@ -403,26 +393,27 @@ module _ (g : Grammar) (states : List StateOf) (are : AreStates g states) (sets 
       let s = x.state in
       let t = x.token in
       let cores = (state_at states s).cores in
-      let known = are.cores s below in
+      let known = are.rows.cores s below in
       let step = are.shifts s t below in (
         λ h. (
           before_same g sets (sets_at states) same s (Terminal t)
-              (step_before g (sets_at states) (length states) s t (lookup (nat_eq t) (state_at states s).shifts) h.0.0 step h.0.1),
+              (step_before g (sets_at states) goes s (Terminal t) (lookup (nat_eq t) (state_at states s).shifts) h.0.0 step h.0.1),
           first_is g sets s cores known (same s) t x.prod h.1.0 h.1.1,
         ),
         λ h. (
-          before_step g (sets_at states) (length states) s t (lookup (nat_eq t) (state_at states s).shifts) step
+          before_step g (sets_at states) goes s (Terminal t) (lookup (nat_eq t) (state_at states s).shifts) step
               (before_other g sets (sets_at states) same s (Terminal t) h.0),
           first_splits g sets s cores known (same s) t x.prod h.1,
         ),
       )
 
 -- so they are those of a graph that has the same items
-pub conflicts_are : (precedences : PrecedenceLists) (g : Grammar) (states : List StateOf) → AreStates g states → (graph : Graph) → graph_len graph ≡ length states
+pub conflicts_are : (precedences : PrecedenceLists) (g : Grammar) (states : List StateOf) (goes : ℕ → GrammarSymbol → ℕ → Type 0) → AreStatesAlong g states goes
+    → (graph : Graph) → graph_len graph ≡ length states
     → ((s : ℕ) → AreSame (sets_of graph s) (sets_at states s))
     → AreConflictsBy g precedences graph
     (unless_empty (reduce_conflicts_below g states (length states)) (unresolved precedences (shift_conflicts_below g states (length states))))
-conflicts_are precedences g states are graph len same =
+conflicts_are precedences g states goes are graph len same =
     let n = length states in
     let xs = reduce_conflicts_below g states n in
     let met = shift_conflicts_below g states n in
@@ -432,36 +423,37 @@ conflicts_are precedences g states are graph len same =
           subst (λ (lists : ConflictLists). Contains lists.reduce_reduce x
           ↔ ((x.state < graph_len graph) × (x.token < tokens_len g) × IsReduceConflict g (sets_of graph) x)) (sym (unless_empty_is xs ys)) (
             λ h. let one = at_states g states n x h in
-                (subst (λ k. x.state < k) (sym len) one.0, one.1, (reduce_is g states are (sets_of graph) same x one.0).0 one.2),
+                (subst (λ k. x.state < k) (sym len) one.0, one.1, (reduce_is g states goes are (sets_of graph) same x one.0).0 one.2),
             λ h. let below = subst (λ k. x.state < k) len h.0 in
-                states_have g states n x below h.1 ((reduce_is g states are (sets_of graph) same x below).1 h.2),
+                states_have g states n x below h.1 ((reduce_is g states goes are (sets_of graph) same x below).1 h.2),
           );
       shift_reduce = λ x.
           subst (λ (lists : ConflictLists). Contains lists.shift_reduce x
           ↔ ((x.state < graph_len graph) × (x.token < tokens_len g) × IsUnresolvedConflict g precedences (sets_of graph) x)) (sym (unless_empty_is xs ys)) (
             λ h. let kept = (unresolved_are precedences met x).0 h in
                 let one = shifts_at_states g states n x kept.0 in
-                (subst (λ k. x.state < k) (sym len) one.0, one.1, ((shift_is g states are (sets_of graph) same x one.0).0 one.2, kept.1)),
+                (subst (λ k. x.state < k) (sym len) one.0, one.1, ((shift_is g states goes are (sets_of graph) same x one.0).0 one.2, kept.1)),
             λ h. let below = subst (λ k. x.state < k) len h.0 in
                 (unresolved_are precedences met x).1
-                (shifts_states_have g states n x below h.1 ((shift_is g states are (sets_of graph) same x below).1 h.2.0), h.2.1),
+                (shifts_states_have g states n x below h.1 ((shift_is g states goes are (sets_of graph) same x below).1 h.2.0), h.2.1),
           );
       some = λ lists is none nothing. unless_empty_some xs ys lists is none nothing;
     }
 
 -- and so are the resolved ones
-pub resolved_are : (precedences : PrecedenceLists) (g : Grammar) (states : List StateOf) → AreStates g states → (graph : Graph) → graph_len graph ≡ length states
+pub resolved_are : (precedences : PrecedenceLists) (g : Grammar) (states : List StateOf) (goes : ℕ → GrammarSymbol → ℕ → Type 0) → AreStatesAlong g states goes
+    → (graph : Graph) → graph_len graph ≡ length states
     → ((s : ℕ) → AreSame (sets_of graph s) (sets_at states s))
     → AreResolvedBy g precedences graph (resolutions precedences (shift_conflicts_below g states (length states)))
-resolved_are precedences g states are graph len same x =
+resolved_are precedences g states goes are graph len same x =
     let n = length states in
     let met = shift_conflicts_below g states n in (
       λ h.
           let kept = (resolutions_are precedences met x).0 h in
           let one = shifts_at_states g states n x.conflict kept.0 in
-          (subst (λ k. x.conflict.state < k) (sym len) one.0, one.1, ((shift_is g states are (sets_of graph) same x.conflict one.0).0 one.2, kept.1)),
+          (subst (λ k. x.conflict.state < k) (sym len) one.0, one.1, ((shift_is g states goes are (sets_of graph) same x.conflict one.0).0 one.2, kept.1)),
       λ h.
           let below = subst (λ k. x.conflict.state < k) len h.0 in
           (resolutions_are precedences met x).1
-          (shifts_states_have g states n x.conflict below h.1 ((shift_is g states are (sets_of graph) same x.conflict below).1 h.2.0), h.2.1),
+          (shifts_states_have g states n x.conflict below h.1 ((shift_is g states goes are (sets_of graph) same x.conflict below).1 h.2.0), h.2.1),
     )

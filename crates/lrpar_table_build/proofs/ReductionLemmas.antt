@@ -5,14 +5,15 @@ use Rattle.std.specs.List.{Contains, range_with_len}
 use Rattle.std.proofs.lemmas.Bool.{and_from, and_parts, cases_Bool, eq-eqb, eqb-true}
 use Rattle.std.proofs.lemmas.List.Elements.{All-contains}
 use Rattle.std.proofs.lemmas.List.Folds.{Any-from_list_any, list_any-from_Any}
-use Rattle.lrpar_grammar.specs.Grammar.{Grammar, Nonterminal, Terminal, prod_len, start_prod}
+use Rattle.lrpar_grammar.specs.Grammar.{Grammar, GrammarSymbol, Nonterminal, Terminal, prod_len, start_prod}
 use Rattle.lrpar_table_precedence.specs.Precedence.{PrecedenceLists, resolution_of}
 use Rattle.lrpar_table_rows.specs.Graph.{ItemOf, item_at}
 use Rattle.lrpar_table_rows.specs.Table.{ReduceBy, Table, action_of, goto_of}
-use Rattle.lrpar_table_items.specs.Canonical.{ActsByPrecedence, AreSame, GoesAsItems, IsTransition, HasAccept, HasFirstReduce, HasReduce}
+use Rattle.lrpar_table_items.specs.Canonical.{AreSame, HasAccept, HasFirstReduce, HasReduce}
 use Rattle.lrpar_table_items.specs.Cores.{CoreSet, IsAmong, IsCoreOf}
 use Rattle.lrpar_grammar.specs.Tokens.{has}
 use Rattle.lrpar_table_items.specs.Resolution.{AscendFrom, chosen, decides_at, is_complete, is_complete_at, reductions, resolved}
+use Rattle.lrpar_table_build.proofs.StepLemmas.{ActsAlong, GoesAlong, IsStepAlong}
 use Rattle.lrpar_table_build.proofs.MemberLemmas.{filter_has, filter_member, member_cases, member_first, member_none, range_has, range_member}
 use Rattle.lrpar_table_items.proofs.ResolutionLemmas.{ascend_lower}
 
@@ -112,26 +113,27 @@ module _ (g : Grammar) (sets : ℕ → ItemOf → Type 0) (s : ℕ) (cores : Lis
   )
 
   -- so a table with the actions that are computed from cores and shifts has those after conflict resolution
-  pub acts_by_precedence : (lists : PrecedenceLists) (len t : ℕ) (table : Table) (shift : Option ℕ) (prods : List ℕ) (accepts : Bool) → prod_len g (start_prod g) ≡ 1
-      → IsTransition g len sets s (Terminal t) shift → reductions g cores t ≡ prods → is_complete_at g cores t (start_prod g) ≡ accepts
-      → action_of table s t ≡ resolved (decides_at lists t) shift prods accepts → ActsByPrecedence g lists sets table s t
-  acts_by_precedence lists len t table (Some next) [] accepts one step reduces ends does = record {
+  pub acts_along : (lists : PrecedenceLists) (goes : ℕ → GrammarSymbol → ℕ → Type 0) (t : ℕ) (table : Table) (shift : Option ℕ) (prods : List ℕ) (accepts : Bool)
+      → prod_len g (start_prod g) ≡ 1 → IsStepAlong g sets goes s (Terminal t) shift → reductions g cores t ≡ prods
+      → is_complete_at g cores t (start_prod g) ≡ accepts → action_of table s t ≡ resolved (decides_at lists t) shift prods accepts
+      → ActsAlong g lists sets goes table s t
+  acts_along lists goes t table (Some next) [] accepts one step reduces ends does = record {
     meets = λ _ p first. absurd (none_is t p reduces first.0);
-    shifts = λ _ _. (next, does, step.2);
+    shifts = λ _ _. (next, does, step.1);
     reduces = λ none. absurd (none step.0);
     accepts = λ none. absurd (none step.0);
     fails = λ none. absurd (none step.0);
   }
-  acts_by_precedence lists len t table (Some next) (p ∷ later) accepts one step reduces ends does =
+  acts_along lists goes t table (Some next) (p ∷ later) accepts one step reduces ends does =
       let first = first_is t p later reduces in
       record {
-        meets = λ _ q other. (next, does ∙ ap (λ n. chosen (resolution_of lists n t) next n) (first_alone t p q first other), step.2);
+        meets = λ _ q other. (next, does ∙ ap (λ n. chosen (resolution_of lists n t) next n) (first_alone t p q first other), step.1);
         shifts = λ _ no_reduction. absurd (no_reduction p first.0);
         reduces = λ none. absurd (none step.0);
         accepts = λ none. absurd (none step.0);
         fails = λ none. absurd (none step.0);
       }
-  acts_by_precedence lists len t table None (p ∷ later) accepts one step reduces ends does =
+  acts_along lists goes t table None (p ∷ later) accepts one step reduces ends does =
       let first = first_is t p later reduces in
       record {
         meets = λ before. absurd (step before);
@@ -140,14 +142,14 @@ module _ (g : Grammar) (sets : ℕ → ItemOf → Type 0) (s : ℕ) (cores : Lis
         accepts = λ none no_reduction. absurd (no_reduction p first.0);
         fails = λ none no_reduction. absurd (no_reduction p first.0);
       }
-  acts_by_precedence lists len t table None [] true one step reduces ends does = record {
+  acts_along lists goes t table None [] true one step reduces ends does = record {
     meets = λ before. absurd (step before);
     shifts = λ before. absurd (step before);
     reduces = λ none q first. absurd (none_is t q reduces first.0);
     accepts = λ none no_reduction accept. does;
     fails = λ none no_reduction no_accept. absurd (no_accept ((accept_is t one).1 ends));
   }
-  acts_by_precedence lists len t table None [] false one step reduces ends does = record {
+  acts_along lists goes t table None [] false one step reduces ends does = record {
     meets = λ before. absurd (step before);
     shifts = λ before. absurd (step before);
     reduces = λ none q first. absurd (none_is t q reduces first.0);
@@ -156,7 +158,7 @@ module _ (g : Grammar) (sets : ℕ → ItemOf → Type 0) (s : ℕ) (cores : Lis
   }
 
 -- and a table with the transitions by rules has the gotos of the item sets
-pub goes_as_items : (g : Grammar) (sets : ℕ → ItemOf → Type 0) (len s r : ℕ) (table : Table) (goto : Option ℕ)
-    → IsTransition g len sets s (Nonterminal r) goto → goto_of table s r ≡ goto → GoesAsItems g sets table s r
-goes_as_items g sets len s r table None step does = record { goes = λ before. absurd (step before); stays = λ none. does }
-goes_as_items g sets len s r table (Some next) step does = record { goes = λ before. (next, does, step.2); stays = λ none. absurd (none step.0) }
+pub goes_along : (g : Grammar) (sets : ℕ → ItemOf → Type 0) (goes : ℕ → GrammarSymbol → ℕ → Type 0) (s r : ℕ) (table : Table) (goto : Option ℕ)
+    → IsStepAlong g sets goes s (Nonterminal r) goto → goto_of table s r ≡ goto → GoesAlong g sets goes table s r
+goes_along g sets goes s r table None step does = record { goes_on = λ before. absurd (step before); stays = λ none. does }
+goes_along g sets goes s r table (Some next) step does = record { goes_on = λ before. (next, does, step.1); stays = λ none. absurd (none step.0) }

@@ -1,13 +1,13 @@
 -- Numbered sets that have the same items: what holds of one holds of the other. And the sets of rows of items, which are those of
 -- the cores that the rows were made of.
-use Rattle.std.proofs.Common.{◌≡◌, ◌<◌, ◌↔◌, ◌∙◌, sym, ap, subst, inl, inr, arith, ℕ, true, List, [], Option, Some, None, filter, length}
+use Rattle.std.proofs.Common.{◌≡◌, ◌<◌, ◌↔◌, ◌∙◌, sym, ap, subst, inl, inr, arith, ℕ, true, List, [], filter, length}
 use Rattle.std.specs.List.{Contains, range_with_len}
 use Rattle.std.proofs.lemmas.Bool.{cases_lt}
 use Rattle.std.proofs.lemmas.List.{get_or-map, get_or_past, length-map}
-use Rattle.lrpar_grammar.specs.Grammar.{Grammar, GrammarSymbol, IsWellFormed, tokens_len}
+use Rattle.lrpar_grammar.specs.Grammar.{Grammar, GrammarSymbol, tokens_len}
 use Rattle.lrpar_table_rows.specs.Graph.{Graph, HasItem, ItemOf, item_at, items_of}
 use Rattle.lrpar_table_rows.proofs.ItemLemmas.{Contains-image, Contains-preimage}
-use Rattle.lrpar_table_items.specs.Canonical.{AreCanonical, AreSame, IsTransition, LeadsTo, HasAfterDot, sets_of}
+use Rattle.lrpar_table_items.specs.Canonical.{AreCanonical, AreSame, LeadsTo, HasAfterDot, sets_of}
 use Rattle.lrpar_table_items.specs.Cores.{CoreSet, IsAmong}
 use Rattle.lrpar_table_items.specs.ItemSets.{Added, IsAdvanced, IsInClosure, IsInNext, IsReachedBy, Own}
 use Rattle.lrpar_table_items.specs.StateRows.{item_rows}
@@ -15,7 +15,6 @@ use Rattle.lrpar_table_items.specs.States.{StateOf, sets_at, state_at}
 use Rattle.lrpar_grammar.specs.Tokens.{has}
 use Rattle.lrpar_table_items.specs.CompleteItems.{items_of_core, items_of_cores}
 use Rattle.lrpar_table_build.proofs.MemberLemmas.{filter_has, filter_member, joined_has, joined_member, member_none, range_has, range_member}
-use Rattle.lrpar_table_build.proofs.ReachedLemmas.{reached_items}
 
 -- having the same items is symmetric
 pub same_back : (items others : ItemOf → Type 0) → AreSame items others → AreSame others items
@@ -50,10 +49,6 @@ module _ (g : Grammar) (sets others : ℕ → ItemOf → Type 0) (same : (s : �
     λ there. next_more g (others s) (sets s) symbol (λ y. (same s y).1) x ((h x).0 ((same next x).0 there)),
     λ there. (same next x).1 ((h x).1 (next_more g (sets s) (others s) symbol (λ y. (same s y).0) x there)),
   )
-
-  pub step_same : (len s : ℕ) (symbol : GrammarSymbol) (step : Option ℕ) → IsTransition g len others s symbol step → IsTransition g len sets s symbol step
-  step_same len s symbol None none = λ before. none (before_other s symbol before)
-  step_same len s symbol (Some next) h = (before_same s symbol h.0, h.1, leads_same s symbol next h.2)
 
   -- both are the canonical collection
   pub canonical_same : (len : ℕ) → AreCanonical g len others → AreCanonical g len sets
@@ -103,16 +98,15 @@ module _ (g : Grammar) (states : List StateOf) where
   row_at : (s : ℕ) → s < length states → items_of (item_rows g states) s ≡ items_of_cores (tokens_len g) (state_at states s).cores
   row_at s below = get_or-map (λ (state : StateOf). items_of_cores (tokens_len g) state.cores) states s _ [] below
 
-  -- the rows have the items of the canonical collection
-  pub rows_same : IsWellFormed g → AreCanonical g (length states) (sets_at states) → (s : ℕ) → AreSame (sets_of (item_rows g states) s) (sets_at states s)
-  rows_same well are s x =
+  -- the rows have the items of the states, if their lookaheads are tokens
+  pub rows_same : ((s : ℕ) (x : ItemOf) → s < length states → sets_at states s x → x.token < tokens_len g)
+      → (s : ℕ) → AreSame (sets_of (item_rows g states) s) (sets_at states s)
+  rows_same tokens s x =
       elim (cases_lt s (length states)) as (λ _. sets_of (item_rows g states) s x ↔ sets_at states s x) [
         | inl below ↦ (
           λ h. ((cores_items (tokens_len g) (state_at states s).cores x).0 (subst (λ (xs : List ItemOf). Contains xs x) (row_at s below) h)).0,
-          λ h.
-              let reached = are.reached s below in
-              let item = reached_items g well reached.0 x ((reached.1 x).0 h) in
-              subst (λ (xs : List ItemOf). Contains xs x) (sym (row_at s below)) ((cores_items (tokens_len g) (state_at states s).cores x).1 (h, item.token)),
+          λ h. subst (λ (xs : List ItemOf). Contains xs x) (sym (row_at s below))
+              ((cores_items (tokens_len g) (state_at states s).cores x).1 (h, tokens s x below h)),
         )
         | inr past ↦
             let long = length-map states (λ (state : StateOf). items_of_cores (tokens_len g) state.cores) in

@@ -3,26 +3,20 @@ use Rattle.std.proofs.Common.{◌≡◌, ◌≢◌, ◌<◌, ◌≤◌, ◌+◌,
 use Rattle.std.specs.List.{Contains, flat_map, range_with_len}
 use Rattle.std.specs.List.Sorted.{IsStrictlyIncreasing}
 use Rattle.std.specs.Map.{keys_of, lookup}
-use Rattle.std.proofs.lemmas.Bool.{cases_eq, cases_lt, eq-eqb, ne_eqb}
-use Rattle.std.proofs.lemmas.List.{get_or-map, get_or_past, length-map}
+use Rattle.std.proofs.lemmas.Bool.{cases_eq, eq-eqb, ne_eqb}
+use Rattle.std.proofs.lemmas.List.{get_or-map, length-map}
 use Rattle.std.proofs.lemmas.List.Elements.{All-append, All-cons, All-nil, Contains-get_or}
 use Rattle.std.proofs.lemmas.Map.Entries.{lookup_head, lookup_tail}
-use Rattle.lrpar_grammar.specs.Grammar.{Grammar, GrammarSymbol, IsWellFormed, Nonterminal, Terminal, end_token, rules_len, start_prod, tokens_len}
+use Rattle.lrpar_grammar.specs.Grammar.{Grammar, rules_len, start_prod, tokens_len}
 use Rattle.lrpar_table_precedence.specs.Precedence.{PrecedenceLists}
 use Rattle.lrpar_table_precedence.specs.declared.precedence.Resolution.{Resolution}
 use Rattle.lrpar_table_precedence.specs.declared.precedence.Resolution.TheVariants.{Shift, Reduce, Error}
-use Rattle.lrpar_table_rows.specs.Graph.{item_at}
 use Rattle.lrpar_table_rows.specs.Table.{AreEntries, ConflictLists, IsActionEntry, IsActionWithin, IsGotoEntry, IsTable, ResolvedOf, Table, TableAction, ShiftTo, ReduceBy, Accepts, Fails, action_of, actions_at, goto_of, with_resolved}
 use Rattle.lrpar_table_rows.proofs.EntryLemmas.{entry_found}
-use Rattle.lrpar_table_items.specs.Canonical.{IsTransition, HasAfterDot}
-use Rattle.lrpar_table_items.specs.Cores.{IsAmong}
-use Rattle.lrpar_table_items.specs.ItemSets.{Own}
 use Rattle.lrpar_table_items.specs.StateRows.{action_rows, goto_rows, table_of_states, table_with}
-use Rattle.lrpar_table_items.specs.States.{AreStates, StateOf, sets_at, state_at}
+use Rattle.lrpar_table_items.specs.States.{AreStateRows, StateOf, state_at}
 use Rattle.lrpar_table_items.specs.Resolution.{AscendFrom, chosen, decides_at, entry_at, is_complete_at, reductions, resolved, resolved_at, resolved_row}
 use Rattle.lrpar_table_items.proofs.EntryLemmas.{lookup_past}
-use Rattle.lrpar_table_build.proofs.MemberLemmas.{member_none}
-use Rattle.lrpar_table_build.proofs.ReachedLemmas.{symbol_listed}
 use Rattle.lrpar_table_items.proofs.ResolutionLemmas.{ascend_lower}
 
 -- numbers that ascend, each above the one before
@@ -124,47 +118,13 @@ All-map_at P f xs e each k d below =
     let within : k < length xs = omega (arith, below, length-map xs f) in
     subst P (sym (get_or-map f xs k e d within)) (each k within)
 
-module _ (g : Grammar) (states : List StateOf) (are : AreStates g states) (well : IsWellFormed g) where
-  -- there is a state
-  pub some_state : 0 < length states
-  some_state =
-      elim (cases_lt 0 (length states)) as (λ _. 0 < length states) [
-        | inl some ↦ some
-        | inr none ↦
-            let start = item_at (start_prod g) 0 (end_token g) in
-            let there = (are.canonical.start start).1 (Own start refl) in
-            let empty : state_at states 0 ≡ record { cores = []; gotos = []; shifts = [] } = get_or_past states 0 _ none in
-            let among : IsAmong [] start = subst (λ (state : StateOf). IsAmong state.cores start) empty there in
-            absurd (member_none among.0 among.1)
-      ]
-
-  -- what a transition says
-  step_some : (s : ℕ) (symbol : GrammarSymbol) (step : Option ℕ) (next : ℕ) → IsTransition g (length states) (sets_at states) s symbol step → step ≡ Some next
-      → HasAfterDot g (sets_at states) s symbol × (next < length states)
-  step_some s symbol None next h is = absurd (cc)
-  step_some s symbol (Some other) next h is = let same : other ≡ next = cc in (h.0, subst (λ n. n < length states) same h.1)
-
+module _ (g : Grammar) (states : List StateOf) where
   -- the goto by a rule is that of the state
   pub goto_is : (table : Table) (s r : ℕ) → s < length states → table.gotos ≡ goto_rows states → goto_of table s r ≡ lookup (nat_eq r) (state_at states s).gotos
   unfolding goto_of
   goto_is table s r below is =
       ap (λ (rows : List (List (ℕ × ℕ))). lookup (nat_eq r) (slice_index_or rows s [])) is
       ∙ ap (λ (row : List (ℕ × ℕ)). lookup (nat_eq r) row) (get_or-map (λ (state : StateOf). state.gotos) states s _ [] below)
-
-  goto_entries : (s : ℕ) → s < length states → AreEntries (IsGotoEntry (rules_len g) (length states)) (state_at states s).gotos
-  goto_entries s below =
-      let row = (state_at states s).gotos in
-      let up = increasing_from 0 (keys_of row) (are.gotos_ascend s below) in
-      record {
-        ascending = up;
-        each = All-from_member (IsGotoEntry (rules_len g) (length states)) row (λ entry there.
-            let found = (entry_found row entry.0 entry.1 up).0 there in
-            let step = step_some s (Nonterminal entry.0) _ entry.1 (are.gotos s entry.0 below) found in
-            record {
-              rule = (symbol_listed g well step.0.0.prod step.0.0.dot (Nonterminal entry.0) step.0.2).1;
-              within = step.1;
-            });
-      }
 
   module _ (lists : PrecedenceLists) where
     action_row : (s : ℕ) → s < length states
@@ -179,31 +139,44 @@ module _ (g : Grammar) (states : List StateOf) (are : AreStates g states) (well 
         ap (λ (row : List (ℕ × TableAction)). unwrap_or (lookup (nat_eq t) row) Fails) (action_row s below)
         ∙ row_lookup (resolved_at lists g (state_at states s).cores (state_at states s).shifts) 0 (tokens_len g) t (omega arith) (omega (arith, within))
 
-    action_entries : (s : ℕ) → s < length states
-        → AreEntries (IsActionEntry (tokens_len g) (length states)) (resolved_row lists g (state_at states s).cores (state_at states s).shifts)
-    action_entries s below =
-        let f = resolved_at lists g (state_at states s).cores (state_at states s).shifts in
+  module _ (are : AreStateRows g states) where
+    goto_entries : (s : ℕ) → s < length states → AreEntries (IsGotoEntry (rules_len g) (length states)) (state_at states s).gotos
+    goto_entries s below =
+        let row = (state_at states s).gotos in
+        let up = increasing_from 0 (keys_of row) (are.gotos_ascend s below) in
         record {
-          ascending = increasing_from 0 _ (row_ascends f 0 (tokens_len g));
-          each = row_each f (tokens_len g) (length states) 0 (tokens_len g) (omega arith) (λ t within.
-              resolved_within (decides_at lists t) (length states) (lookup (nat_eq t) (state_at states s).shifts) (reductions g (state_at states s).cores t)
-              (is_complete_at g (state_at states s).cores t (start_prod g)) (λ next is. (step_some s (Terminal t) _ next (are.shifts s t below) is).1));
+          ascending = up;
+          each = All-from_member (IsGotoEntry (rules_len g) (length states)) row (λ entry there.
+              let fits = are.gotos_fit s entry.0 entry.1 below ((entry_found row entry.0 entry.1 up).0 there) in
+              record { rule = fits.0; within = fits.1 });
         }
 
-    -- so the rows are those of a table
-    pub is_table : (limit : ℕ) (conflicts : Option ConflictLists) (others : List ResolvedOf) → length states ≤ limit → tokens_len g ≤ limit → rules_len g ≤ limit
-        → IsTable limit (table_with g states (action_rows lists g states) conflicts others)
-    is_table limit conflicts others states_fit tokens_fit rules_fit = record {
-      actions_len = length-map states (λ (state : StateOf). resolved_row lists g state.cores state.shifts);
-      gotos_len = length-map states (λ (state : StateOf). state.gotos);
-      states_fit = states_fit;
-      tokens_fit = tokens_fit;
-      rules_fit = rules_fit;
-      start_within = some_state;
-      actions = All-map_at (AreEntries (IsActionEntry (tokens_len g) (length states))) (λ (state : StateOf). resolved_row lists g state.cores state.shifts) states _
-          action_entries;
-      gotos = All-map_at (AreEntries (IsGotoEntry (rules_len g) (length states))) (λ (state : StateOf). state.gotos) states _ goto_entries;
-    }
+    module _ (lists : PrecedenceLists) where
+      action_entries : (s : ℕ) → s < length states
+          → AreEntries (IsActionEntry (tokens_len g) (length states)) (resolved_row lists g (state_at states s).cores (state_at states s).shifts)
+      action_entries s below =
+          let f = resolved_at lists g (state_at states s).cores (state_at states s).shifts in
+          record {
+            ascending = increasing_from 0 _ (row_ascends f 0 (tokens_len g));
+            each = row_each f (tokens_len g) (length states) 0 (tokens_len g) (omega arith) (λ t within.
+                resolved_within (decides_at lists t) (length states) (lookup (nat_eq t) (state_at states s).shifts) (reductions g (state_at states s).cores t)
+                (is_complete_at g (state_at states s).cores t (start_prod g)) (λ next is. (are.shifts_fit s t next below is).1));
+          }
+
+      -- so the rows are those of a table, if there is a state
+      pub is_table : 0 < length states → (limit : ℕ) (conflicts : Option ConflictLists) (others : List ResolvedOf) → length states ≤ limit → tokens_len g ≤ limit
+          → rules_len g ≤ limit → IsTable limit (table_with g states (action_rows lists g states) conflicts others)
+      is_table some limit conflicts others states_fit tokens_fit rules_fit = record {
+        actions_len = length-map states (λ (state : StateOf). resolved_row lists g state.cores state.shifts);
+        gotos_len = length-map states (λ (state : StateOf). state.gotos);
+        states_fit = states_fit;
+        tokens_fit = tokens_fit;
+        rules_fit = rules_fit;
+        start_within = some;
+        actions = All-map_at (AreEntries (IsActionEntry (tokens_len g) (length states))) (λ (state : StateOf). resolved_row lists g state.cores state.shifts) states _
+            action_entries;
+        gotos = All-map_at (AreEntries (IsGotoEntry (rules_len g) (length states))) (λ (state : StateOf). state.gotos) states _ goto_entries;
+      }
 
 -- other resolved conflicts don't change what a table is
 pub with_resolved_is : (limit : ℕ) (table : Table) (others : List ResolvedOf) → IsTable limit table → IsTable limit (with_resolved table others)

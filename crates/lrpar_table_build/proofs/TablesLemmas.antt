@@ -1,5 +1,5 @@
 -- The loops over states: what one more state adds to the rows, and the rows of all states together.
-use Rattle.std.proofs.Common.{◌≡◌, ◌<◌, ◌+◌, ◌++◌, ◌∷◌, ◌∙◌, ℕ, List, [], All, Option, sym, ap, subst, get_or, length, map, take}
+use Rattle.std.proofs.Common.{◌≡◌, ◌<◌, ◌+◌, ◌++◌, ◌∷◌, ◌∙◌, ℕ, List, [], All, Err, IfOk, Ok, Option, Result, sym, ap, subst, get_or, length, map, take}
 use Rattle.std.specs.Map.{keys_of}
 use Rattle.std.proofs.lemmas.List.{get_or-map, map-append}
 use Rattle.lrpar_grammar.specs.Grammar.{Grammar, prods_len, rules_len, tokens_len}
@@ -8,7 +8,7 @@ use Rattle.lrpar_table_precedence.specs.Precedence.{PrecedenceLists}
 use Rattle.lrpar_table_rows.specs.Table.{ConflictLists, ReduceReduce, ResolvedOf, ShiftReduce, Table, TableAction}
 use Rattle.lrpar_table_items.specs.Cores.{CoreSet}
 use Rattle.lrpar_table_items.specs.StateRows.{IsRefusalOf, action_rows, conflicts_of_states, goto_rows, reduce_conflicts_below, resolved_of_states, shift_conflicts_below, table_of_states, table_with, unless_empty}
-use Rattle.lrpar_table_items.specs.States.{AreStates, StateOf, state_at}
+use Rattle.lrpar_table_items.specs.States.{AreStateRows, StateOf, state_at}
 use Rattle.lrpar_table_items.specs.Resolution.{AreOnce, AscendFrom, IsRefusal, unresolved}
 use Rattle.lrpar_table_items.specs.declared.fault.BuildFault.{BuildFault}
 use Rattle.lrpar_table_items.specs.declared.fault.BuildFault.TheVariants.{AcceptReduceConflict, Memory, StorageTooSmall, TooManyStates}
@@ -25,7 +25,7 @@ row_more view f h xs i x made pushed row within is so_far more same =
     ap (map view) more ∙ map-append view made (row ∷ []) ∙ ap (λ s. s ++ view row ∷ []) so_far ∙ ap (λ z. map h (map f (take i xs)) ++ z ∷ []) same
     ∙ sym (ap (map h) (map-take_more f xs i x within is) ∙ map-append h (map f (take i xs)) (f x ∷ []))
 
-module _ (g : Grammar) (states : List StateOf) (are : AreStates g states) (s : ℕ) (state : StateOf) (below : s < length states)
+module _ (g : Grammar) (states : List StateOf) (are : AreStateRows g states) (s : ℕ) (state : StateOf) (below : s < length states)
     (is : state_at states s ≡ state) where
   -- what a state's row requires of its cores and its shifts
   pub cores_known : All (λ (core : CoreSet). core.prod < prods_len g) state.cores
@@ -83,3 +83,9 @@ pub table_by : (lists : PrecedenceLists) (g : Grammar) (states : List StateOf) (
 table_by lists g states actions conflicts others actions_are kept resolved =
     ap (λ a. table_with g states a conflicts others) actions_are ∙ ap (λ c. table_with g states (action_rows lists g states) c others) kept
     ∙ ap (table_with g states (action_rows lists g states) (conflicts_of_states lists g states)) resolved
+
+-- what follows from four facts about a value that is made
+pub ok_four : {T E : Type 0} (r : Result T E) (P Q R S U : T → Type 0) → ((x : T) → P x → Q x → R x → S x → U x) → IfOk r P → IfOk r Q → IfOk r R → IfOk r S
+    → IfOk r U
+ok_four (Ok x) P Q R S U f p q r s = f x p q r s
+ok_four (Err e) P Q R S U f p q r s = tt

@@ -3,4 +3,4 @@
 
 pub mod build;
 pub mod laws;
-mod tables;
+pub mod tables;

@@ -1,14 +1,15 @@
-//! The state graph and the table of the canonical collection.
+//! The state graph and the table of states: of the canonical collection, and of any item sets.
 ghost use Rattle.std.specs.Prelude.{◌≡◌, ◌≢◌, ◌<◌, ◌≤◌, ◌↔◌, ◌++◌, ℕ, [], IfErr, IfOk, OnOk, length, map};
-ghost use Rattle.lrpar_grammar.specs.Grammar.{IsWellFormed, tokens_len};
+ghost use Rattle.lrpar_grammar.specs.Grammar.{tokens_len};
 ghost use Rattle.lrpar_table_rows.specs.Graph.{HasItem, graph_len};
 ghost use Rattle.lrpar_table_rows.specs.PlainConflicts.{reduce_reduce_of, resolved_conflict_of, shift_reduce_of};
 ghost use Rattle.lrpar_table_rows.specs.PlainRows.{action_entry, goto_entry, sparse_table_of};
 ghost use Rattle.lrpar_table_rows.specs.Table.{IsTable};
 ghost use Rattle.lrpar_table_build.specs.Built.{IsBuiltBy};
+ghost use Rattle.lrpar_table_items.specs.StateRows as spec;
 ghost use Rattle.lrpar_table_items.specs.StateRows.{IsRefusalOf, IsRefusedState, action_rows, conflicts_of_states, goto_rows, item_rows, reduce_conflicts_below, resolved_of_states, shift_conflicts_below, table_with, unless_empty};
 ghost use Rattle.lrpar_table_precedence.specs.Precedence.{PrecedenceLists};
-ghost use Rattle.lrpar_table_items.specs.States.{AreStates, state_at, state_of};
+ghost use Rattle.lrpar_table_items.specs.States.{AreStateRows, AreStates, state_at, state_of};
 ghost use Rattle.lrpar_table_items.specs.Resolution.{IsAcceptReduce, resolutions, unresolved};
 ghost use Rattle.lrpar_table_items.specs.declared.fault.BuildFault.TheVariants.{Memory};
 ghost use Rattle.lrpar_table_rows.specs.declared.fault.TableFault.{TableFault};
@@ -50,6 +51,31 @@ pub(crate) fn tables<StorageT: StorageIndex>(
     ensures refused { IfErr result (IsRefusalOf (length states.items) (IsRefusedState grm.now (map (state_of StorageT.index) states.items))) }
 {
     let _start = grm.start_prod();
+    state_tables(alloc, grm, precedences, states)
+}
+
+/// The item sets of any states, canonical or merged, and the table of them, with the actions after conflict resolution by the precedences,
+/// with their conflicts, and with those that the precedences resolve. There must be a state, since a table starts in number 0.
+///
+/// It returns `AcceptReduceConflict` with a state that calls for accept and for a reduction, and `Memory` if an allocation fails. After an
+/// `Err` nothing is left of the states. It takes time proportional to the number of states times tokens times complete cores.
+pub fn state_tables<StorageT: StorageIndex>(
+    alloc: Global,
+    grm: &YaccGrammar<StorageT>,
+    precedences: &Precedences,
+    states: Vec<State<StorageT>>,
+) -> Result<(StateGraph<StorageT>, StateTable<StorageT>), BuildFault>
+    requires rows { AreStateRows grm.now (map (state_of StorageT.index) states.items) }
+    requires some { 0 < length states.items }
+    requires fit { length states.items ≤ StorageT.limit }
+    ensures len { IfOk result (λ built. graph_len built.0 ≡ length states.items) }
+    ensures items { IfOk result (λ built. (s p k t : ℕ)
+        → HasItem built.0 s p k t ↔ HasItem (item_rows grm.now (map (state_of StorageT.index) states.items)) s p k t) }
+    ensures table { IfOk result (λ built. built.1 ≡ spec.table_of_states precedences.now grm.now (map (state_of StorageT.index) states.items)) }
+    ensures none { IfOk result (λ _. (s t : ℕ) → s < length states.items → t < tokens_len grm.now
+        → ¬ (let state = state_at (map (state_of StorageT.index) states.items) s in IsAcceptReduce grm.now state.cores state.shifts t)) }
+    ensures refused { IfErr result (IsRefusalOf (length states.items) (IsRefusedState grm.now (map (state_of StorageT.index) states.items))) }
+{
     let (actions, conflicts, resolved) = all_actions(alloc, grm, precedences, &states)?;
     let graph = graph_of(alloc, grm, &states)?;
     let table = table_of_states(alloc, grm, states, actions, conflicts)?;
@@ -70,7 +96,7 @@ fn all_actions<StorageT: StorageIndex>(
     ),
     BuildFault,
 >
-    requires states { AreStates grm.now (map (state_of StorageT.index) states.now) }
+    requires rows { AreStateRows grm.now (map (state_of StorageT.index) states.now) }
     requires fit { length states.now ≤ StorageT.limit }
     ensures rows { IfOk result (λ made. map (λ row. map (action_entry StorageT.index) row.items) made.0.items
         ≡ action_rows precedences.now grm.now (map (state_of StorageT.index) states.now)) }
@@ -106,7 +132,7 @@ fn rows_of_actions<StorageT: StorageIndex>(
     sr: &mut Vec<ShiftReduce<StorageT>>,
     resolved: &mut Vec<ResolvedConflict<StorageT>>,
 ) -> Result<Vec<ActionRow<StorageT>>, BuildFault>
-    requires states { AreStates grm.now (map (state_of StorageT.index) states.now) }
+    requires rows { AreStateRows grm.now (map (state_of StorageT.index) states.now) }
     requires fit { length states.now ≤ StorageT.limit }
     ensures rows { IfOk result (λ rows. map (λ row. map (action_entry StorageT.index) row.items) rows.items
         ≡ action_rows precedences.now grm.now (map (state_of StorageT.index) states.now)) }
@@ -196,8 +222,8 @@ fn table_of_states<StorageT: StorageIndex>(
     actions: Vec<ActionRow<StorageT>>,
     conflicts: Option<Conflicts<StorageT>>,
 ) -> Result<StateTable<StorageT>, BuildFault>
-    requires well_formed { IsWellFormed grm.now }
-    requires states { AreStates grm.now (map (state_of StorageT.index) states.items) }
+    requires rows { AreStateRows grm.now (map (state_of StorageT.index) states.items) }
+    requires some { 0 < length states.items }
     requires fit { length states.items ≤ StorageT.limit }
     requires actions { (lists : PrecedenceLists) × (map (λ row. map (action_entry StorageT.index) row.items) actions.items
         ≡ action_rows lists grm.now (map (state_of StorageT.index) states.items)) }

@@ -15,3 +15,4 @@ pub mod WithinLemmas
 pub mod CanonicalLemmas
 pub mod BuiltMergedLemmas
 pub mod MergedFitLemmas
+pub mod MergedStateLemmas

@@ -1,11 +1,13 @@
 -- Tables of merged item sets whose conflicts are resolved by precedences.
-use Rattle.std.specs.Prelude.{◌≡◌, ◌<◌, ◌≤◌, ℕ, Option, Some, None}
-use Rattle.lrpar_grammar.specs.Grammar.{Grammar, GrammarSymbol, Nonterminal, Terminal, rules_len, tokens_len}
+use Rattle.std.specs.Prelude.{◌≡◌, ◌<◌, ◌≤◌, ℕ, Option, None}
+use Rattle.lrpar_grammar.specs.Grammar.{Grammar, GrammarSymbol, Terminal, rules_len, tokens_len}
 use Rattle.lrpar_table_precedence.specs.Precedence.{PrecedenceLists, resolution_of}
 use Rattle.lrpar_table_rows.specs.Graph.{Graph, ItemOf, graph_len}
 use Rattle.lrpar_table_rows.specs.Table.{Table, ShiftTo, ReduceBy, Accepts, Fails, action_of, goto_of, states_len}
-use Rattle.lrpar_table_items.specs.Canonical.{HasAfterDot, HasAccept, HasFirstReduce, HasReduce, sets_of}
+use Rattle.lrpar_table_items.specs.Canonical.{HasAfterDot, HasAccept, HasFirstReduce, HasReduce, IsAcceptConflict, sets_of}
 use Rattle.lrpar_table_items.specs.Resolution.{chosen}
+use Rattle.lrpar_table_items.specs.declared.fault.BuildFault.{BuildFault}
+use Rattle.lrpar_table_items.specs.declared.fault.BuildFault.TheVariants.{AcceptReduceConflict, Memory, StorageTooSmall, TooManyStates}
 use Rattle.lrpar_table_build.specs.Built.{AreInOrder, AreResolvedInOrder}
 use Rattle.lrpar_table_build.specs.BuilderLaws.{AcceptAlone, AreConflictsBy, AreResolvedBy, lists_in}
 use Rattle.lrpar_table_merge.specs.Merged.{Along, AreMerged, GoesAsMerged}
@@ -50,3 +52,18 @@ pub record IsMergedBy (g : Grammar) (lists : PrecedenceLists) (graph : Graph) (t
   pub resolved : AreResolvedBy g lists graph table.resolved
   pub resolved_in_order : AreResolvedInOrder table.resolved
   pub accept_alone : AcceptAlone g (graph_len graph) (sets_of graph)
+
+-- state n of some merged item sets, with some transitions, has an accept/reduce conflict
+pub record HasMergedAcceptConflict (g : Grammar) (n : ℕ) : Type 0 where
+  pub graph : Graph
+  pub steps : ℕ → GrammarSymbol → Option ℕ
+  pub merged : AreMerged g (graph_len graph) (sets_of graph) (Along steps)
+  pub within : n < graph_len graph
+  pub conflict : IsAcceptConflict g (sets_of graph) n
+
+-- why no table is made of merged item sets: one has an accept/reduce conflict, or an allocation failed
+abbrev pub IsMergedRefusal : Grammar → BuildFault → Type 0
+IsMergedRefusal g (AcceptReduceConflict n) = HasMergedAcceptConflict g n
+IsMergedRefusal g Memory = Unit {0}
+IsMergedRefusal g TooManyStates = ⊥
+IsMergedRefusal g StorageTooSmall = ⊥

@@ -1,5 +1,5 @@
 -- States of merged item sets, and the transitions of code as those of a specification.
-use Rattle.std.specs.Prelude.{◌<◌, ℕ, List, Option, length, map, nat_eq}
+use Rattle.std.specs.Prelude.{ℕ, List, Option, length, map, nat_eq}
 use Rattle.std.specs.Map.{lookup}
 use Rattle.lrpar_grammar.specs.Grammar.{Grammar, GrammarSymbol, Nonterminal, Terminal}
 use Rattle.lrpar_table_items.specs.States.{AreStateRows, StateOf, sets_at, state_at}

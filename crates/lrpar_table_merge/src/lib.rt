@@ -5,4 +5,5 @@ pub mod compatible;
 pub mod held;
 pub mod laws;
 mod merge;
+mod merged_table;
 pub mod unite;

@@ -1,7 +1,4 @@
-use Rattle.std.proofs.Common.{◌≡◌, ◌∙◌, ◌↔◌, arith, length, map, subst, sym}
-use Rattle.std.proofs.lemmas.List.{length-map}
-use Rattle.std.proofs.lemmas.List.Elements.{length_all_zip}
-use Rattle.lrpar_table_rows.specs.Ascending.{HaveSame}
+use Rattle.std.proofs.Common.{◌↔◌, map, subst, sym}
 use Rattle.lrpar_table_rows.specs.Graph.{Graph, HasItem, item_at}
 use Rattle.lrpar_table_rows.proofs.ItemLemmas.{same_at_each}
 use Rattle.lrpar_table_items.specs.StateRows.{item_rows}

@@ -19,7 +19,7 @@ state_row-requires-clause-prods g c =
     let states = map (state_of index) c.args.states.now in
     let below : s < length states = omega (arith, length-map c.args.states.now (state_of index), c.loop-number-test.true) in
     let is = state_read (state_of index) c.args.states.now s c.index-states-number.result c.loop-number-test.true c.index-states-number.is in
-    rw c.deref.ensures.value (cores_known c.args.grm.now states c.requires.states s (state_of index c.index-states-number.result) below is)
+    rw c.deref.ensures.value (cores_known c.args.grm.now states c.requires.rows s (state_of index c.index-states-number.result) below is)
 
 pub state_row-requires-clause-once : goal.state_row-requires-clause-once
 state_row-requires-clause-once g c =
@@ -28,7 +28,7 @@ state_row-requires-clause-once g c =
     let states = map (state_of index) c.args.states.now in
     let below : s < length states = omega (arith, length-map c.args.states.now (state_of index), c.loop-number-test.true) in
     let is = state_read (state_of index) c.args.states.now s c.index-states-number.result c.loop-number-test.true c.index-states-number.is in
-    rw c.deref.ensures.value (cores_once c.args.grm.now states c.requires.states s (state_of index c.index-states-number.result) below is)
+    rw c.deref.ensures.value (cores_once c.args.grm.now states c.requires.rows s (state_of index c.index-states-number.result) below is)
 
 pub state_row-requires-clause-shifts : goal.state_row-requires-clause-shifts
 state_row-requires-clause-shifts g c =
@@ -37,7 +37,7 @@ state_row-requires-clause-shifts g c =
     let states = map (state_of index) c.args.states.now in
     let below : s < length states = omega (arith, length-map c.args.states.now (state_of index), c.loop-number-test.true) in
     let is = state_read (state_of index) c.args.states.now s c.index-states-number.result c.loop-number-test.true c.index-states-number.is in
-    rw c.deref-in-loop-number.ensures.value (shifts_ascend c.args.grm.now states c.requires.states s (state_of index c.index-states-number.result) below is)
+    rw c.deref-in-loop-number.ensures.value (shifts_ascend c.args.grm.now states c.requires.rows s (state_of index c.index-states-number.result) below is)
 
 pub returns-in_err-row-clause-refused : goal.returns-in_err-row-clause-refused
 returns-in_err-row-clause-refused g c =

@@ -5,16 +5,14 @@ use Rattle.lrpar_table_rows.specs.PlainRows.{action_entry, goto_entry}
 use Rattle.lrpar_table_rows.specs.Table.{IsTable}
 use Rattle.lrpar_table_items.specs.StateRows.{table_with}
 use Rattle.lrpar_table_items.specs.States.{state_of}
-use Rattle.lrpar_table_build.proofs.TableRowLemmas.{is_table, some_state}
+use Rattle.lrpar_table_build.proofs.TableRowLemmas.{is_table}
 use Rattle.lrpar_table_build.proofs.TablesLemmas.{table_is}
 use Rattle.lrpar_grammar_places.proofs.FaultLemmas.{no_value}
 use Rattle.lrpar_table_build.proofs.tables.table_of_states.Goals as goal
 
 pub unwrap-requires : goal.unwrap-requires
 unwrap-requires g c =
-    let index = g.StorageT.StorageIndex.index in
-    let some = some_state c.args.grm.now (map (state_of index) c.args.states.items) c.requires.states c.requires.well_formed in
-    c.from_index.ensures.within.1 (omega (arith, some, length-map c.args.states.items (state_of index), c.requires.fit))
+    c.from_index.ensures.within.1 (omega (arith, c.requires.some, c.requires.fit))
 
 pub table_of-requires : goal.table_of-requires
 table_of-requires g c =
@@ -25,7 +23,7 @@ table_of-requires g c =
     let made = table_is c.args.grm.now states (index c.unwrap.result) c.len-len.result c.tokens_len.result c.rules_len.result
     (map (λ row. map (action_entry index) row.items) c.args.actions.items) (map (λ row. map (goto_entry index) row.items) c.in_ok-gotos.gotos.items)
     c.args.conflicts start (c.len-len.ensures ∙ c.args.states.ok.0 ∙ sym len) c.tokens_len.ensures.len c.rules_len.ensures.len c.in_ok-gotos.ensures in
-    let rows = is_table c.args.grm.now states c.requires.states c.requires.well_formed c.requires.actions.0 g.StorageT.StorageIndex.limit c.args.conflicts []
+    let rows = is_table c.args.grm.now states c.requires.rows c.requires.actions.0 (omega (arith, len, c.requires.some)) g.StorageT.StorageIndex.limit c.args.conflicts []
     (omega (arith, len, c.requires.fit)) (omega (arith, c.tokens_len.ensures.len, c.tokens_len.ensures.within))
     (omega (arith, c.rules_len.ensures.len, c.rules_len.ensures.within)) in
     let is = subst (λ actions. IsTable g.StorageT.StorageIndex.limit (table_with c.args.grm.now states actions c.args.conflicts [])) (sym c.requires.actions.1) rows in
@@ -51,7 +49,7 @@ returns-clause-valid g c =
     let made = table_is c.args.grm.now states (index c.unwrap.result) c.len-len.result c.tokens_len.result c.rules_len.result
     (map (λ row. map (action_entry index) row.items) c.args.actions.items) (map (λ row. map (goto_entry index) row.items) c.in_ok-gotos.gotos.items)
     c.args.conflicts start (c.len-len.ensures ∙ c.args.states.ok.0 ∙ sym len) c.tokens_len.ensures.len c.rules_len.ensures.len c.in_ok-gotos.ensures in
-    let rows = is_table c.args.grm.now states c.requires.states c.requires.well_formed c.requires.actions.0 g.StorageT.StorageIndex.limit c.args.conflicts []
+    let rows = is_table c.args.grm.now states c.requires.rows c.requires.actions.0 (omega (arith, len, c.requires.some)) g.StorageT.StorageIndex.limit c.args.conflicts []
     (omega (arith, len, c.requires.fit)) (omega (arith, c.tokens_len.ensures.len, c.tokens_len.ensures.within))
     (omega (arith, c.rules_len.ensures.len, c.rules_len.ensures.within)) in
     let is = subst (λ actions. IsTable g.StorageT.StorageIndex.limit (table_with c.args.grm.now states actions c.args.conflicts [])) (sym c.requires.actions.1) rows in

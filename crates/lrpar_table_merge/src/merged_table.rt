@@ -1,0 +1,36 @@
+//! The state graph and the table of merged item sets.
+ghost use Rattle.std.specs.Prelude.{◌≡◌, ◌≤◌, IfErr, IfOk, length, map};
+ghost use Rattle.lrpar_table_rows.specs.Graph.{graph_len};
+ghost use Rattle.lrpar_table_items.specs.States.{state_of};
+ghost use Rattle.lrpar_table_merge.specs.MergedBy.{IsMergedBy, IsMergedRefusal};
+ghost use Rattle.lrpar_table_merge.specs.MergedStates.{AreMergedStates};
+
+use lrpar_grammar::grammar::YaccGrammar;
+use lrpar_grammar::span::StorageIndex;
+use lrpar_table_build::tables::state_tables;
+use lrpar_table_items::fault::BuildFault;
+use lrpar_table_items::item_set::State;
+use lrpar_table_precedence::precedences::Precedences;
+use lrpar_table_rows::table::{StateGraph, StateTable};
+use std::alloc::Global;
+
+/// The item sets of the states, which are merged ones, and the table with their actions after conflict resolution by the precedences, with
+/// their conflicts, and with those that the precedences resolve.
+///
+/// It returns `AcceptReduceConflict` with a state that calls for accept and for a reduction, and `Memory` if an allocation fails. After an
+/// `Err` nothing is left of the states. It takes time proportional to the number of states times tokens times complete cores.
+pub(crate) fn table_of_merged<StorageT: StorageIndex>(
+    alloc: Global,
+    grm: &YaccGrammar<StorageT>,
+    precedences: &Precedences,
+    states: Vec<State<StorageT>>,
+) -> Result<(StateGraph<StorageT>, StateTable<StorageT>), BuildFault>
+    requires states { AreMergedStates grm.now (map (state_of StorageT.index) states.items) }
+    requires fit { length states.items ≤ StorageT.limit }
+    ensures merged { IfOk result (λ built. IsMergedBy grm.now precedences.now built.0 built.1) }
+    ensures len { IfOk result (λ built. graph_len built.0 ≡ length states.items) }
+    ensures refused { IfErr result (IsMergedRefusal grm.now) }
+{
+    let _start = grm.start_prod();
+    state_tables(alloc, grm, precedences, states)
+}
