@@ -6,6 +6,7 @@ pub mod AmongLemmas
 pub mod PassLemmas
 pub mod HeldLemmas
 pub mod MergedHeldLemmas
+pub mod MergedByNoneLemmas
 pub mod MergedSafeLemmas
 pub mod MergedViableLemmas
 pub mod MergedConflictLemmas
@@ -15,3 +16,4 @@ pub mod WithinLemmas
 pub mod CanonicalLemmas
 pub mod BuiltMergedLemmas
 pub mod MergedFitLemmas
+pub mod PathCoreLemmas
