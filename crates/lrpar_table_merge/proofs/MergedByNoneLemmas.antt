@@ -8,10 +8,10 @@ use Rattle.lrpar_table_rows.specs.Graph.{Graph}
 use Rattle.lrpar_table_rows.specs.Table.{ConflictLists, ResolvedOf, ShiftTo, Table}
 use Rattle.lrpar_table_items.specs.Canonical.{sets_of}
 use Rattle.lrpar_table_items.specs.Resolution.{chosen}
-use Rattle.lrpar_table_build.specs.Built.{AreResolvedInOrder}
+use Rattle.lrpar_table_build.specs.Built.{AreResolvedInOrder, shift_reduce_cmp}
 use Rattle.lrpar_table_build.specs.BuilderLaws.{AreConflictsBy, AreConflictsOf, AreResolvedBy}
 use Rattle.lrpar_table_build.proofs.DecidedLemmas.{first_decided}
-use Rattle.lrpar_table_build.proofs.MemberLemmas.{member_none}
+use Rattle.lrpar_table_build.proofs.MemberLemmas.{member_none, sorted_none}
 use Rattle.lrpar_table_merge.specs.Merged.{ActsAsMerged, Along, IsMerged, IsMergedTable}
 use Rattle.lrpar_table_merge.specs.MergedBy.{ActsAsMergedBy, IsMergedBy, IsMergedTableBy}
 use Rattle.lrpar_table_merge.specs.MergedByLaws.{DecideNothing, MergedByNoneIsMerged}
@@ -131,7 +131,7 @@ merged_by_none_is_merged g lists graph table nothing = (
         conflicts = conflicts_with g lists nothing graph table.conflicts is.conflicts;
         in_order = is.in_order;
         resolved = subst (AreResolvedBy g lists graph) (sym none) (none_are_resolved g lists nothing graph);
-        resolved_in_order = subst AreResolvedInOrder (sym none) tt;
+        resolved_in_order = subst AreResolvedInOrder (sym none) (sorted_none (λ (x y : ResolvedOf). shift_reduce_cmp x.conflict y.conflict));
         accept_alone = is.accept_alone;
       },
 )
