@@ -1,6 +1,6 @@
 -- Along each path that leads to a state of merged item sets, the canonical set has all cores of the state. So a shift of the merged set is
 -- one of each of these canonical sets, and where a reduction meets it in the merged set, it does so in one of them.
-use Rattle.std.proofs.Common.{◌≡◌, ◌≢◌, ◌<◌, ◌+◌, refl, sym, ap, subst, arith, ℕ, List, [], ◌∷◌, Some}
+use Rattle.std.proofs.Common.{◌≡◌, ◌≢◌, ◌<◌, ◌+◌, ◌++◌, refl, sym, ap, subst, arith, ℕ, List, [], ◌∷◌, Some}
 use Rattle.lrpar_grammar.specs.Grammar.{Grammar, GrammarSymbol, Nonterminal, Terminal, end_token, prod_len, start_prod, symbols_of}
 use Rattle.lrpar_table_first.specs.First.{Empty, IsFirst, Rule, Token}
 use Rattle.lrpar_table_rows.proofs.GraphLemmas.{state_in_range}
