@@ -1,6 +1,5 @@
 -- Precedences that decide nothing: a merged table by them is one without precedences, and the other way round.
-use Rattle.std.proofs.Common.{◌≡◌, ◌∙◌, refl, sym, ap, subst, inl, inr, ℕ, List, [], ◌∷◌, None, Option}
-use Rattle.std.specs.List.{Contains}
+use Rattle.std.proofs.Common.{◌≡◌, ◌∙◌, refl, sym, ap, subst, inl, inr, ℕ, List, [], Option}
 use Rattle.lrpar_grammar.specs.Grammar.{Grammar, GrammarSymbol}
 use Rattle.lrpar_table_precedence.specs.Precedence.{PrecedenceLists, no_precedences, resolution_of}
 use Rattle.lrpar_table_precedence.specs.declared.precedence.Resolution.{Resolution}
@@ -12,8 +11,8 @@ use Rattle.lrpar_table_build.specs.Built.{AreResolvedInOrder, shift_reduce_cmp}
 use Rattle.lrpar_table_build.specs.BuilderLaws.{AreConflictsBy, AreConflictsOf, AreResolvedBy}
 use Rattle.lrpar_table_build.proofs.DecidedLemmas.{first_decided}
 use Rattle.lrpar_table_build.proofs.MemberLemmas.{member_none, sorted_none}
-use Rattle.lrpar_table_merge.specs.Merged.{ActsAsMerged, Along, IsMerged, IsMergedTable}
-use Rattle.lrpar_table_merge.specs.MergedBy.{ActsAsMergedBy, IsMergedBy, IsMergedTableBy}
+use Rattle.lrpar_table_merge.specs.Merged.{ActsAsMerged, Along, IsMergedTable}
+use Rattle.lrpar_table_merge.specs.MergedBy.{ActsAsMergedBy, IsMergedTableBy}
 use Rattle.lrpar_table_merge.specs.MergedByLaws.{DecideNothing, MergedByNoneIsMerged}
 use Rattle.lrpar_table_merge.proofs.ListLemmas.{empty_list}
 

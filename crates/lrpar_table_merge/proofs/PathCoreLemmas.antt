@@ -1,15 +1,15 @@
 -- Along each path that leads to a state of merged item sets, the canonical set has all cores of the state. So a shift of the merged set is
 -- one of each of these canonical sets, and where a reduction meets it in the merged set, it does so in one of them.
-use Rattle.std.proofs.Common.{◌≡◌, ◌≢◌, ◌<◌, ◌+◌, ◌++◌, refl, sym, ap, subst, arith, ℕ, List, [], ◌∷◌, Some}
-use Rattle.lrpar_grammar.specs.Grammar.{Grammar, GrammarSymbol, Nonterminal, Terminal, end_token, prod_len, start_prod, symbols_of}
+use Rattle.std.proofs.Common.{◌≡◌, ◌<◌, ◌+◌, ◌++◌, refl, sym, ap, subst, arith, ℕ, List, [], ◌∷◌}
+use Rattle.lrpar_grammar.specs.Grammar.{Grammar, GrammarSymbol, end_token, prod_len, start_prod, symbols_of}
 use Rattle.lrpar_table_first.specs.First.{Empty, IsFirst, Rule, Token}
 use Rattle.lrpar_table_rows.proofs.GraphLemmas.{state_in_range}
-use Rattle.lrpar_table_rows.specs.Graph.{Graph, ItemOf, graph_len, item_at}
-use Rattle.lrpar_table_items.specs.Canonical.{HasAfterDot, HasReduce, sets_of}
-use Rattle.lrpar_table_items.specs.ItemSets.{Added, Adds, IsAdvanced, IsReachedBy, Own}
+use Rattle.lrpar_table_rows.specs.Graph.{ItemOf, graph_len, item_at}
+use Rattle.lrpar_table_items.specs.Canonical.{sets_of}
+use Rattle.lrpar_table_items.specs.ItemSets.{Adds, IsReachedBy, Own}
 use Rattle.lrpar_table_merge.specs.Held.{Closes, IsHeld, Starts, Steps}
 use Rattle.lrpar_table_merge.specs.Merged.{Along, AreMerged, LeadsAlong}
-use Rattle.lrpar_table_merge.specs.MergedByLaws.{MeetsAlong, MergedShiftConflictsAreCanonical}
+use Rattle.lrpar_table_merge.specs.MergedByLaws.{MergedShiftConflictsAreCanonical}
 use Rattle.lrpar_table_merge.proofs.MergedHeldLemmas.{added_to, held_fresh, held_within}
 
 -- if First of some symbols has a token, it has one for each token that follows them
