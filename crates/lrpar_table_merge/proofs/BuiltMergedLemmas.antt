@@ -3,7 +3,7 @@
 use Rattle.std.proofs.Common.{◌≡◌, ◌<◌, ◌+◌, ◌⊎◌, refl, ap, subst, inl, inr, arith, ℕ, None, Option, Some}
 use Rattle.std.proofs.lemmas.Bool.{cases_lt}
 use Rattle.lrpar_grammar.specs.Grammar.{Grammar, GrammarSymbol, IsWellFormed, Nonterminal, Terminal}
-use Rattle.lrpar_table_precedence.specs.Precedence.{PrecedenceLists, no_precedences}
+use Rattle.lrpar_table_precedence.specs.Precedence.{PrecedenceLists}
 use Rattle.lrpar_table_rows.specs.Graph.{Graph, ItemOf, graph_len, item_at}
 use Rattle.lrpar_table_rows.specs.Table.{Table, states_len}
 use Rattle.lrpar_table_rows.proofs.GraphLemmas.{state_in_range}
@@ -104,7 +104,7 @@ module _ (g : Grammar) (graph : Graph) (well : IsWellFormed g) (canonical : IsCa
       steps_on g graph Gotos (canonical_sets_are_merged g graph well canonical) s X n below
       (before, state_in_range graph n x.prod (x.dot + 1) x.token there, to)
 
-  module _ (table : Table) (lists : PrecedenceLists) where
+  module _ (table : Table) where
     merged_acts : (s t : ℕ) → s < graph_len graph → ActsAsResolved g (sets_of graph) table s t
         → ActsAsMerged g (sets_of graph) (Along steps) table s t
     merged_acts s t below acts = record {
@@ -114,9 +114,9 @@ module _ (g : Grammar) (graph : Graph) (well : IsWellFormed g) (canonical : IsCa
       fails = acts.fails;
     }
 
-    merged_acts_by : (s t : ℕ) → s < graph_len graph → ActsByPrecedence g lists (sets_of graph) table s t
+    merged_acts_by : (lists : PrecedenceLists) (s t : ℕ) → s < graph_len graph → ActsByPrecedence g lists (sets_of graph) table s t
         → ActsAsMergedBy g lists (sets_of graph) (Along steps) table s t
-    merged_acts_by s t below acts = record {
+    merged_acts_by lists s t below acts = record {
       meets = λ before p first.
           let met = acts.meets before p first in (met.0, met.1, goto_along s (Terminal t) met.0 below before met.2);
       shifts = λ before no_reduction.
@@ -149,8 +149,8 @@ module _ (g : Grammar) (graph : Graph) (well : IsWellFormed g) (canonical : IsCa
           no_rule = is.no_rule;
         }
 
-    merged_table_by : IsCanonicalTableBy g lists graph table → IsMergedTableBy g lists graph table (Along steps)
-    merged_table_by is =
+    merged_table_by : (lists : PrecedenceLists) → IsCanonicalTableBy g lists graph table → IsMergedTableBy g lists graph table (Along steps)
+    merged_table_by lists is =
         let below : (s : ℕ) → s < states_len table → s < graph_len graph =
         λ s within. let same = is.states in omega (arith, within, same) in
         record {
@@ -158,7 +158,7 @@ module _ (g : Grammar) (graph : Graph) (well : IsWellFormed g) (canonical : IsCa
           start = is.start;
           tokens = is.tokens;
           rules = is.rules;
-          acts = λ s t within known. merged_acts_by s t (below s within) (is.acts s t within known);
+          acts = λ s t within known. merged_acts_by lists s t (below s within) (is.acts s t within known);
           gotos = λ s r within known. merged_gotos s r (below s within) (is.goes s r within known);
           no_state = is.no_state;
           no_token = is.no_token;
@@ -169,7 +169,7 @@ pub built_tables_are_merged : BuiltTablesAreMerged
 built_tables_are_merged g graph table well built = record {
   steps = steps g graph well built.canonical;
   merged = merged_sets g graph well built.canonical;
-  resolved = merged_table g graph well built.canonical table no_precedences built.resolved;
+  resolved = merged_table g graph well built.canonical table built.resolved;
   conflicts = built.conflicts;
   in_order = built.in_order;
   accept_alone = built.accept_alone;
