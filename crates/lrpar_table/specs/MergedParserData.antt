@@ -5,7 +5,7 @@ use Rattle.lrpar_table_rows.specs.Graph.{graph_len}
 use Rattle.lrpar_table_check.specs.Checked.{Checked, IsChainFault, IsChecked, Unchecked}
 use Rattle.lrpar_table.specs.TableLaws.{IsCompleteWithoutConflicts}
 use Rattle.lrpar_table_merge.specs.Merged.{IsMerged}
-use Rattle.lrpar_table_merge.specs.Minimised.{IsMergedRefusal, IsMinimisedBy, IsMinimisedRefusal}
+use Rattle.lrpar_table_merge.specs.Minimised.{IsMergingRefusal, IsMinimisedBy, IsMinimisedRefusal}
 use Rattle.lrpar_table_merge.specs.declared.build.Minimiser.{Minimiser}
 use Rattle.lrpar_table_precedence.specs.Precedence.{PrecedenceLists}
 use Rattle.lrpar_table_viable.specs.Viable.{IsViable}
@@ -32,7 +32,7 @@ pub record IsRefusedMerged (g : Grammar) (most cap : ℕ) (refused : Unchecked) 
 
 -- why there is no checked table: none is built; or its chains are too long, or an allocation failed
 abbrev pub IsUnmerged : {S : Type 0} → Grammar → ℕ → ℕ → Unbuilt S → Type 0
-IsUnmerged g most bound (Table fault grm) = (grm ≡ g) × IsMergedRefusal g fault
+IsUnmerged g most bound (Table fault grm) = (grm ≡ g) × IsMergingRefusal g fault
 IsUnmerged g most bound (Chains refused) = IsRefusedMerged g most bound refused
 
 -- the checked table is the one that is built by the precedences and the minimiser, with at most `most` states, and has this cap

@@ -1,17 +1,20 @@
--- A table that was built of a grammar is a merged table. Its shifts and gotos are a function, which gives the gotos of its item sets.
-use Rattle.std.proofs.Common.{◌≡◌, ◌<◌, ◌+◌, ◌∙◌, refl, ap, subst, inl, inr, arith, ℕ, None, Option, Some}
+-- A table that was built of a grammar is a merged table, with precedences and without. Its transitions are the gotos of its item sets, as a
+-- function; the table itself needn't have them all, since precedences may decide against a shift.
+use Rattle.std.proofs.Common.{◌≡◌, ◌<◌, ◌+◌, ◌⊎◌, refl, ap, subst, inl, inr, arith, ℕ, None, Option, Some}
 use Rattle.std.proofs.lemmas.Bool.{cases_lt}
-use Rattle.lrpar_grammar.specs.Grammar.{Grammar, GrammarSymbol, IsWellFormed, Nonterminal, Terminal, end_token, rules_len, tokens_len}
+use Rattle.lrpar_grammar.specs.Grammar.{Grammar, GrammarSymbol, IsWellFormed, Nonterminal, Terminal}
+use Rattle.lrpar_table_precedence.specs.Precedence.{PrecedenceLists}
 use Rattle.lrpar_table_rows.specs.Graph.{Graph, ItemOf, graph_len, item_at}
-use Rattle.lrpar_table_rows.specs.Table.{Accepts, Fails, ReduceBy, ShiftTo, Table, TableAction, action_of, goto_of, states_len}
+use Rattle.lrpar_table_rows.specs.Table.{Table, states_len}
 use Rattle.lrpar_table_rows.proofs.GraphLemmas.{state_in_range}
-use Rattle.lrpar_table_items.specs.Canonical.{IsCanonical, LeadsTo, HasAfterDot, sets_of}
+use Rattle.lrpar_table_items.specs.Canonical.{ActsAsResolved, ActsByPrecedence, GoesAsItems, IsCanonical, LeadsTo, HasAfterDot, sets_of}
 use Rattle.lrpar_table_items.specs.ItemSets.{Own}
-use Rattle.lrpar_table_build.specs.BuilderLaws.{IsCanonicalTable}
-use Rattle.lrpar_table_build.proofs.DecidedLemmas.{Accepting, Failing, Reducing, Shifting, acting, before_decided}
-use Rattle.lrpar_table_build.proofs.ReachedLemmas.{symbol_listed}
+use Rattle.lrpar_table_build.specs.BuilderLaws.{IsCanonicalTable, IsCanonicalTableBy}
+use Rattle.lrpar_table_build.proofs.DecidedLemmas.{before_decided}
 use Rattle.lrpar_table_merge.specs.Held.{Closes, IsHeld, Starts, Steps}
-use Rattle.lrpar_table_merge.specs.Merged.{Along, AreMerged, CanonicalGoes, IsMergedTable}
+use Rattle.lrpar_table_merge.specs.Merged.{ActsAsMerged, Along, AreMerged, CanonicalGoes, GoesAsMerged, IsMergedTable}
+use Rattle.lrpar_table_merge.specs.MergedBy.{ActsAsMergedBy, IsMergedTableBy}
+use Rattle.lrpar_table_merge.specs.MergedByLaws.{BuiltByTablesAreMergedBy}
 use Rattle.lrpar_table_merge.specs.MergedLaws.{BuiltTablesAreMerged}
 use Rattle.lrpar_table_merge.proofs.CanonicalLemmas.{canonical_sets_are_merged}
 use Rattle.lrpar_table_merge.proofs.MergedHeldLemmas.{held_within}
@@ -41,123 +44,145 @@ module _ (g : Grammar) (len : ℕ) (sets : ℕ → ItemOf → Type 0) (goes othe
     once = λ s X n m below to other. merged.once s X n m below (back s X n below to) (back s X m below other);
   }
 
--- the state to which an action shifts
-abbrev shift_target : TableAction → Option ℕ
-shift_target (ShiftTo next) = Some next
-shift_target (ReduceBy p) = None
-shift_target Accepts = None
-shift_target Fails = None
+-- the transitions of merged sets are a function: whether a state has one is decided by its items
+module _ (g : Grammar) (graph : Graph) (goes : ℕ → GrammarSymbol → ℕ → Type 0) (merged : AreMerged g (graph_len graph) (sets_of graph) goes) where
+  -- the state goes on by the symbol, or it doesn't
+  abbrev StepOrNone : ℕ → GrammarSymbol → Type 0
+  StepOrNone s X = ((n : ℕ) × goes s X n) ⊎ ((n : ℕ) → s < graph_len graph → ¬ (goes s X n))
 
-shifted : (a : TableAction) (n : ℕ) → shift_target a ≡ Some n → a ≡ ShiftTo n
-shifted (ShiftTo next) n is = let same : next ≡ n = cc in ap (λ (k : ℕ). ShiftTo k) same
-shifted (ReduceBy p) n is = absurd (cc)
-shifted Accepts n is = absurd (cc)
-shifted Fails n is = absurd (cc)
+  step_decided : (s : ℕ) (X : GrammarSymbol) → StepOrNone s X
+  step_decided s X =
+      elim (cases_lt s (graph_len graph)) [
+        | inr past ↦ inr (λ n below go. omega (arith, past, below))
+        | inl below ↦
+            elim (before_decided g graph s X) [
+              | inl before ↦ inl (merged.next s X below before)
+              | inr none ↦ inr (λ n here go. none (merged.step s X n below go).before)
+            ]
+      ]
 
--- the shifts and gotos of a table
-abbrev steps_of : Table → ℕ → GrammarSymbol → Option ℕ
-steps_of table s (Terminal t) = shift_target (action_of table s t)
-steps_of table s (Nonterminal r) = goto_of table s r
+  abbrev target : (s : ℕ) (X : GrammarSymbol) → StepOrNone s X → Option ℕ
+  target s X (inl to) = Some to.0
+  target s X (inr none) = None
 
-module _ (g : Grammar) (graph : Graph) (table : Table) (well : IsWellFormed g) (canonical : IsCanonical g graph)
-    (resolved : IsCanonicalTable g graph table) where
+  target_on : (s : ℕ) (X : GrammarSymbol) (n : ℕ) (step : StepOrNone s X) → s < graph_len graph → goes s X n → target s X step ≡ Some n
+  target_on s X n (inl to) below go = ap (λ (k : ℕ). Some k) (merged.once s X to.0 n below to.1 go)
+  target_on s X n (inr none) below go = absurd (none n below go)
+
+  target_back : (s : ℕ) (X : GrammarSymbol) (n : ℕ) (step : StepOrNone s X) → target s X step ≡ Some n → goes s X n
+  target_back s X n (inl to) is = let same : to.0 ≡ n = cc in subst (goes s X) same to.1
+  target_back s X n (inr none) is = absurd (cc)
+
+  abbrev steps_by : ℕ → GrammarSymbol → Option ℕ
+  steps_by s X = target s X (step_decided s X)
+
+  steps_on : (s : ℕ) (X : GrammarSymbol) (n : ℕ) → s < graph_len graph → goes s X n → Along steps_by s X n
+  steps_on s X n below go = target_on s X n (step_decided s X) below go
+
+  merged_along : AreMerged g (graph_len graph) (sets_of graph) (Along steps_by)
+  merged_along =
+      merged_same g (graph_len graph) (sets_of graph) goes (Along steps_by) merged steps_on (λ s X n below is. target_back s X n (step_decided s X) is)
+
+module _ (g : Grammar) (graph : Graph) (well : IsWellFormed g) (canonical : IsCanonical g graph) where
   abbrev Gotos : ℕ → GrammarSymbol → ℕ → Type 0
   Gotos = CanonicalGoes g (graph_len graph) (sets_of graph)
 
-  here : (s : ℕ) → s < graph_len graph → s < states_len table
-  here s below = let is = resolved.states in omega (arith, below, is)
+  -- the transitions, as a function
+  abbrev steps : ℕ → GrammarSymbol → Option ℕ
+  steps = steps_by g graph Gotos (canonical_sets_are_merged g graph well canonical)
 
-  -- the goto by a symbol after a dot is a set of the graph
-  goto_there : (s : ℕ) (X : GrammarSymbol) (n : ℕ) → HasAfterDot g (sets_of graph) s X → LeadsTo g (sets_of graph) s X n → Gotos s X n
-  goto_there s X n before to =
+  merged_sets : AreMerged g (graph_len graph) (sets_of graph) (Along steps)
+  merged_sets = merged_along g graph Gotos (canonical_sets_are_merged g graph well canonical)
+
+  -- the goto by a symbol after a dot is along them
+  goto_along : (s : ℕ) (X : GrammarSymbol) (n : ℕ) → s < graph_len graph → HasAfterDot g (sets_of graph) s X → LeadsTo g (sets_of graph) s X n
+      → Along steps s X n
+  goto_along s X n below before to =
       let x = before.0 in
       let y = item_at x.prod (x.dot + 1) x.token in
-      (before, state_in_range graph n x.prod (x.dot + 1) x.token ((to y).1 (Own y (x, before.1, before.2, refl))), to)
+      let there = (to y).1 (Own y (x, before.1, before.2, refl)) in
+      steps_on g graph Gotos (canonical_sets_are_merged g graph well canonical) s X n below
+      (before, state_in_range graph n x.prod (x.dot + 1) x.token there, to)
 
-  -- and the only one
-  goto_once : (s : ℕ) (X : GrammarSymbol) (n m : ℕ) → Gotos s X n → Gotos s X m → n ≡ m
-  goto_once s X n m to other =
-      canonical.once n m to.1 other.1 (λ x. (λ h. (other.2 x).1 ((to.2 x).0 h), λ h. (to.2 x).1 ((other.2 x).0 h)))
+  module _ (table : Table) where
+    merged_acts : (s t : ℕ) → s < graph_len graph → ActsAsResolved g (sets_of graph) table s t
+        → ActsAsMerged g (sets_of graph) (Along steps) table s t
+    merged_acts s t below acts = record {
+      shifts = λ before. let shift = acts.shifts before in (shift.0, shift.1, goto_along s (Terminal t) shift.0 below before shift.2);
+      reduces = acts.reduces;
+      accepts = acts.accepts;
+      fails = acts.fails;
+    }
 
-  on : (s : ℕ) (X : GrammarSymbol) (n : ℕ) → s < graph_len graph → Gotos s X n → Along (steps_of table) s X n
-  on s (Terminal t) n below to =
-      let before = to.0 in
-      let listed : t < end_token g = symbol_listed g well before.0.prod before.0.dot (Terminal t) before.2 in
-      let shift = (resolved.acts s t (here s below) (omega (arith, listed))).shifts before in
-      let same : shift.0 ≡ n = goto_once s (Terminal t) shift.0 n (goto_there s (Terminal t) shift.0 before shift.2) to in
-      ap shift_target shift.1 ∙ ap (λ (k : ℕ). Some k) same
-  on s (Nonterminal r) n below to =
-      let before = to.0 in
-      let listed = symbol_listed g well before.0.prod before.0.dot (Nonterminal r) before.2 in
-      let goto = (resolved.goes s r (here s below) listed.1).goes before in
-      let same : goto.0 ≡ n = goto_once s (Nonterminal r) goto.0 n (goto_there s (Nonterminal r) goto.0 before goto.2) to in
-      goto.1 ∙ ap (λ (k : ℕ). Some k) same
+    merged_acts_by : (lists : PrecedenceLists) (s t : ℕ) → s < graph_len graph → ActsByPrecedence g lists (sets_of graph) table s t
+        → ActsAsMergedBy g lists (sets_of graph) (Along steps) table s t
+    merged_acts_by lists s t below acts = record {
+      meets = λ before p first.
+          let met = acts.meets before p first in (met.0, met.1, goto_along s (Terminal t) met.0 below before met.2);
+      shifts = λ before no_reduction.
+          let shift = acts.shifts before no_reduction in (shift.0, shift.1, goto_along s (Terminal t) shift.0 below before shift.2);
+      reduces = acts.reduces;
+      accepts = acts.accepts;
+      fails = acts.fails;
+    }
 
-  back : (s : ℕ) (X : GrammarSymbol) (n : ℕ) → s < graph_len graph → Along (steps_of table) s X n → Gotos s X n
-  back s (Terminal t) n below is =
-      let at : action_of table s t ≡ ShiftTo n = shifted (action_of table s t) n is in
-      elim (cases_lt t (tokens_len g)) [
-        | inr past ↦
-            let same = resolved.tokens in
-            let none : action_of table s t ≡ Fails = resolved.no_token s t (omega (arith, past, same)) in absurd (cc)
-        | inl known ↦
-            elim (acting g graph s table t (resolved.acts s t (here s below) known)) [
-              | Shifting to there before leads ↦
-                  let same : to ≡ n = cc in goto_there s (Terminal t) n before (subst (LeadsTo g (sets_of graph) s (Terminal t)) same leads)
-              | Reducing p there candidate ↦ absurd (cc)
-              | Accepting there candidate ↦ absurd (cc)
-              | Failing there ↦ absurd (cc)
-            ]
-      ]
-  back s (Nonterminal r) n below at =
-      elim (cases_lt r (rules_len g)) [
-        | inr past ↦
-            let same = resolved.rules in
-            let none : goto_of table s r ≡ None = resolved.no_rule s r (omega (arith, past, same)) in absurd (cc)
-        | inl known ↦
-            let goes = resolved.goes s r (here s below) known in
-            elim (before_decided g graph s (Nonterminal r)) [
-              | inl before ↦
-                  let to = goes.goes before in
-                  let there : goto_of table s r ≡ Some to.0 = to.1 in
-                  let same : to.0 ≡ n = cc in
-                  goto_there s (Nonterminal r) n before (subst (LeadsTo g (sets_of graph) s (Nonterminal r)) same to.2)
-              | inr none ↦ let stays : goto_of table s r ≡ None = goes.stays none in absurd (cc)
-            ]
-      ]
+    merged_gotos : (s r : ℕ) → s < graph_len graph → GoesAsItems g (sets_of graph) table s r
+        → GoesAsMerged g (sets_of graph) (Along steps) table s r
+    merged_gotos s r below goes = record {
+      goes_on = λ before. let goto = goes.goes before in (goto.0, goto.1, goto_along s (Nonterminal r) goto.0 below before goto.2);
+      stays = goes.stays;
+    }
 
-  merged_sets : AreMerged g (graph_len graph) (sets_of graph) (Along (steps_of table))
-  merged_sets =
-      merged_same g (graph_len graph) (sets_of graph) Gotos (Along (steps_of table)) (canonical_sets_are_merged g graph well canonical) on back
-
-  merged_table : IsMergedTable g graph table (Along (steps_of table))
-  merged_table = record {
-    states = resolved.states;
-    start = resolved.start;
-    tokens = resolved.tokens;
-    rules = resolved.rules;
-    acts = λ s t within below.
-        let acts = resolved.acts s t within below in
+    merged_table : IsCanonicalTable g graph table → IsMergedTable g graph table (Along steps)
+    merged_table is =
+        let below : (s : ℕ) → s < states_len table → s < graph_len graph =
+        λ s within. let same = is.states in omega (arith, within, same) in
         record {
-          shifts = λ before. let shift = acts.shifts before in (shift.0, shift.1, ap shift_target shift.1);
-          reduces = acts.reduces;
-          accepts = acts.accepts;
-          fails = acts.fails;
-        };
-    gotos = λ s r within below.
-        let goes = resolved.goes s r within below in
-        record { goes_on = λ before. let goto = goes.goes before in (goto.0, goto.1, goto.1); stays = goes.stays };
-    no_state = resolved.no_state;
-    no_token = resolved.no_token;
-    no_rule = resolved.no_rule;
-  }
+          states = is.states;
+          start = is.start;
+          tokens = is.tokens;
+          rules = is.rules;
+          acts = λ s t within known. merged_acts s t (below s within) (is.acts s t within known);
+          gotos = λ s r within known. merged_gotos s r (below s within) (is.goes s r within known);
+          no_state = is.no_state;
+          no_token = is.no_token;
+          no_rule = is.no_rule;
+        }
+
+    merged_table_by : (lists : PrecedenceLists) → IsCanonicalTableBy g lists graph table → IsMergedTableBy g lists graph table (Along steps)
+    merged_table_by lists is =
+        let below : (s : ℕ) → s < states_len table → s < graph_len graph =
+        λ s within. let same = is.states in omega (arith, within, same) in
+        record {
+          states = is.states;
+          start = is.start;
+          tokens = is.tokens;
+          rules = is.rules;
+          acts = λ s t within known. merged_acts_by lists s t (below s within) (is.acts s t within known);
+          gotos = λ s r within known. merged_gotos s r (below s within) (is.goes s r within known);
+          no_state = is.no_state;
+          no_token = is.no_token;
+          no_rule = is.no_rule;
+        }
 
 pub built_tables_are_merged : BuiltTablesAreMerged
 built_tables_are_merged g graph table well built = record {
-  steps = steps_of table;
-  merged = merged_sets g graph table well built.canonical built.resolved;
-  resolved = merged_table g graph table well built.canonical built.resolved;
+  steps = steps g graph well built.canonical;
+  merged = merged_sets g graph well built.canonical;
+  resolved = merged_table g graph well built.canonical table built.resolved;
   conflicts = built.conflicts;
   in_order = built.in_order;
+  accept_alone = built.accept_alone;
+}
+
+pub built_by_tables_are_merged_by : BuiltByTablesAreMergedBy
+built_by_tables_are_merged_by g lists graph table well built = record {
+  steps = steps g graph well built.canonical;
+  merged = merged_sets g graph well built.canonical;
+  resolution = merged_table_by g graph well built.canonical table lists built.resolution;
+  conflicts = built.conflicts;
+  in_order = built.in_order;
+  resolved = built.resolved;
+  resolved_in_order = built.resolved_in_order;
   accept_alone = built.accept_alone;
 }

@@ -6,6 +6,7 @@ pub mod AmongLemmas
 pub mod PassLemmas
 pub mod HeldLemmas
 pub mod MergedHeldLemmas
+pub mod MergedByNoneLemmas
 pub mod MergedSafeLemmas
 pub mod MergedViableLemmas
 pub mod MergedConflictLemmas
@@ -16,3 +17,4 @@ pub mod CanonicalLemmas
 pub mod BuiltMergedLemmas
 pub mod MergedFitLemmas
 pub mod MergedStateLemmas
+pub mod PathCoreLemmas

@@ -4,11 +4,12 @@
 use Rattle.std.proofs.Common.{◌≡◌, ◌<◌, ◌+◌, ◌∙◌, refl, sym, ap, subst, arith, ℕ, List, None, Option, Some, length, slice_get}
 use Rattle.std.specs.List.{Contains}
 use Rattle.lrpar_grammar.specs.Grammar.{Grammar, GrammarSymbol, IsWellFormed, Nonterminal, Terminal, end_token, prod_len, start_prod, symbols_of}
+use Rattle.lrpar_table_precedence.specs.Precedence.{no_precedences}
 use Rattle.lrpar_table_rows.proofs.GraphLemmas.{state_in_range}
 use Rattle.lrpar_table_rows.specs.Graph.{Graph, HasItem, graph_len, item_at}
 use Rattle.lrpar_table_rows.specs.Table.{Accepts, ConflictLists, ReduceBy, ReduceReduce, ShiftReduce, ShiftTo, Table, action_of, states_len}
 use Rattle.lrpar_table_items.specs.Canonical.{HasReduce, IsReduceConflict, IsShiftConflict, sets_of}
-use Rattle.lrpar_table_build.specs.BuilderLaws.{AcceptAlone, AreConflictsOf, lists_in}
+use Rattle.lrpar_table_build.specs.BuilderLaws.{AcceptAlone, AreConflictsBy, AreConflictsOf, lists_in}
 use Rattle.lrpar_table_build.proofs.ReachedLemmas.{symbol_listed}
 use Rattle.lrpar_table_conditions.specs.Complete.{IsComplete, IsCompleteAt, StepsOn}
 use Rattle.lrpar_table_conditions.specs.declared.completeness.CompletenessCondition.{CompletenessCondition}
@@ -16,6 +17,7 @@ use Rattle.lrpar_table_conditions.specs.declared.completeness.CompletenessCondit
 use Rattle.lrpar_table_merge.specs.Held.{Closes, Starts, Steps}
 use Rattle.lrpar_table_merge.specs.Merged.{Along, AreMerged, IsMergedTable}
 use Rattle.lrpar_table_merge.specs.MergedLaws.{MergedTablesAreCompleteWithoutConflicts}
+use Rattle.lrpar_table_merge.proofs.MergedByNoneLemmas.{conflicts_with, none_decide}
 use Rattle.lrpar_table_merge.proofs.MergedHeldLemmas.{held_within}
 use Rattle.lrpar_table_merge.proofs.ListLemmas.{empty_list}
 use Rattle.lrpar_table_merge.proofs.MergedConflictLemmas.{item_known, no_reduction_at_end, no_shift_conflict, no_shift_of_end, only_reduction}
@@ -53,14 +55,18 @@ module _ (g : Grammar) (graph : Graph) (table : Table) (goes : ℕ → GrammarSy
   module _ (conflicts : Option ConflictLists) (are : AreConflictsOf g graph conflicts)
       (alone : AcceptAlone g (graph_len graph) (sets_of graph)) where
     module _ (none : conflicts ≡ None) where
+      -- they are the conflicts by no precedences
+      by_none : AreConflictsBy g no_precedences graph conflicts
+      by_none = conflicts_with g no_precedences none_decide graph conflicts are
+
       -- the table makes the one reduction of a state's items
       reduces : (s t p : ℕ) → s < states_len table → HasReduce g (sets_of graph) s t p → action_of table s t ≡ ReduceBy p
       reduces s t p here candidate =
           let within = state_in_range graph s p (prod_len g p) t candidate.1 in
           let known = (item_known g graph goes well merged s p (prod_len g p) t within candidate.1).token in
           (resolved.acts s t here known).reduces
-          (λ before. no_shift_conflict g graph goes well merged conflicts are none s t p within before candidate) p
-          (only_reduction g graph goes well merged conflicts are none s t p within candidate)
+          (λ before. no_shift_conflict g graph goes well merged no_precedences conflicts by_none none s t p within before candidate refl) p
+          (only_reduction g graph goes well merged no_precedences conflicts by_none none s t p within candidate)
 
       -- and accepts if they do
       accepts : (s t : ℕ) → s < states_len table → HasItem graph s (start_prod g) 1 t → action_of table s t ≡ Accepts

@@ -1,14 +1,15 @@
--- Merged item sets without listed conflicts: no state calls for a shift and a reduction at one token, for two reductions, or for accept
--- and something else.
+-- Merged item sets without listed conflicts: no state calls for two reductions at one token, for accept and something else, or for a
+-- shift and a reduction between which the precedences don't decide.
 use Rattle.std.proofs.Common.{◌≡◌, ◌≢◌, ◌<◌, refl, subst, inl, inr, arith, ℕ, [], None, Option}
 use Rattle.std.specs.List.{Contains}
 use Rattle.std.proofs.lemmas.Bool.{cases_eq}
 use Rattle.lrpar_grammar.specs.Grammar.{Grammar, GrammarSymbol, IsWellFormed, Terminal, end_token, start_prod}
+use Rattle.lrpar_table_precedence.specs.Precedence.{PrecedenceLists, resolution_of}
 use Rattle.lrpar_table_rows.specs.Graph.{Graph, graph_len, item_at}
 use Rattle.lrpar_table_rows.specs.Safe.{IsItem}
 use Rattle.lrpar_table_rows.specs.Table.{ConflictLists, ReduceReduce, ShiftReduce}
 use Rattle.lrpar_table_items.specs.Canonical.{HasAfterDot, HasAccept, HasFirstReduce, HasReduce, sets_of}
-use Rattle.lrpar_table_build.specs.BuilderLaws.{AcceptAlone, AreConflictsOf, lists_in}
+use Rattle.lrpar_table_build.specs.BuilderLaws.{AcceptAlone, AreConflictsBy, lists_in}
 use Rattle.lrpar_table_build.proofs.DecidedLemmas.{first_reduction}
 use Rattle.lrpar_table_build.proofs.ReachedLemmas.{no_end_token}
 use Rattle.lrpar_table_merge.specs.Merged.{AreMerged}
@@ -40,9 +41,10 @@ module _ (g : Grammar) (graph : Graph) (goes : ℕ → GrammarSymbol → ℕ →
         (p, subst (λ (n : ℕ). HasReduce g (sets_of graph) s n p) is candidate),
       )
 
-  module _ (conflicts : Option ConflictLists) (are : AreConflictsOf g graph conflicts) (none : conflicts ≡ None) where
-    -- with no lists there are no conflicts
-    pub no_reduce_conflict : (s t first second : ℕ) → s < graph_len graph → HasFirstReduce g (sets_of graph) s t first
+  module _ (lists : PrecedenceLists) (conflicts : Option ConflictLists) (are : AreConflictsBy g lists graph conflicts)
+      (none : conflicts ≡ None) where
+    -- with no lists there are no reduce/reduce conflicts
+    no_reduce_conflict : (s t first second : ℕ) → s < graph_len graph → HasFirstReduce g (sets_of graph) s t first
         → HasReduce g (sets_of graph) s t second → first < second → ⊥
     no_reduce_conflict s t first second within candidate also less =
         let x : ReduceReduce = record { token = t; first = first; second = second; state = s } in
@@ -50,16 +52,7 @@ module _ (g : Grammar) (graph : Graph) (goes : ℕ → GrammarSymbol → ℕ →
         let there : Contains [] x = subst (λ (c : Option ConflictLists). Contains (lists_in c).reduce_reduce x) none listed in
         omega (arith, there.1)
 
-    pub no_shift_conflict : (s t p : ℕ) → s < graph_len graph → HasAfterDot g (sets_of graph) s (Terminal t)
-        → HasReduce g (sets_of graph) s t p → ⊥
-    no_shift_conflict s t p within before candidate =
-        let first = first_reduction g graph s t p candidate in
-        let x : ShiftReduce = record { token = t; prod = first.0; state = s } in
-        let listed = (are.shift_reduce x).1 (within, (item_known s p _ t within candidate.1).token, (before, first.1)) in
-        let there : Contains [] x = subst (λ (c : Option ConflictLists). Contains (lists_in c).shift_reduce x) none listed in
-        omega (arith, there.1)
-
-    -- of the reductions that a state calls for at a token, each is the first
+    -- so of the reductions that a state calls for at a token, each is the first
     pub only_reduction : (s t p : ℕ) → s < graph_len graph → HasReduce g (sets_of graph) s t p → HasFirstReduce g (sets_of graph) s t p
     only_reduction s t p within candidate =
         let first = first_reduction g graph s t p candidate in
@@ -70,3 +63,13 @@ module _ (g : Grammar) (graph : Graph) (goes : ℕ → GrammarSymbol → ℕ →
               let other : first.0 ≢ p = before in
               absurd (no_reduce_conflict s t first.0 p within first.1 candidate (omega (arith, least, other)))
         ]
+
+    -- and where a shift and a reduction meet, the precedences decide
+    pub no_shift_conflict : (s t p : ℕ) → s < graph_len graph → HasAfterDot g (sets_of graph) s (Terminal t)
+        → HasReduce g (sets_of graph) s t p → resolution_of lists p t ≢ None
+    no_shift_conflict s t p within before candidate undecided =
+        let x : ShiftReduce = record { token = t; prod = p; state = s } in
+        let first = only_reduction s t p within candidate in
+        let listed = (are.shift_reduce x).1 (within, (item_known s p _ t within candidate.1).token, ((before, first), undecided)) in
+        let there : Contains [] x = subst (λ (c : Option ConflictLists). Contains (lists_in c).shift_reduce x) none listed in
+        omega (arith, there.1)

@@ -1,9 +1,12 @@
--- A table of merged item sets is safe. Each action of the table is one that its set calls for; and the items of a set follow from the
--- transitions to it.
-use Rattle.std.proofs.Common.{◌≡◌, ◌<◌, ◌∙◌, refl, sym, subst, inl, inr, arith, ℕ, None, Some}
+-- A table of merged item sets is safe, whatever precedences resolve its conflicts. Each action of the table is one that its set calls
+-- for, or an error; and the items of a set follow from the transitions to it.
+use Rattle.std.proofs.Common.{◌≡◌, ◌<◌, ◌∙◌, refl, sym, subst, inl, inr, arith, ℕ, None, Option, Some}
 use Rattle.std.proofs.lemmas.Bool.{cases_lt}
 use Rattle.lrpar_grammar.proofs.PartsLemmas.{rule_of_within}
 use Rattle.lrpar_grammar.specs.Grammar.{Grammar, GrammarSymbol, IsWellFormed, Nonterminal, Terminal, end_token, prod_len, rule_of, rules_len, start_prod, tokens_len}
+use Rattle.lrpar_table_precedence.specs.Precedence.{PrecedenceLists, no_precedences, resolution_of}
+use Rattle.lrpar_table_precedence.specs.declared.precedence.Resolution.{Resolution}
+use Rattle.lrpar_table_precedence.specs.declared.precedence.Resolution.TheVariants.{Shift, Reduce, Error}
 use Rattle.lrpar_table_rows.specs.Graph.{Graph, HasItem, graph_len, item_at}
 use Rattle.lrpar_table_rows.specs.Safe.{GoesBy, IsSafe, IsSafeAt}
 use Rattle.lrpar_table_rows.specs.Table.{Accepts, Fails, ReduceBy, ShiftTo, Table, action_of, goto_of, states_len}
@@ -11,11 +14,15 @@ use Rattle.lrpar_table_rows.specs.declared.condition.SafetyCondition.{SafetyCond
 use Rattle.lrpar_table_rows.specs.declared.condition.SafetyCondition.TheVariants.{S2, S3, S4, S5, S6, S7, S8}
 use Rattle.lrpar_table_rows.proofs.GraphLemmas.{state_in_range}
 use Rattle.lrpar_table_items.specs.Canonical.{HasAfterDot, HasAccept, HasFirstReduce, HasReduce, sets_of}
+use Rattle.lrpar_table_items.specs.Resolution.{chosen}
 use Rattle.lrpar_table_build.proofs.DecidedLemmas.{before_decided, first_decided, item_decided}
 use Rattle.lrpar_table_build.proofs.ReachedLemmas.{no_end_token}
 use Rattle.lrpar_table_merge.specs.Held.{IsHeld}
-use Rattle.lrpar_table_merge.specs.Merged.{ActsAsMerged, Along, AreMerged, IsMergedTable}
+use Rattle.lrpar_table_merge.specs.Merged.{Along, AreMerged}
+use Rattle.lrpar_table_merge.specs.MergedBy.{ActsAsMergedBy, IsMergedTableBy}
+use Rattle.lrpar_table_merge.specs.MergedByLaws.{MergedTablesByPrecedencesAreSafe}
 use Rattle.lrpar_table_merge.specs.MergedLaws.{MergedTablesAreSafe}
+use Rattle.lrpar_table_merge.proofs.MergedByNoneLemmas.{none_decide, table_with}
 use Rattle.lrpar_table_merge.proofs.MergedHeldLemmas.{held_at_end, held_fresh, held_items, held_start_item, held_with_rule}
 
 module _ (g : Grammar) (graph : Graph) (table : Table) (goes : ℕ → GrammarSymbol → ℕ → Type 0) where
@@ -27,10 +34,24 @@ module _ (g : Grammar) (graph : Graph) (table : Table) (goes : ℕ → GrammarSy
     Accepting : action_of table s t ≡ Accepts → HasAccept g (sets_of graph) s t → IsMergedAction s t
     Failing : action_of table s t ≡ Fails → IsMergedAction s t
 
-  acting : (s t : ℕ) → ActsAsMerged g (sets_of graph) goes table s t → IsMergedAction s t
-  acting s t acts =
+  -- a shift and a reduction meet, and precedences may decide
+  meeting : (s t : ℕ) (o : Option Resolution) (p next : ℕ) → HasAfterDot g (sets_of graph) s (Terminal t) → HasFirstReduce g (sets_of graph) s t p
+      → action_of table s t ≡ chosen o next p → goes s (Terminal t) next → IsMergedAction s t
+  meeting s t None p next before first is go = Shifting next is before go
+  meeting s t (Some Shift) p next before first is go = Shifting next is before go
+  meeting s t (Some Reduce) p next before first is go = Reducing p is first
+  meeting s t (Some Error) p next before first is go = Failing is
+
+  acting : (lists : PrecedenceLists) (s t : ℕ) → ActsAsMergedBy g lists (sets_of graph) goes table s t → IsMergedAction s t
+  acting lists s t acts =
       elim (before_decided g graph s (Terminal t)) [
-        | inl before ↦ let shift = acts.shifts before in Shifting shift.0 shift.1 before shift.2
+        | inl before ↦
+            elim (first_decided g graph s t) [
+              | inl first ↦
+                  let met = acts.meets before first.0 first.1 in
+                  meeting s t (resolution_of lists first.0 t) first.0 met.0 before first.1 met.1 met.2
+              | inr no_reduction ↦ let shift = acts.shifts before no_reduction in Shifting shift.0 shift.1 before shift.2
+            ]
         | inr no_shift ↦
             elim (first_decided g graph s t) [
               | inl first ↦ Reducing first.0 (acts.reduces no_shift first.0 first.1) first.1
@@ -42,7 +63,7 @@ module _ (g : Grammar) (graph : Graph) (table : Table) (goes : ℕ → GrammarSy
             ]
       ]
 
-  module _ (resolved : IsMergedTable g graph table goes) where
+  module _ (lists : PrecedenceLists) (resolved : IsMergedTableBy g lists graph table goes) where
     -- in range, the table's action is one of the set's; out of range, it is an error
     action_there : (s t : ℕ) → IsMergedAction s t
     action_there s t =
@@ -51,7 +72,7 @@ module _ (g : Grammar) (graph : Graph) (table : Table) (goes : ℕ → GrammarSy
           | inl within ↦
               elim (cases_lt t (tokens_len g)) [
                 | inr past ↦ let is = resolved.tokens in Failing (resolved.no_token s t (omega (arith, past, is)))
-                | inl below ↦ acting s t (resolved.acts s t within below)
+                | inl below ↦ acting lists s t (resolved.acts s t within below)
               ]
         ]
 
@@ -155,5 +176,11 @@ module _ (g : Grammar) (graph : Graph) (table : Table) (goes : ℕ → GrammarSy
         each = safe_at;
       }
 
+pub merged_tables_by_precedences_are_safe : MergedTablesByPrecedencesAreSafe
+merged_tables_by_precedences_are_safe g lists graph table steps well merged resolved =
+    safe g graph table (Along steps) lists resolved well merged
+
+-- and so is one without precedences
 pub merged_tables_are_safe : MergedTablesAreSafe
-merged_tables_are_safe g graph table steps well merged resolved = safe g graph table (Along steps) resolved well merged
+merged_tables_are_safe g graph table steps well merged resolved =
+    safe g graph table (Along steps) no_precedences (table_with g no_precedences none_decide graph table (Along steps) resolved) well merged

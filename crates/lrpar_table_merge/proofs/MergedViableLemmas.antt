@@ -9,6 +9,7 @@ use Rattle.lrpar_table_viable.specs.Viable.{AddsCore, IsJustified, IsViable}
 use Rattle.lrpar_table_merge.specs.Held.{Closes, IsHeld, Starts, Steps}
 use Rattle.lrpar_table_merge.specs.Merged.{Along, AreMerged}
 use Rattle.lrpar_table_merge.specs.MergedLaws.{MergedTablesAreViable}
+use Rattle.lrpar_table_merge.specs.MergedByLaws.{MergedTablesByPrecedencesAreViable}
 use Rattle.lrpar_table_merge.proofs.MergedHeldLemmas.{held_within}
 
 module _ (g : Grammar) (graph : Graph) (table : Table) (goes : ℕ → GrammarSymbol → ℕ → Type 0)
@@ -44,4 +45,9 @@ module _ (g : Grammar) (graph : Graph) (table : Table) (goes : ℕ → GrammarSy
 
 pub merged_tables_are_viable : MergedTablesAreViable
 merged_tables_are_viable g graph table steps merged resolved =
+    viable_table g graph table (Along steps) merged resolved.start resolved.states
+
+-- whatever precedences resolve its conflicts
+pub merged_tables_by_precedences_are_viable : MergedTablesByPrecedencesAreViable
+merged_tables_by_precedences_are_viable g lists graph table steps merged resolved =
     viable_table g graph table (Along steps) merged resolved.start resolved.states

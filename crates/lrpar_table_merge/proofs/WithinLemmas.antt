@@ -1,17 +1,21 @@
 -- Each canonical item set is within a merged one: a path of symbols leads to a state whose set has all items that gotos reach by the path.
--- So what a canonical set calls for, this merged set calls for, too; and if the merged sets have no conflicts, the canonical ones have none.
+-- So what a canonical set calls for, this merged set calls for, too; and if the merged sets have no conflicts, or precedences resolve all
+-- of them, so it is with the canonical ones.
 use Rattle.std.proofs.Common.{◌≡◌, ◌<◌, refl, sym, subst, arith, ℕ, List, [], ◌∷◌, None, Option, Some}
 use Rattle.std.specs.List.{Contains}
 use Rattle.lrpar_grammar.specs.Grammar.{Grammar, GrammarSymbol, IsWellFormed, Terminal}
+use Rattle.lrpar_table_precedence.specs.Precedence.{PrecedenceLists, no_precedences}
 use Rattle.lrpar_table_rows.specs.Graph.{Graph, ItemOf, graph_len}
 use Rattle.lrpar_table_rows.specs.Table.{ConflictLists, ReduceReduce, ShiftReduce}
-use Rattle.lrpar_table_items.specs.Canonical.{HasAfterDot, HasReduce, IsCanonical, IsReduceConflict, IsShiftConflict, sets_of}
+use Rattle.lrpar_table_items.specs.Canonical.{HasAfterDot, HasReduce, IsCanonical, IsReduceConflict, IsUnresolvedConflict, sets_of}
 use Rattle.lrpar_table_items.specs.ItemSets.{Added, IsAdvanced, IsInClosure, IsReachedBy, IsStartItem, Own}
-use Rattle.lrpar_table_build.specs.BuilderLaws.{AreConflictsOf, lists_in}
+use Rattle.lrpar_table_build.specs.BuilderLaws.{AreConflictsBy, lists_in}
 use Rattle.lrpar_table_merge.specs.Held.{Closes, IsHeld, Starts, Steps}
 use Rattle.lrpar_table_merge.specs.Merged.{Along, AreMerged, IsWithin, LeadsAlong}
 use Rattle.lrpar_table_merge.specs.MergedLaws.{CanonicalSetsAreWithinMerged, NoMergedConflictsAreNoCanonical}
+use Rattle.lrpar_table_merge.specs.MergedByLaws.{NoMergedConflictsByAreNoCanonical}
 use Rattle.lrpar_table_merge.proofs.ListLemmas.{empty_list}
+use Rattle.lrpar_table_merge.proofs.MergedByNoneLemmas.{conflicts_with, none_decide}
 use Rattle.lrpar_table_merge.proofs.MergedConflictLemmas.{no_shift_conflict, only_reduction}
 
 -- a closure that has an item comes from an item
@@ -65,38 +69,48 @@ module _ (g : Grammar) (graph other : Graph) (goes : ℕ → GrammarSymbol → �
       let within = within_merged g (graph_len graph) (sets_of graph) goes merged reached.0 some.0 ((reached.1 some.0).0 some.1) in
       (within.0, within.1.low, λ x h. within.1.items x ((reached.1 x).0 h))
 
-  module _ (conflicts : Option ConflictLists) (are : AreConflictsOf g graph conflicts) (none : conflicts ≡ None) where
+  module _ (lists : PrecedenceLists) (conflicts : Option ConflictLists) (are : AreConflictsBy g lists graph conflicts)
+      (none : conflicts ≡ None) where
     no_reduce : (x : ReduceReduce) → x.state < graph_len other → IsReduceConflict g (sets_of other) x → ⊥
     no_reduce x below conflict =
         let in_merged = holder x.state below in
         let s = in_merged.0 in
         let first : HasReduce g (sets_of graph) s x.token x.first = (conflict.0.0.0, in_merged.2 _ conflict.0.0.1) in
         let second : HasReduce g (sets_of graph) s x.token x.second = (conflict.1.0, in_merged.2 _ conflict.1.1) in
-        let least = only_reduction g graph goes well merged conflicts are none s x.token x.second in_merged.1 second in
+        let least = only_reduction g graph goes well merged lists conflicts are none s x.token x.second in_merged.1 second in
         let low = least.1 x.first first in
         let less : x.first < x.second = conflict.2 in omega (arith, low, less)
 
-    no_shift : (x : ShiftReduce) → x.state < graph_len other → IsShiftConflict g (sets_of other) x → ⊥
+    -- the merged set has the same reduction, so the precedences decide
+    no_shift : (x : ShiftReduce) → x.state < graph_len other → IsUnresolvedConflict g lists (sets_of other) x → ⊥
     no_shift x below conflict =
         let in_merged = holder x.state below in
         let s = in_merged.0 in
-        let before : HasAfterDot g (sets_of graph) s (Terminal x.token) =
-        (conflict.0.0, in_merged.2 conflict.0.0 conflict.0.1, conflict.0.2) in
-        let reduction : HasReduce g (sets_of graph) s x.token x.prod = (conflict.1.0.0, in_merged.2 _ conflict.1.0.1) in
-        no_shift_conflict g graph goes well merged conflicts are none s x.token x.prod in_merged.1 before reduction
+        let shift = conflict.0.0 in
+        let reduce = conflict.0.1.0 in
+        let before : HasAfterDot g (sets_of graph) s (Terminal x.token) = (shift.0, in_merged.2 shift.0 shift.1, shift.2) in
+        let reduction : HasReduce g (sets_of graph) s x.token x.prod = (reduce.0, in_merged.2 _ reduce.1) in
+        no_shift_conflict g graph goes well merged lists conflicts are none s x.token x.prod in_merged.1 before reduction conflict.1
 
-    none_listed : (others c : Option ConflictLists) → AreConflictsOf g other others → others ≡ c → c ≡ None
+    none_listed : (others c : Option ConflictLists) → AreConflictsBy g lists other others → others ≡ c → c ≡ None
     none_listed others None those is = refl
-    none_listed others (Some lists) those is =
-        absurd (those.some lists is
-        (empty_list lists.reduce_reduce (λ x there.
+    none_listed others (Some found) those is =
+        absurd (those.some found is
+        (empty_list found.reduce_reduce (λ x there.
         let listed = subst (λ (c : Option ConflictLists). Contains (lists_in c).reduce_reduce x) (sym is) there in
         let conflict = (those.reduce_reduce x).0 listed in no_reduce x conflict.0 conflict.2))
-        (empty_list lists.shift_reduce (λ x there.
+        (empty_list found.shift_reduce (λ x there.
         let listed = subst (λ (c : Option ConflictLists). Contains (lists_in c).shift_reduce x) (sym is) there in
         let conflict = (those.shift_reduce x).0 listed in no_shift x conflict.0 conflict.2)))
 
+pub no_merged_conflicts_by_are_no_canonical : NoMergedConflictsByAreNoCanonical
+no_merged_conflicts_by_are_no_canonical g lists graph table other other_table well is none built =
+    none_listed g graph other (Along is.steps) well is.merged built.canonical lists table.conflicts is.conflicts none
+    other_table.conflicts other_table.conflicts built.conflicts refl
+
+-- without precedences, the same by none
 pub no_merged_conflicts_are_no_canonical : NoMergedConflictsAreNoCanonical
-no_merged_conflicts_are_no_canonical g graph table other other_table well built none canonical =
-    none_listed g graph other (Along built.steps) well built.merged canonical.canonical table.conflicts built.conflicts none
-    other_table.conflicts other_table.conflicts canonical.conflicts refl
+no_merged_conflicts_are_no_canonical g graph table other other_table well is none built =
+    none_listed g graph other (Along is.steps) well is.merged built.canonical no_precedences table.conflicts
+    (conflicts_with g no_precedences none_decide graph table.conflicts is.conflicts) none other_table.conflicts other_table.conflicts
+    (conflicts_with g no_precedences none_decide other other_table.conflicts built.conflicts) refl

@@ -7,3 +7,4 @@ pub mod PassedOn
 pub mod MergedStates
 pub mod MergedBy
 pub mod Merging
+pub mod MergedByLaws

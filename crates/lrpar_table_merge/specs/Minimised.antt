@@ -19,13 +19,13 @@ IsMinimisedBy Pager g lists graph table = IsMergedBy g lists graph table
 
 -- why no merged table is built: merged item sets call for accept and for a reduction; or there are too many of them, which depends on the
 -- order of merging; or an allocation failed
-abbrev pub IsMergedRefusal : Grammar → BuildFault → Type 0
-IsMergedRefusal g TooManyStates = Unit {0}
-IsMergedRefusal g StorageTooSmall = Unit {0}
-IsMergedRefusal g (AcceptReduceConflict n) = HasMergedAcceptConflict g n
-IsMergedRefusal g Memory = Unit {0}
+abbrev pub IsMergingRefusal : Grammar → BuildFault → Type 0
+IsMergingRefusal g TooManyStates = Unit {0}
+IsMergingRefusal g StorageTooSmall = Unit {0}
+IsMergingRefusal g (AcceptReduceConflict n) = HasMergedAcceptConflict g n
+IsMergingRefusal g Memory = Unit {0}
 
 -- why no table is built, if `most` states are allowed and the storage type has `limit` numbers
 abbrev pub IsMinimisedRefusal : Minimiser → Grammar → ℕ → ℕ → BuildFault → Type 0
 IsMinimisedRefusal Canonical g most limit fault = IsBuildRefusal g most limit fault
-IsMinimisedRefusal Pager g most limit fault = IsMergedRefusal g fault
+IsMinimisedRefusal Pager g most limit fault = IsMergingRefusal g fault

@@ -68,7 +68,7 @@ fn merged_table<StorageT: StorageIndex>(
 ) -> Result<(StateGraph<StorageT>, StateTable<StorageT>), BuildFault>
     ensures built { IfOk result (λ built. IsMergedBy grm.now precedences.now built.0 built.1) }
     ensures room { IfOk result (λ built. graph_len built.0 ≤ max_states) }
-    ensures refused { IfErr result (IsMergedRefusal grm.now) }
+    ensures refused { IfErr result (IsMergingRefusal grm.now) }
 {
     let _start = grm.start_prod();
     match states_of(alloc, grm, max_states)? {
@@ -86,7 +86,7 @@ fn states_of<StorageT: StorageIndex>(
     ensures states { IfOk result (λ states. IfSome states (λ states. AreMergedStates grm.now (map (state_of StorageT.index) states.items))) }
     ensures room { IfOk result (λ states. IfSome states (λ states. length states.items ≤ max_states)) }
     ensures fits { IfOk result (λ states. IfSome states (λ states. length states.items ≤ StorageT.limit)) }
-    ensures fault { IfErr result (λ fault. IsMergedRefusal g fault) }
+    ensures fault { IfErr result (λ fault. IsMergingRefusal g fault) }
 {
     let mut sets = Sets::new(alloc, grm)?;
     let (mut kernels, all) = merge(alloc, grm, &mut sets, max_states)?;
