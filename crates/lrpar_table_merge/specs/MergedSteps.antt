@@ -32,9 +32,9 @@ AreGivenBy g kernels cores transitions symbol rows n =
 
 -- the cores are the closure of the kernel
 pub record IsClosureOf (g : Grammar) (kernel cores : List CoreSet) : Type 0 where
-  pub kernel : IsKernel g kernel
+  pub is_kernel : IsKernel g kernel
   pub items : AreSame (IsAmong cores) (IsInClosure g (IsAmong kernel))
-  pub cores : AreCores g cores
+  pub are_cores : AreCores g cores
 
 -- a state has the closure of its kernel, and the given transitions
 pub record IsGivenState (g : Grammar) (kernels : List (List CoreSet)) (transitions : TransitionsOf) (kernel : List CoreSet) (state : StateOf) : Type 0 where

@@ -1,0 +1,114 @@
+-- Rows of given transitions, one symbol after the other.
+use Rattle.std.proofs.Common.{◌≡◌, ◌≢◌, ◌<◌, ◌≤◌, ◌+◌, ◌∙◌, refl, sym, ap, subst, inl, inr, arith, ℕ, cond, List, [], ◌∷◌, ◌++◌, All, Option, Some, None, nat_eq}
+use Rattle.std.specs.Map.{keys_of, lookup}
+use Rattle.std.proofs.lemmas.Bool.{cases_eq, cases_lt, eq-eqb, ne_eqb}
+use Rattle.std.proofs.lemmas.List.{map-append}
+use Rattle.std.proofs.lemmas.List.Elements.{All-head, All-nil, All-push, All-tail, All-weaker}
+use Rattle.std.proofs.lemmas.Option.{none-some}
+use Rattle.lrpar_table_items.specs.Cores.{CoreSet}
+use Rattle.lrpar_table_items.specs.Resolution.{AscendFrom}
+use Rattle.lrpar_table_merge.specs.MergedSteps.{AreGivenSteps, FitsNext}
+
+-- one more number, which is greater than all others
+ascend_push : (ks : List ℕ) (a n : ℕ) → AscendFrom a ks → All (λ k. k < n) ks → a ≤ n → AscendFrom a (ks ++ n ∷ [])
+ascend_push [] a n up below low = (low, tt)
+ascend_push (k ∷ ks) a n up below low =
+    let first = All-head (λ m. m < n) k ks below in (up.0, ascend_push ks (k + 1) n up.1 (All-tail (λ m. m < n) k ks below) (omega (arith, first)))
+
+keys_push : (rows : List (ℕ × ℕ)) (row : ℕ × ℕ) → keys_of (rows ++ row ∷ []) ≡ keys_of rows ++ row.0 ∷ []
+keys_push rows row = map-append (λ (r : ℕ × ℕ). r.0) rows (row ∷ [])
+
+-- a look-up in a row with one more entry
+lookup_past : (rows : List (ℕ × ℕ)) (n k : ℕ) → All (λ m. m < n) (keys_of rows) → n ≤ k → lookup (nat_eq k) rows ≡ None
+lookup_past [] n k below past = refl
+lookup_past (row ∷ rows) n k below past =
+    let first = All-head (λ m. m < n) row.0 (keys_of rows) below in
+    let other : k ≢ row.0 = omega (arith, first, past) in
+    ap (λ b. cond b (Some row.1) (lookup (nat_eq k) rows)) (ne_eqb k row.0 other)
+    ∙ lookup_past rows n k (All-tail (λ m. m < n) row.0 (keys_of rows) below) past
+
+lookup_other : (rows : List (ℕ × ℕ)) (row : ℕ × ℕ) (k : ℕ) → k ≢ row.0 → lookup (nat_eq k) (rows ++ row ∷ []) ≡ lookup (nat_eq k) rows
+lookup_other [] row k other = ap (λ b. cond b (Some row.1) None) (ne_eqb k row.0 other)
+lookup_other (first ∷ rows) row k other = ap (λ found. cond (nat_eq k first.0) (Some first.1) found) (lookup_other rows row k other)
+
+lookup_last : (rows : List (ℕ × ℕ)) (row : ℕ × ℕ) → All (λ m. m < row.0) (keys_of rows) → lookup (nat_eq row.0) (rows ++ row ∷ []) ≡ Some row.1
+lookup_last [] row below = ap (λ b. cond b (Some row.1) None) (eq-eqb row.0 row.0 refl)
+lookup_last (first ∷ rows) row below =
+    let low = All-head (λ m. m < row.0) first.0 (keys_of rows) below in
+    let other : row.0 ≢ first.0 = omega (arith, low) in
+    ap (λ b. cond b (Some first.1) (lookup (nat_eq row.0) (rows ++ row ∷ []))) (ne_eqb row.0 first.0 other)
+    ∙ lookup_last rows row (All-tail (λ m. m < row.0) first.0 (keys_of rows) below)
+
+module _ (kernels : List (List CoreSet)) (next : ℕ → List CoreSet) (given : ℕ → Option ℕ) where
+  pub no_steps : AreGivenSteps kernels next given [] 0
+  no_steps = record {
+    ascend = tt;
+    below = All-nil (λ k. k < 0);
+    same = λ k low. absurd (omega (arith, low));
+    fit = λ k low. absurd (omega (arith, low));
+  }
+
+  module _ (rows : List (ℕ × ℕ)) (n : ℕ) (so_far : AreGivenSteps kernels next given rows n) where
+    -- only symbols below n have transitions
+    pub key_below : (k to : ℕ) → lookup (nat_eq k) rows ≡ Some to → k < n
+    key_below k to is =
+        elim (cases_lt k n) [
+          | inl low ↦ low
+          | inr past ↦ absurd (none-some to (sym (lookup_past rows n k so_far.below past) ∙ is))
+        ]
+
+    -- the kernels of the gotos may be told otherwise
+    pub same_next : (other : ℕ → List CoreSet) → ((k : ℕ) → k < n → next k ≡ other k) → AreGivenSteps kernels other given rows n
+    same_next other is = record {
+      ascend = so_far.ascend;
+      below = so_far.below;
+      same = so_far.same;
+      fit = λ k low. subst (λ cores. FitsNext kernels cores (given k)) (is k low) (so_far.fit k low);
+    }
+
+    module _ (fits : FitsNext kernels (next n) (given n)) where
+      fit_more : (k : ℕ) → k < n + 1 → FitsNext kernels (next k) (given k)
+      fit_more k low =
+          elim (cases_lt k n) [
+            | inl early ↦ so_far.fit k early
+            | inr late ↦
+                let at : n ≡ k = omega (arith, low, late) in subst (λ m. FitsNext kernels (next m) (given m)) at fits
+          ]
+
+      below_more : All (λ k. k < n + 1) (keys_of rows)
+      below_more = All-weaker (λ k. k < n) (λ k. k < n + 1) (λ k low. omega (arith, low)) (keys_of rows) so_far.below
+
+      -- one more symbol, with no transition, or one to a state
+      pub step_none : given n ≡ None → AreGivenSteps kernels next given rows (n + 1)
+      step_none none = record {
+        ascend = so_far.ascend;
+        below = below_more;
+        same = λ k low.
+            elim (cases_lt k n) [
+              | inl early ↦ so_far.same k early
+              | inr late ↦
+                  let at : n ≡ k = omega (arith, low, late) in
+                  subst (λ m. lookup (nat_eq m) rows ≡ given m) at (lookup_past rows n n so_far.below (omega arith) ∙ sym none)
+            ];
+        fit = fit_more;
+      }
+
+      pub step_some : (more : List (ℕ × ℕ)) (to : ℕ) → given n ≡ Some to → more ≡ rows ++ (n, to) ∷ [] → AreGivenSteps kernels next given more (n + 1)
+      step_some more to some is =
+          let row : ℕ × ℕ = (n, to) in
+          let all = rows ++ row ∷ [] in
+          let pushed : AreGivenSteps kernels next given all (n + 1) =
+          record {
+            ascend = subst (AscendFrom 0) (sym (keys_push rows row)) (ascend_push (keys_of rows) 0 n so_far.ascend so_far.below (omega arith));
+            below = subst (All (λ k. k < n + 1)) (sym (keys_push rows row)) (All-push (λ k. k < n + 1) (keys_of rows) n below_more (omega arith));
+            same = λ k low.
+                elim (cases_eq k n) [
+                  | inl same ↦
+                      subst (λ m. lookup (nat_eq m) all ≡ given m) (sym same) (lookup_last rows row so_far.below ∙ sym some)
+                  | inr other ↦
+                      let early : k < n = let apart : k ≢ n = other in omega (arith, low, apart) in
+                      lookup_other rows row k other ∙ so_far.same k early
+                ];
+            fit = fit_more;
+          } in
+          subst (λ rs. AreGivenSteps kernels next given rs (n + 1)) (sym is) pushed
