@@ -1,12 +1,15 @@
 -- Rows of given transitions, one symbol after the other.
-use Rattle.std.proofs.Common.{◌≡◌, ◌≢◌, ◌<◌, ◌≤◌, ◌+◌, ◌∙◌, refl, sym, ap, subst, inl, inr, arith, ℕ, cond, List, [], ◌∷◌, ◌++◌, All, Option, Some, None, nat_eq}
+use Rattle.std.proofs.Common.{Vec, ◌≡◌, ◌≢◌, ◌<◌, ◌≤◌, ◌+◌, ◌∙◌, refl, sym, ap, subst, inl, inr, arith, ℕ, cond, List, [], ◌∷◌, ◌++◌, All, Option, Some, None, length, map, nat_eq, slice_index_or}
 use Rattle.std.specs.Map.{keys_of, lookup}
 use Rattle.std.proofs.lemmas.Bool.{cases_eq, cases_lt, eq-eqb, ne_eqb}
-use Rattle.std.proofs.lemmas.List.{map-append}
+use Rattle.std.proofs.lemmas.List.{length-map, map-append}
 use Rattle.std.proofs.lemmas.List.Elements.{All-head, All-nil, All-push, All-tail, All-weaker}
 use Rattle.std.proofs.lemmas.Option.{none-some}
-use Rattle.lrpar_table_items.specs.Cores.{CoreSet}
+use Rattle.lrpar_grammar.specs.Grammar.{Grammar, GrammarSymbol}
+use Rattle.lrpar_table_items.specs.Cores.{CoreSet, core_set}
+use Rattle.lrpar_table_items.specs.Next.{AreNext, kernel_at, kernel_rows, next_kernel}
 use Rattle.lrpar_table_items.specs.Resolution.{AscendFrom}
+use Rattle.lrpar_table_items.specs.declared.cores.CoreItems.{CoreItems}
 use Rattle.lrpar_table_merge.specs.MergedSteps.{AreGivenSteps, FitsNext}
 
 -- one more number, which is greater than all others
@@ -112,3 +115,17 @@ module _ (kernels : List (List CoreSet)) (next : ℕ → List CoreSet) (given : 
             fit = fit_more;
           } in
           subst (λ rs. AreGivenSteps kernels next given rs (n + 1)) (sym is) pushed
+
+-- the transitions that were read from rows are the given ones of the cores
+module _ {S A : Type 0} (index : S → ℕ) (g : Grammar) (kernels : List (List CoreSet)) (cores : List CoreSet) (symbol : ℕ → GrammarSymbol)
+    (reached lent : List (Vec (CoreItems S) A)) (row read : List (Option ℕ)) (rows : List (ℕ × ℕ)) (n : ℕ) where
+  pub given_next : lent ≡ reached → read ≡ row → length reached ≡ n → AreNext g cores symbol (kernel_rows index reached)
+      → AreGivenSteps kernels (kernel_at (kernel_rows index lent)) (λ k. slice_index_or read k None) rows n
+      → AreGivenSteps kernels (λ k. next_kernel g (symbol k) cores) (λ k. slice_index_or row k None) rows n
+  given_next same is len next steps =
+      let count = length-map reached (λ (kernel : Vec (CoreItems S) A). map (core_set index) kernel.items) in
+      let all =
+      subst (λ r. AreGivenSteps kernels (kernel_at (kernel_rows index reached)) (λ k. slice_index_or r k None) rows n) is
+      (subst (λ ks. AreGivenSteps kernels (kernel_at (kernel_rows index ks)) (λ k. slice_index_or read k None) rows n) same steps) in
+      same_next kernels (kernel_at (kernel_rows index reached)) (λ k. slice_index_or row k None) rows n all (λ k. next_kernel g (symbol k) cores)
+      (λ k low. next k (omega (arith, low, len, count)))

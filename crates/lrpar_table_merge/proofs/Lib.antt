@@ -16,4 +16,5 @@ pub mod CanonicalLemmas
 pub mod BuiltMergedLemmas
 pub mod MergedFitLemmas
 pub mod GivenStepLemmas
+pub mod GivenListLemmas
 pub mod GivenStateLemmas
