@@ -1,6 +1,5 @@
 -- States that have the closures of their kernels, and transitions that fit, have merged item sets, if the closures are what the states hold.
-use Rattle.std.proofs.Common.{◌≡◌, ◌<◌, ◌+◌, ◌∙◌, refl, sym, ap, subst, inl, arith, ℕ, List, Option, Some, None, get_or, length, nat_eq, slice_get}
-use Rattle.std.specs.Map.{lookup}
+use Rattle.std.proofs.Common.{◌≡◌, ◌<◌, ◌+◌, ◌∙◌, refl, sym, ap, subst, inl, arith, ℕ, List, Option, Some, None, get_or, length, slice_get}
 use Rattle.std.proofs.lemmas.List.Elements.{Contains-get_or}
 use Rattle.std.proofs.lemmas.Option.{same_Some}
 use Rattle.lrpar_grammar.specs.Grammar.{Grammar, GrammarSymbol, IsWellFormed, Nonterminal, Terminal, rules_len, symbols_of, tokens_len}

@@ -5,7 +5,6 @@ ghost use Rattle.lrpar_grammar.specs.Grammar.{IsWellFormed, Nonterminal, Termina
 ghost use Rattle.lrpar_table_rows.specs.Graph.{ItemOf};
 ghost use Rattle.lrpar_table_rows.specs.PlainRows.{goto_entry};
 ghost use Rattle.lrpar_table_items.specs.Canonical.{AreSame};
-ghost use Rattle.lrpar_table_items.specs.CoreOrder.{AreCores};
 ghost use Rattle.lrpar_table_items.specs.Cores.{IsAmong, core_set};
 ghost use Rattle.lrpar_table_items.specs.ItemSets.{IsInClosure};
 ghost use Rattle.lrpar_table_items.specs.Next.{kernel_at, kernel_rows};
@@ -189,7 +188,11 @@ fn steps<StorageT: StorageIndex, SymbolT: Numbered<StorageT>>(
 fn entry_at(row: &[Option<usize>], number: usize) -> Option<usize>
     ensures { result ≡ slice_index_or row.now number None }
 {
-    if number < row.len() { row[number] } else { None }
+    if number < row.len() {
+        row[number]
+    } else {
+        None
+    }
 }
 
 // The given next state, if it fits the kernel of the goto.

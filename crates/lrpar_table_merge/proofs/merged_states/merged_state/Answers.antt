@@ -1,4 +1,4 @@
-use Rattle.std.proofs.Common.{◌≡◌, ◌<◌, ◌∙◌, [], arith, ap, length, map, subst, sym}
+use Rattle.std.proofs.Common.{◌≡◌, ◌∙◌, [], arith, ap, map, subst, sym}
 use Rattle.lrpar_grammar.specs.Grammar.{Nonterminal, Terminal, rules_len, tokens_len}
 use Rattle.lrpar_table_rows.specs.PlainRows.{goto_entry}
 use Rattle.lrpar_table_items.specs.Cores.{core_set}

@@ -10,4 +10,4 @@ invariant-loop-number g l =
     let index = g.StorageT.StorageIndex.index in
     (l.number ≤ l.len)
     × AreGivenSteps (kernel_rows index l.kernels) (kernel_at (kernel_rows index l.reached)) (λ k. slice_index_or l.row k None)
-        (map (step_entry g.SymbolT.Numbered.number index) l.rows.items) l.number
+    (map (step_entry g.SymbolT.Numbered.number index) l.rows.items) l.number
