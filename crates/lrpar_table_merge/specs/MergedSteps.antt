@@ -19,7 +19,8 @@ FitsNext kernels next None = length next ≡ 0
 FitsNext kernels next (Some n) = (0 < length next) × (n ≢ 0) × (n < length kernels) × HaveSameCores (kernel_at kernels n) next
 
 -- the row has the given transitions by the symbols of one kind with numbers below n, numbers ascending, and each fits the kernel of the goto
-pub record AreGivenSteps (kernels : List (List CoreSet)) (next : ℕ → List CoreSet) (given : ℕ → Option ℕ) (rows : List (ℕ × ℕ)) (n : ℕ) : Type 0 where
+pub record AreGivenSteps (kernels : List (List CoreSet)) (next : ℕ → List CoreSet) (given : ℕ → Option ℕ) (rows : List (ℕ × ℕ)) (n : ℕ)
+    : Type 0 where
   pub ascend : AscendFrom 0 (keys_of rows)
   pub below : All (λ k. k < n) (keys_of rows)
   pub same : (k : ℕ) → k < n → lookup (nat_eq k) rows ≡ given k
@@ -37,7 +38,8 @@ pub record IsClosureOf (g : Grammar) (kernel cores : List CoreSet) : Type 0 wher
   pub are_cores : AreCores g cores
 
 -- a state has the closure of its kernel, and the given transitions
-pub record IsGivenState (g : Grammar) (kernels : List (List CoreSet)) (transitions : TransitionsOf) (kernel : List CoreSet) (state : StateOf) : Type 0 where
+pub record IsGivenState (g : Grammar) (kernels : List (List CoreSet)) (transitions : TransitionsOf) (kernel : List CoreSet) (state : StateOf)
+    : Type 0 where
   pub closure : IsClosureOf g kernel state.cores
   pub gotos : AreGivenBy g kernels state.cores transitions Nonterminal state.gotos (rules_len g)
   pub shifts : AreGivenBy g kernels state.cores transitions Terminal state.shifts (tokens_len g)

@@ -31,8 +31,9 @@ use std::alloc::Global;
 /// with its transitions.
 ///
 /// It returns `Misfit` if a kernel has no item; if a transition is missing where an item has the symbol after its dot; and if a transition
-/// is there where no item has it, or leads to state 0, to no state, or to a state with other LR(0) cores. It returns `Memory` if an allocation
-/// fails. After an `Err` nothing is left. For each state it takes a closure, and one pass over its kernels of gotos.
+/// is there where no item has it, or leads to state 0, to no state, or to a state with other LR(0) cores. It returns `Memory` if an
+/// allocation fails. After an `Err` no state is left, and `sets` can be used again. For each state it takes a closure, and time proportional
+/// to the number of rules and tokens.
 pub(crate) fn merged_states<StorageT: StorageIndex>(
     alloc: Global,
     grm: &YaccGrammar<StorageT>,
@@ -74,8 +75,9 @@ fn merged_state<StorageT: StorageIndex>(
     requires fit { length kernels.now ≤ StorageT.limit }
     requires kernels { AreBeginnings grm.now (kernel_rows StorageT.index kernels.now) }
     ensures sets { AreSets grm.now sets.new }
-    ensures state { IfOk result (λ state. IsGivenState grm.now (kernel_rows StorageT.index kernels.now) (transitions_at (all_transitions all.now) number)
-        (kernel_at (kernel_rows StorageT.index kernels.now) number) (state_of StorageT.index state)) }
+    ensures state { IfOk result (λ state. IsGivenState grm.now (kernel_rows StorageT.index kernels.now)
+        (transitions_at (all_transitions all.now) number) (kernel_at (kernel_rows StorageT.index kernels.now) number)
+        (state_of StorageT.index state)) }
 {
     let items = expanded(alloc, grm, sets, &kernels[number])?;
     let successors = Successors::new(alloc, grm, items)?;
@@ -103,7 +105,8 @@ fn expanded<StorageT: StorageIndex>(
     requires sets { AreSets grm.now sets.old }
     requires kernel { IsBeginning grm.now (map (core_set StorageT.index) kernel.now) }
     ensures sets { AreSets grm.now sets.new }
-    ensures items { IfOk result (λ items. IsClosureOf grm.now (map (core_set StorageT.index) kernel.now) (map (core_set StorageT.index) items.items)) }
+    ensures items { IfOk result (λ items. IsClosureOf grm.now (map (core_set StorageT.index) kernel.now)
+        (map (core_set StorageT.index) items.items)) }
 {
     if !has_item(kernel) {
         return Err(HeldFault::Misfit);
@@ -136,10 +139,12 @@ fn all_steps<StorageT: StorageIndex>(
 >
     requires successors { AreSuccessors StorageT.index grm.now successors.now }
     requires fit { length kernels.now ≤ StorageT.limit }
-    ensures gotos { IfOk result (λ rows. AreGivenBy grm.now (kernel_rows StorageT.index kernels.now) (map (core_set StorageT.index) successors.now.items.items)
-        (transitions_of transitions.now) Nonterminal (map (goto_entry StorageT.index) rows.0.items) (rules_len grm.now)) }
-    ensures shifts { IfOk result (λ rows. AreGivenBy grm.now (kernel_rows StorageT.index kernels.now) (map (core_set StorageT.index) successors.now.items.items)
-        (transitions_of transitions.now) Terminal (map (shift_entry StorageT.index) rows.1.items) (tokens_len grm.now)) }
+    ensures gotos { IfOk result (λ rows. AreGivenBy grm.now (kernel_rows StorageT.index kernels.now)
+        (map (core_set StorageT.index) successors.now.items.items) (transitions_of transitions.now) Nonterminal
+        (map (goto_entry StorageT.index) rows.0.items) (rules_len grm.now)) }
+    ensures shifts { IfOk result (λ rows. AreGivenBy grm.now (kernel_rows StorageT.index kernels.now)
+        (map (core_set StorageT.index) successors.now.items.items) (transitions_of transitions.now) Terminal
+        (map (shift_entry StorageT.index) rows.1.items) (tokens_len grm.now)) }
 {
     let gotos = steps::<StorageT, RIdx<StorageT>>(
         alloc,
