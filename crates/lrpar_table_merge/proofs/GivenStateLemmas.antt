@@ -76,11 +76,14 @@ module _ (g : Grammar) (well : IsWellFormed g) where
 
     symbol_below : (s : ℕ) (X : GrammarSymbol) (n : ℕ) → s < length states → Goes s X n → IsSymbolBelow (rules_len g) (tokens_len g) X
     symbol_below s (Nonterminal r) n low go =
-        key_below kernels (λ k. goto_at s (Nonterminal k)) (λ k. given_at s (Nonterminal k)) (state_at states s).gotos (rules_len g) (given s low).gotos r n go
+        key_below kernels (λ k. goto_at s (Nonterminal k)) (λ k. given_at s (Nonterminal k)) (state_at states s).gotos (rules_len g)
+        (given s low).gotos r n go
     symbol_below s (Terminal t) n low go =
-        key_below kernels (λ k. goto_at s (Terminal k)) (λ k. given_at s (Terminal k)) (state_at states s).shifts (tokens_len g) (given s low).shifts t n go
+        key_below kernels (λ k. goto_at s (Terminal k)) (λ k. given_at s (Terminal k)) (state_at states s).shifts (tokens_len g)
+        (given s low).shifts t n go
 
-    step_at : (s : ℕ) (X : GrammarSymbol) (n : ℕ) → s < length states → Goes s X n → (given_at s X ≡ Some n) × FitsNext kernels (goto_at s X) (Some n)
+    step_at : (s : ℕ) (X : GrammarSymbol) (n : ℕ) → s < length states → Goes s X n
+        → (given_at s X ≡ Some n) × FitsNext kernels (goto_at s X) (Some n)
     step_at s X n low go =
         let is = step_is s X low (symbol_below s X n low go) in
         let same : given_at s X ≡ Some n = sym is.0 ∙ go in (same, subst (FitsNext kernels (goto_at s X)) same is.1)
@@ -93,7 +96,8 @@ module _ (g : Grammar) (well : IsWellFormed g) where
 
     set_held : (s : ℕ) → s < length states → AreSame (IsAmong (cores_at s)) (IsHeld g (GoesBy all) s)
     set_held s low =
-        same_via (IsAmong (cores_at s)) (IsInClosure g (IsAmong (kernel_at kernels s))) (IsHeld g (GoesBy all) s) (given s low).closure.items (held s)
+        same_via (IsAmong (cores_at s)) (IsInClosure g (IsAmong (kernel_at kernels s))) (IsHeld g (GoesBy all) s) (given s low).closure.items
+        (held s)
 
     -- states hold the same items by their rows as by the given transitions
     to_rows : (s : ℕ) (x : ItemOf) → IsHeld g (GoesBy all) s x → (s < length states) × IsHeld g Goes s x
@@ -133,7 +137,8 @@ module _ (g : Grammar) (well : IsWellFormed g) where
             within = below;
             never_back = fits.1;
             cores = λ p k t has.
-                comes_from (kernel_at kernels n) (cores_at s) X fits.3 are p k t (((given n below).closure.items (item_at p (k + 1) t)).0 has);
+                comes_from (kernel_at kernels n) (cores_at s) X fits.3 are p k t
+                (((given n below).closure.items (item_at p (k + 1) t)).0 has);
           };
       once = λ s X n m low to other. same_Some n m (sym to ∙ other);
     }

@@ -16,7 +16,8 @@ use Rattle.lrpar_table_merge.specs.MergedSteps.{AreGivenSteps, FitsNext}
 ascend_push : (ks : List ℕ) (a n : ℕ) → AscendFrom a ks → All (λ k. k < n) ks → a ≤ n → AscendFrom a (ks ++ n ∷ [])
 ascend_push [] a n up below low = (low, tt)
 ascend_push (k ∷ ks) a n up below low =
-    let first = All-head (λ m. m < n) k ks below in (up.0, ascend_push ks (k + 1) n up.1 (All-tail (λ m. m < n) k ks below) (omega (arith, first)))
+    let first = All-head (λ m. m < n) k ks below in
+    (up.0, ascend_push ks (k + 1) n up.1 (All-tail (λ m. m < n) k ks below) (omega (arith, first)))
 
 keys_push : (rows : List (ℕ × ℕ)) (row : ℕ × ℕ) → keys_of (rows ++ row ∷ []) ≡ keys_of rows ++ row.0 ∷ []
 keys_push rows row = map-append (λ (r : ℕ × ℕ). r.0) rows (row ∷ [])
@@ -96,7 +97,8 @@ module _ (kernels : List (List CoreSet)) (next : ℕ → List CoreSet) (given : 
         fit = fit_more;
       }
 
-      pub step_some : (more : List (ℕ × ℕ)) (to : ℕ) → given n ≡ Some to → more ≡ rows ++ (n, to) ∷ [] → AreGivenSteps kernels next given more (n + 1)
+      pub step_some : (more : List (ℕ × ℕ)) (to : ℕ) → given n ≡ Some to → more ≡ rows ++ (n, to) ∷ []
+          → AreGivenSteps kernels next given more (n + 1)
       step_some more to some is =
           let row : ℕ × ℕ = (n, to) in
           let all = rows ++ row ∷ [] in

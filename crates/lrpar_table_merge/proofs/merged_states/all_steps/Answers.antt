@@ -17,9 +17,10 @@ returns-clause-gotos g c =
     let row = c.deref-2.result.now in
     let rows = map (goto_entry index) c.in_ok-gotos.gotos.items in
     given_next index c.args.grm.now kernels (map (core_set index) successors.items.items) Nonterminal successors.rules.items reached
-    c.args.transitions.now.rules.items row rows (rules_len c.args.grm.now) c.deref.ensures.value c.deref-2.ensures.value c.requires.successors.rules_len
-    c.requires.successors.rules
-    (subst (AreGivenSteps kernels (kernel_at (kernel_rows index reached)) (λ (k : ℕ). slice_index_or row k None) rows) c.rules_len.ensures.len c.in_ok-gotos.ensures)
+    c.args.transitions.now.rules.items row rows (rules_len c.args.grm.now) c.deref.ensures.value c.deref-2.ensures.value
+    c.requires.successors.rules_len c.requires.successors.rules
+    (subst (AreGivenSteps kernels (kernel_at (kernel_rows index reached)) (λ (k : ℕ). slice_index_or row k None) rows) c.rules_len.ensures.len
+    c.in_ok-gotos.ensures)
 
 pub returns-clause-shifts : goal.returns-clause-shifts
 returns-clause-shifts g c =

@@ -31,7 +31,8 @@ returns-clause-state g c =
     let rows = kernel_rows index kernels in
     let own : map (core_set index) c.deref.result.now ≡ kernel_at rows c.args.number =
     ap (map (core_set index)) c.deref.ensures.value
-    ∙ sym (mapped_at (λ k. map (core_set index) k.items) kernels c.args.number c.index-kernels-number.result [] c.requires.number c.index-kernels-number.is) in
+    ∙ sym (mapped_at (λ k. map (core_set index) k.items) kernels c.args.number c.index-kernels-number.result [] c.requires.number
+    c.index-kernels-number.is) in
     let items = map (core_set index) c.in_ok-items.items.items in
     let cores = map (core_set index) c.in_ok-successors.successors.items.items in
     let same : cores ≡ items = ap (map (core_set index)) c.in_ok-successors.ensures.items in
@@ -39,7 +40,9 @@ returns-clause-state g c =
     let transitions : transitions_of c.unwrap_or-transitions.result.now ≡ transitions_at (all_transitions c.args.all.now) c.args.number =
     ap (λ x. transitions_of x.now) c.unwrap_or-transitions.ensures
     ∙ read_transitions c.args.all.now c.args.number c.get.result _ c.new-2.ensures.items c.new-3.ensures.items read.1 read.3 in record {
-      closure = subst (IsClosureOf grm (kernel_at rows c.args.number)) (sym same) (subst (λ kernel. IsClosureOf grm kernel items) own c.in_ok-items.ensures.items);
+      closure =
+          subst (IsClosureOf grm (kernel_at rows c.args.number)) (sym same)
+          (subst (λ kernel. IsClosureOf grm kernel items) own c.in_ok-items.ensures.items);
       gotos =
           subst (λ t. AreGivenBy grm rows cores t Nonterminal (map (goto_entry index) c.in_ok-gotos.gotos.items) (rules_len grm)) transitions
           c.in_ok-gotos.ensures.gotos;

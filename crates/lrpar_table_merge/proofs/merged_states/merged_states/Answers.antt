@@ -12,7 +12,8 @@ use Rattle.lrpar_table_merge.proofs.merged_states.merged_states.Goals as goal
 
 pub loop-number-init : goal.loop-number-init
 loop-number-init g c =
-    let none : map (state_of g.StorageT.StorageIndex.index) c.new-states.result.items ≡ [] = ap (map (state_of _)) c.new-states.ensures.items in record {
+    let index = g.StorageT.StorageIndex.index in
+    let none : map (state_of index) c.new-states.result.items ≡ [] = ap (map (state_of index)) c.new-states.ensures.items in record {
       sets = c.requires.sets;
       within = omega arith;
       len = ap (λ (states : List StateOf). length states) none;

@@ -16,5 +16,6 @@ invariant-loop-number g l =
       sets : AreSets l.grm l.sets;
       within : l.number ≤ length l.kernels;
       len : length states ≡ l.number;
-      given : (s : ℕ) → s < l.number → IsGivenState l.grm kernels (transitions_at (all_transitions l.all) s) (kernel_at kernels s) (state_at states s);
+      given : (s : ℕ) → s < l.number
+          → IsGivenState l.grm kernels (transitions_at (all_transitions l.all) s) (kernel_at kernels s) (state_at states s);
     }

@@ -37,7 +37,8 @@ loop-number-preserved g c =
     subst (λ cores. FitsNext kernels cores (given n)) here
     (subst (FitsNext kernels (map (core_set index) c.deref.result.now)) c.entry_at.ensures c.in_ok-next.ensures.fits) in
     let to : option_map (λ state. index state.0) c.in_ok-next.next ≡ given n = c.in_ok-next.ensures.state ∙ c.entry_at.ensures in
-    let symbol : g.SymbolT.Numbered.number c.numbered-symbol.result ≡ n = c.numbered-symbol.ensures ∙ (rw c.unwrap.ensures at c.from_index.ensures.back) in (
+    let symbol : g.SymbolT.Numbered.number c.numbered-symbol.result ≡ n =
+    c.numbered-symbol.ensures ∙ (rw c.unwrap.ensures at c.from_index.ensures.back) in (
       omega (arith, c.loop-number-test.true),
       elim c.match-next.branch [
         | in-None w ↦
@@ -46,8 +47,7 @@ loop-number-preserved g c =
         | in-Some+in_ok-push-in-Some w ↦
             step_some kernels next given rows n c.loop-number.invariant.1 fits (map entry c.match-next.rows.items) (index w.in-Some.state.0)
             (sym to ∙ ap (option_map (λ state. index state.0)) w.in-Some.is)
-            (ap (λ v. map entry v.items) w.rows-is
-            ∙ ap (map entry) w.in_ok-push-in-Some.ensures.items
+            (ap (λ v. map entry v.items) w.rows-is ∙ ap (map entry) w.in_ok-push-in-Some.ensures.items
             ∙ map-append entry c.loop-number.rows.items _ ∙ ap (λ (m : ℕ). rows ++ (m, index w.in-Some.state.0) ∷ []) symbol)
       ],
     )
@@ -56,6 +56,9 @@ pub returns : goal.returns
 returns g c =
     let index = g.StorageT.StorageIndex.index in
     let entry = step_entry g.SymbolT.Numbered.number index in
-    let done : c.loop-number.number ≡ c.args.len = let within = c.loop-number.invariant.0 in omega (arith, within, c.loop-number-test.false) in
-    subst (AreGivenSteps (kernel_rows index c.args.kernels.now) (kernel_at (kernel_rows index c.args.reached.now)) (λ (k : ℕ). slice_index_or c.args.row.now k None)
-    (map entry c.loop-number.rows.items)) done c.loop-number.invariant.1
+    let kernels = kernel_rows index c.args.kernels.now in
+    let next = kernel_at (kernel_rows index c.args.reached.now) in
+    let given = λ (k : ℕ). slice_index_or c.args.row.now k None in
+    let within = c.loop-number.invariant.0 in
+    let done : c.loop-number.number ≡ c.args.len = omega (arith, within, c.loop-number-test.false) in
+    subst (AreGivenSteps kernels next given (map entry c.loop-number.rows.items)) done c.loop-number.invariant.1
