@@ -14,16 +14,16 @@ use Rattle.lrpar_table_items.specs.Resolution.{AscendFrom}
 use Rattle.lrpar_table_items.proofs.NumberLemmas.{goes_kept}
 
 -- one more number, which is greater than all others
-ascend_push : (ks : List ℕ) (a n : ℕ) → AscendFrom a ks → All (λ k. k < n) ks → a ≤ n → AscendFrom a (ks ++ n ∷ [])
+pub ascend_push : (ks : List ℕ) (a n : ℕ) → AscendFrom a ks → All (λ k. k < n) ks → a ≤ n → AscendFrom a (ks ++ n ∷ [])
 ascend_push [] a n up below low = (low, tt)
 ascend_push (k ∷ ks) a n up below low =
     let first = All-head (λ m. m < n) k ks below in (up.0, ascend_push ks (k + 1) n up.1 (All-tail (λ m. m < n) k ks below) (omega (arith, first)))
 
-keys_push : (rows : List (ℕ × ℕ)) (row : ℕ × ℕ) → keys_of (rows ++ row ∷ []) ≡ keys_of rows ++ row.0 ∷ []
+pub keys_push : (rows : List (ℕ × ℕ)) (row : ℕ × ℕ) → keys_of (rows ++ row ∷ []) ≡ keys_of rows ++ row.0 ∷ []
 keys_push rows row = map-append (λ (r : ℕ × ℕ). r.0) rows (row ∷ [])
 
 -- a look-up in a row with one more entry
-lookup_past : (rows : List (ℕ × ℕ)) (n k : ℕ) → All (λ m. m < n) (keys_of rows) → n ≤ k → lookup (nat_eq k) rows ≡ None
+pub lookup_past : (rows : List (ℕ × ℕ)) (n k : ℕ) → All (λ m. m < n) (keys_of rows) → n ≤ k → lookup (nat_eq k) rows ≡ None
 lookup_past [] n k below past = refl
 lookup_past (row ∷ rows) n k below past =
     let first = All-head (λ m. m < n) row.0 (keys_of rows) below in
@@ -31,11 +31,11 @@ lookup_past (row ∷ rows) n k below past =
     ap (λ b. cond b (Some row.1) (lookup (nat_eq k) rows)) (ne_eqb k row.0 other)
     ∙ lookup_past rows n k (All-tail (λ m. m < n) row.0 (keys_of rows) below) past
 
-lookup_other : (rows : List (ℕ × ℕ)) (row : ℕ × ℕ) (k : ℕ) → k ≢ row.0 → lookup (nat_eq k) (rows ++ row ∷ []) ≡ lookup (nat_eq k) rows
+pub lookup_other : (rows : List (ℕ × ℕ)) (row : ℕ × ℕ) (k : ℕ) → k ≢ row.0 → lookup (nat_eq k) (rows ++ row ∷ []) ≡ lookup (nat_eq k) rows
 lookup_other [] row k other = ap (λ b. cond b (Some row.1) None) (ne_eqb k row.0 other)
 lookup_other (first ∷ rows) row k other = ap (λ found. cond (nat_eq k first.0) (Some first.1) found) (lookup_other rows row k other)
 
-lookup_last : (rows : List (ℕ × ℕ)) (row : ℕ × ℕ) → All (λ m. m < row.0) (keys_of rows) → lookup (nat_eq row.0) (rows ++ row ∷ []) ≡ Some row.1
+pub lookup_last : (rows : List (ℕ × ℕ)) (row : ℕ × ℕ) → All (λ m. m < row.0) (keys_of rows) → lookup (nat_eq row.0) (rows ++ row ∷ []) ≡ Some row.1
 lookup_last [] row below = ap (λ b. cond b (Some row.1) None) (eq-eqb row.0 row.0 refl)
 lookup_last (first ∷ rows) row below =
     let low = All-head (λ m. m < row.0) first.0 (keys_of rows) below in

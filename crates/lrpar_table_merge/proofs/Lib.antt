@@ -18,3 +18,6 @@ pub mod BuiltMergedLemmas
 pub mod MergedFitLemmas
 pub mod MergedStateLemmas
 pub mod PathCoreLemmas
+pub mod GivenStepLemmas
+pub mod GivenListLemmas
+pub mod GivenStateLemmas

@@ -8,3 +8,4 @@ pub mod MergedStates
 pub mod MergedBy
 pub mod Merging
 pub mod MergedByLaws
+pub mod MergedSteps

@@ -5,5 +5,6 @@ pub mod compatible;
 pub mod held;
 pub mod laws;
 mod merge;
+mod merged_states;
 mod merged_table;
 pub mod unite;
