@@ -2,3 +2,4 @@ pub mod CompleteLemmas
 pub mod ResolvedLemmas
 pub mod DataLemmas
 pub mod ViableLemmas
+pub mod MergedDataLemmas

@@ -73,7 +73,7 @@ module _ (g : Grammar) (graph : Graph) (goes : ℕ → GrammarSymbol → ℕ →
   target_back s X n (inl to) is = let same : to.0 ≡ n = cc in subst (goes s X) same to.1
   target_back s X n (inr none) is = absurd (cc)
 
-  abbrev steps_by : ℕ → GrammarSymbol → Option ℕ
+  abbrev pub steps_by : ℕ → GrammarSymbol → Option ℕ
   steps_by s X = target s X (step_decided s X)
 
   steps_on : (s : ℕ) (X : GrammarSymbol) (n : ℕ) → s < graph_len graph → goes s X n → Along steps_by s X n
@@ -88,10 +88,10 @@ module _ (g : Grammar) (graph : Graph) (well : IsWellFormed g) (canonical : IsCa
   Gotos = CanonicalGoes g (graph_len graph) (sets_of graph)
 
   -- the transitions, as a function
-  abbrev steps : ℕ → GrammarSymbol → Option ℕ
+  abbrev pub steps : ℕ → GrammarSymbol → Option ℕ
   steps = steps_by g graph Gotos (canonical_sets_are_merged g graph well canonical)
 
-  merged_sets : AreMerged g (graph_len graph) (sets_of graph) (Along steps)
+  pub merged_sets : AreMerged g (graph_len graph) (sets_of graph) (Along steps)
   merged_sets = merged_along g graph Gotos (canonical_sets_are_merged g graph well canonical)
 
   -- the goto by a symbol after a dot is along them

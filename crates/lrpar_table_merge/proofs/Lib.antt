@@ -21,3 +21,4 @@ pub mod PathCoreLemmas
 pub mod GivenStepLemmas
 pub mod GivenListLemmas
 pub mod GivenStateLemmas
+pub mod MinimisedLemmas

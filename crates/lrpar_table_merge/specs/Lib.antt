@@ -9,3 +9,4 @@ pub mod MergedBy
 pub mod Merging
 pub mod MergedByLaws
 pub mod MergedSteps
+pub mod Minimised

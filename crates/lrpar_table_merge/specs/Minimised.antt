@@ -1,14 +1,13 @@
 -- The result of the table builder with a choice: canonical item sets, or merged ones.
-use Rattle.std.specs.Prelude.{◌<◌, ℕ}
+use Rattle.std.specs.Prelude.{ℕ}
 use Rattle.lrpar_grammar.specs.Grammar.{Grammar}
 use Rattle.lrpar_table_precedence.specs.Precedence.{PrecedenceLists}
-use Rattle.lrpar_table_rows.specs.Graph.{Graph, graph_len}
+use Rattle.lrpar_table_rows.specs.Graph.{Graph}
 use Rattle.lrpar_table_rows.specs.Table.{Table}
-use Rattle.lrpar_table_items.specs.Canonical.{IsAcceptConflict, sets_of}
 use Rattle.lrpar_table_items.specs.declared.fault.BuildFault.{BuildFault}
 use Rattle.lrpar_table_items.specs.declared.fault.BuildFault.TheVariants.{AcceptReduceConflict, Memory, StorageTooSmall, TooManyStates}
 use Rattle.lrpar_table_build.specs.Built.{IsBuildRefusal, IsBuiltBy}
-use Rattle.lrpar_table_merge.specs.MergedBy.{IsMergedBy, HasMergedAcceptConflict}
+use Rattle.lrpar_table_merge.specs.MergedBy.{HasMergedAcceptConflict, IsMergedBy}
 use Rattle.lrpar_table_merge.specs.declared.build.Minimiser.{Minimiser}
 use Rattle.lrpar_table_merge.specs.declared.build.Minimiser.TheVariants.{Canonical, Pager}
 
@@ -24,6 +23,13 @@ IsMergingRefusal g TooManyStates = Unit {0}
 IsMergingRefusal g StorageTooSmall = Unit {0}
 IsMergingRefusal g (AcceptReduceConflict n) = HasMergedAcceptConflict g n
 IsMergingRefusal g Memory = Unit {0}
+
+-- why item sets aren't merged: there are too many of them, or an allocation failed
+abbrev pub IsMergeFault : BuildFault → Type 0
+IsMergeFault TooManyStates = Unit {0}
+IsMergeFault StorageTooSmall = Unit {0}
+IsMergeFault (AcceptReduceConflict n) = ⊥
+IsMergeFault Memory = Unit {0}
 
 -- why no table is built, if `most` states are allowed and the storage type has `limit` numbers
 abbrev pub IsMinimisedRefusal : Minimiser → Grammar → ℕ → ℕ → BuildFault → Type 0

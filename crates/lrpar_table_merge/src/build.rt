@@ -1,7 +1,12 @@
 //! The table builder with a choice: canonical item sets, or merged ones.
-ghost use Rattle.std.specs.Prelude.{◌≤◌, IfErr, IfOk};
+ghost use Rattle.std.specs.Prelude.{◌≤◌, IfErr, IfOk, IfSome, length, map};
+ghost use Rattle.lrpar_grammar.specs.Grammar.{IsWellFormed};
 ghost use Rattle.lrpar_table_rows.specs.Graph.{graph_len};
-ghost use Rattle.lrpar_table_merge.specs.Minimised.{IsMinimisedBy, IsMinimisedRefusal};
+ghost use Rattle.lrpar_table_rows.specs.Safe.{IsSafe};
+ghost use Rattle.lrpar_table_items.specs.States.{state_of};
+ghost use Rattle.lrpar_table_merge.specs.MergedBy.{IsMergedBy};
+ghost use Rattle.lrpar_table_merge.specs.MergedStates.{AreMergedStates};
+ghost use Rattle.lrpar_table_merge.specs.Minimised.{IsMergeFault, IsMergingRefusal, IsMinimisedBy, IsMinimisedRefusal};
 
 use crate::held::HeldFault;
 use crate::merge::merge;
@@ -70,7 +75,6 @@ fn merged_table<StorageT: StorageIndex>(
     ensures room { IfOk result (λ built. graph_len built.0 ≤ max_states) }
     ensures refused { IfErr result (IsMergingRefusal grm.now) }
 {
-    let _start = grm.start_prod();
     match states_of(alloc, grm, max_states)? {
         Some(states) => table_of_merged(alloc, grm, precedences, states),
         None => from_yacc_with(alloc, grm, precedences, max_states),
@@ -86,8 +90,10 @@ fn states_of<StorageT: StorageIndex>(
     ensures states { IfOk result (λ states. IfSome states (λ states. AreMergedStates grm.now (map (state_of StorageT.index) states.items))) }
     ensures room { IfOk result (λ states. IfSome states (λ states. length states.items ≤ max_states)) }
     ensures fits { IfOk result (λ states. IfSome states (λ states. length states.items ≤ StorageT.limit)) }
-    ensures fault { IfErr result (λ fault. IsMergingRefusal g fault) }
+    ensures well_formed { IsWellFormed grm.now }
+    ensures fault { IfErr result IsMergeFault }
 {
+    let _start = grm.start_prod();
     let mut sets = Sets::new(alloc, grm)?;
     let (mut kernels, all) = merge(alloc, grm, &mut sets, max_states)?;
     match propagate(alloc, grm, &mut sets, &all, &mut kernels) {
