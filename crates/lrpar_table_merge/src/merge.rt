@@ -1,14 +1,15 @@
 //! The merging of item sets whose kernels are weakly compatible.
 //!
 //! D. Pager, 'A practical general method for constructing LR(k) parsers', Acta Informatica 7, 1977.
-ghost use Rattle.std.specs.Prelude.{◌≡◌, ◌<◌, ◌≤◌, All, IfOk, IfSome, OnOk, length, map};
+ghost use Rattle.std.specs.Prelude.{◌≡◌, ◌<◌, ◌≤◌, ℕ, All, IfOk, IfSome, OnOk, length, map};
 ghost use Rattle.lrpar_grammar.specs.Grammar.{Grammar, IsWellFormed};
 ghost use Rattle.lrpar_table_items.specs.CoreOrder.{IsKernel};
 ghost use Rattle.lrpar_table_items.specs.Cores.{core_set};
 ghost use Rattle.lrpar_table_items.specs.Next.{kernel_at, kernel_rows};
 ghost use Rattle.lrpar_table_items.specs.Working.{AreSets};
-ghost use Rattle.lrpar_table_merge.specs.Compatible.{AreWeaklyCompatible};
+ghost use Rattle.lrpar_table_merge.specs.Compatible.{AreWeaklyCompatible, HaveSameCores};
 ghost use Rattle.lrpar_table_merge.specs.Merging.{AreCoreRows, AreKernelsOrEmpty, AreMerging, kernels_of};
+ghost use Rattle.lrpar_table_merge.specs.United.{rooms_of};
 
 use crate::compatible::are_weakly_compatible;
 use crate::held::Transitions;
@@ -18,7 +19,6 @@ use lrpar_grammar::span::StorageIndex;
 use lrpar_table_items::cores::{CoreItems, copied};
 use lrpar_table_items::fault::BuildFault;
 use lrpar_table_items::sets::{Sets, closed};
-use lrpar_table_items::states::start_kernel;
 use lrpar_table_items::successors::Successors;
 use std::alloc::{AllocError, Global};
 
@@ -70,7 +70,7 @@ pub(crate) fn merge<StorageT: StorageIndex>(
 impl<StorageT: StorageIndex> Merging<StorageT> {
     // No states.
     fn new(alloc: Global, grm: &YaccGrammar<StorageT>) -> Result<Self, AllocError>
-        ensures { IfOk result (AreMerging StorageT.index grm.now 0 0) }
+        ensures { IfOk result (λ merging. (most limit : ℕ) → AreMerging StorageT.index grm.now most limit merging) }
     {
         let mut by_prod = Vec::with_capacity(alloc, grm.prods_len())?;
         for _ in 0..grm.prods_len() {
@@ -195,9 +195,7 @@ impl<StorageT: StorageIndex> Merging<StorageT> {
         let first = usize::from(kernel[0].prod);
         match self.find(&self.by_prod[first], kernel) {
             Some(number) => {
-                if unite(&mut self.states[number].kernel, kernel) {
-                    self.states[number].waits = true;
-                }
+                grow(&mut self.states[number], kernel);
                 Ok(number)
             }
             None => self.push(alloc, grm, max_states, first, kernel),
@@ -252,6 +250,18 @@ impl<StorageT: StorageIndex> Merging<StorageT> {
             waits: true,
         })?;
         Ok(number)
+    }
+}
+
+// Adds the lookaheads of the kernel to those of the state's kernel. If any of them was new, the state waits.
+fn grow<StorageT: StorageIndex>(state: &mut MergedState<StorageT>, kernel: &[CoreItems<StorageT>])
+    requires same { HaveSameCores (map (core_set StorageT.index) state.old.kernel.items) (map (core_set StorageT.index) kernel.now) }
+    requires room { rooms_of (map (core_set StorageT.index) state.old.kernel.items) ≡ rooms_of (map (core_set StorageT.index) kernel.now) }
+    ensures { (g : Grammar) → IsKernel g (map (core_set StorageT.index) state.old.kernel.items)
+        → IsKernel g (map (core_set StorageT.index) state.new.kernel.items) }
+{
+    if unite(&mut state.kernel, kernel) {
+        state.waits = true;
     }
 }
 
@@ -361,4 +371,16 @@ fn renumbered(
         renumbered.push(next)?;
     }
     Ok(renumbered)
+}
+
+// STUB
+fn start_kernel<StorageT: StorageIndex>(
+    alloc: Global,
+    grm: &YaccGrammar<StorageT>,
+) -> Result<Vec<CoreItems<StorageT>>, AllocError>
+    ensures kernel { IfOk result (λ kernel. IsKernel grm.now (map (core_set StorageT.index) kernel.items)) }
+    ensures well_formed { IsWellFormed grm.now }
+{
+    let kernel = Vec::new(alloc);
+    Ok(kernel)
 }
