@@ -1,16 +1,17 @@
 -- While states are merged, each of them has a kernel.
-use Rattle.std.proofs.Common.{◌≡◌, ◌<◌, ◌≤◌, ◌∙◌, sym, ap, subst, arith, ℕ, List, [], ◌∷◌, ◌++◌, All, drop, get_or, length, map, set, take}
+use Rattle.std.proofs.Common.{Vec, ◌≡◌, ◌<◌, ◌≤◌, ◌∙◌, sym, ap, subst, arith, ℕ, List, [], ◌∷◌, ◌++◌, All, drop, get_or, length, map, set, take}
 use Rattle.std.proofs.lemmas.List.{get_or-map, get_or_default, length-map, length-set, length_push, map-set, map_push}
 use Rattle.std.proofs.Math.Seq.{take-append_seam}
 use Rattle.std.proofs.lemmas.List.Elements.{All-push, All-set}
-use Rattle.lrpar_grammar.specs.Grammar.{Grammar, GrammarSymbol}
+use Rattle.lrpar_grammar.specs.Grammar.{Grammar, GrammarSymbol, prods_len}
 use Rattle.lrpar_grammar_places.proofs.ListLemmas.{All-map-at}
 use Rattle.lrpar_table_items.specs.CoreOrder.{AreCores, IsKernel}
-use Rattle.lrpar_table_items.specs.Cores.{CoreSet, core_set}
-use Rattle.lrpar_table_items.specs.Next.{AreNext, kernel_at, next_kernel}
+use Rattle.lrpar_table_items.specs.Cores.{CoreSet, IsCoreOf, core_set}
+use Rattle.lrpar_table_items.specs.declared.cores.CoreItems.{CoreItems}
+use Rattle.lrpar_table_items.specs.Next.{AreNext, kernel_at, kernel_rows, next_kernel}
 use Rattle.lrpar_table_items.proofs.NextLemmas.{next_begun, next_cores}
 use Rattle.lrpar_table_merge.specs.Compatible.{HaveSameCores, lr0_core}
-use Rattle.lrpar_table_merge.specs.Merging.{AreKernelsOrEmpty, AreMerging, kernels_of}
+use Rattle.lrpar_table_merge.specs.Merging.{AreCoreRows, AreKernelsOrEmpty, AreMerging, kernels_of}
 use Rattle.lrpar_table_merge.specs.United.{rooms_of}
 use Rattle.lrpar_table_merge.specs.declared.merge.MergedState.{MergedState}
 use Rattle.lrpar_table_merge.specs.declared.merge.Merging.{Merging}
@@ -47,11 +48,29 @@ module _ {S : Type 0} (index : S → ℕ) where
       → kernel_at (kernels_of index states) s ≡ map (core_set index) (get_or states s d).kernel.items
   state_value states s d low = get_or-map kernel_of states s d [] low
 
-  module _ (g : Grammar) (max limit : ℕ) (before : Merging S) (are : AreMerging index g max limit before) where
-    pub kernel_in : (s : ℕ) (d : MergedState S) → s < length before.states.items
-        → IsKernel g (map (core_set index) (get_or before.states.items s d).kernel.items)
-    kernel_in s d low = All-map-at (IsKernel g) kernel_of before.states.items are.kernels s d low
+  -- a state that is read has a kernel
+  pub kernel_read : (g : Grammar) (states : List (MergedState S)) (s : ℕ) (state : MergedState S) → s < length states → state ≡ get_or states s state
+      → All (IsKernel g) (kernels_of index states) → IsKernel g (map (core_set index) state.kernel.items)
+  kernel_read g states s state low is all =
+      subst (λ read. IsKernel g (kernel_of read)) (sym is) (All-map-at (IsKernel g) kernel_of states all s state low)
 
+  -- the production of a kernel's first core is one of the grammar's
+  pub first_prod : (g : Grammar) (kernel : List (CoreItems S)) (d : CoreItems S) → IsKernel g (map (core_set index) kernel)
+      → index (get_or kernel 0 d).prod.0 < prods_len g
+  first_prod g kernel d has =
+      let some = has.some in
+      let low : 0 < length kernel = omega (arith, some, length-map kernel (core_set index)) in
+      (All-map-at (IsCoreOf g) (core_set index) kernel has.cores.of_grammar 0 d low).prod
+
+  -- one more list of cores
+  pub rows_push : {A : Type 0} (g : Grammar) (kernels more : List (Vec (CoreItems S) A)) (kernel : Vec (CoreItems S) A) → more ≡ kernels ++ kernel ∷ []
+      → AreCoreRows g (kernel_rows index kernels) → IsKernel g (map (core_set index) kernel.items) → AreCoreRows g (kernel_rows index more)
+  rows_push g kernels more kernel is rows one =
+      let all = ap (kernel_rows index) is ∙ map_push (λ (v : Vec (CoreItems S) _). map (core_set index) v.items) kernels kernel in
+      subst (AreCoreRows g) (sym all)
+      (All-push (All (IsCoreOf g)) (kernel_rows index kernels) (map (core_set index) kernel.items) rows one.cores.of_grammar)
+
+  module _ (g : Grammar) (max limit : ℕ) (before : Merging S) (are : AreMerging index g max limit before) where
     -- a state is changed, and has a kernel still
     pub merging_set : (after : Merging S) (s : ℕ) (state : MergedState S) → after.states.items ≡ set before.states.items s state
         → length after.by_prod.items ≡ length before.by_prod.items → IsKernel g (map (core_set index) state.kernel.items)

@@ -153,7 +153,8 @@ impl<StorageT: StorageIndex> Merging<StorageT> {
     {
         let kernel = copied(alloc, &self.states[number].kernel)?;
         let items = closed(alloc, grm, sets, kernel)?;
-        Successors::new(alloc, grm, items)
+        let successors = Successors::new(alloc, grm, items)?;
+        Ok(successors)
     }
 
     // The states of the kernels; those of kernels without cores are none.
@@ -334,7 +335,8 @@ fn finished<StorageT: StorageIndex>(
     for number in 0..states.len() {
         if marks[number] {
             let state = &states[number];
-            kernels.push(copied(alloc, &state.kernel)?)?;
+            let kernel = copied(alloc, &state.kernel)?;
+            kernels.push(kernel)?;
             let rules = renumbered(alloc, &state.transitions.rules, &numbers)?;
             let tokens = renumbered(alloc, &state.transitions.tokens, &numbers)?;
             all.push(Transitions { rules, tokens })?;
