@@ -62,6 +62,17 @@ module _ {S : Type 0} (index : S → ℕ) where
       let low : 0 < length kernel = omega (arith, some, length-map kernel (core_set index)) in
       (All-map-at (IsCoreOf g) (core_set index) kernel has.cores.of_grammar 0 d low).prod
 
+  -- a kernel that is read, if it has cores
+  pub kernel_or_empty : {A : Type 0} (g : Grammar) (kernels : List (Vec (CoreItems S) A)) (i : ℕ) (kernel : Vec (CoreItems S) A) → i < length kernels
+      → kernel ≡ get_or kernels i kernel → AreKernelsOrEmpty g (kernel_rows index kernels) → 0 < length kernel.items
+      → IsKernel g (map (core_set index) kernel.items)
+  kernel_or_empty g kernels i kernel low is all some =
+      let read = All-map-at (λ (cores : List CoreSet). 0 < length cores → IsKernel g cores) (λ (v : Vec (CoreItems S) _). map (core_set index) v.items)
+          kernels all i kernel low in
+      let one : 0 < length (map (core_set index) kernel.items) → IsKernel g (map (core_set index) kernel.items) =
+          subst (λ (v : Vec (CoreItems S) _). 0 < length (map (core_set index) v.items) → IsKernel g (map (core_set index) v.items)) (sym is) read in
+      one (omega (arith, some, length-map kernel.items (core_set index)))
+
   -- one more list of cores
   pub rows_push : {A : Type 0} (g : Grammar) (kernels more : List (Vec (CoreItems S) A)) (kernel : Vec (CoreItems S) A) → more ≡ kernels ++ kernel ∷ []
       → AreCoreRows g (kernel_rows index kernels) → IsKernel g (map (core_set index) kernel.items) → AreCoreRows g (kernel_rows index more)
