@@ -19,6 +19,7 @@ use lrpar_grammar::span::StorageIndex;
 use lrpar_table_items::cores::{CoreItems, copied};
 use lrpar_table_items::fault::BuildFault;
 use lrpar_table_items::sets::{Sets, closed};
+use lrpar_table_items::states::start_kernel;
 use lrpar_table_items::successors::Successors;
 use std::alloc::{AllocError, Global};
 
@@ -57,12 +58,7 @@ pub(crate) fn merge<StorageT: StorageIndex>(
     let mut merging = Merging::new(alloc, grm)?;
     let start = start_kernel(alloc, grm)?;
     let _start = merging.place(alloc, grm, max_states, &start)?;
-    // Each round but the last adds a state or lookaheads, so the last one comes long before the bound.
-    for _ in 0..usize::MAX {
-        if !merging.work_on_all(alloc, grm, sets, max_states)? {
-            break;
-        }
-    }
+    merging.settle(alloc, grm, sets, max_states)?;
     let reached = reached(alloc, &merging.states)?;
     Ok(finished(alloc, &merging.states, &reached)?)
 }
@@ -80,6 +76,29 @@ impl<StorageT: StorageIndex> Merging<StorageT> {
             states: Vec::new(alloc),
             by_prod,
         })
+    }
+
+    // Works on states until none waits.
+    fn settle(
+        &mut self,
+        alloc: Global,
+        grm: &YaccGrammar<StorageT>,
+        sets: &mut Sets,
+        max_states: usize,
+    ) -> Result<(), BuildFault>
+        requires well_formed { IsWellFormed grm.now }
+        requires sets { AreSets grm.now sets.old }
+        requires merging { AreMerging StorageT.index grm.now max_states StorageT.limit self.old }
+        ensures sets { AreSets grm.now sets.new }
+        ensures merging { OnOk result (AreMerging StorageT.index grm.now max_states StorageT.limit self.new) }
+    {
+        // Each round but the last adds a state or lookaheads, so the last one comes long before the bound.
+        for _ in 0..usize::MAX {
+            if !self.work_on_all(alloc, grm, sets, max_states)? {
+                return Ok(());
+            }
+        }
+        Ok(())
     }
 
     // Works on each state that waits. Returns whether any did.
@@ -373,16 +392,4 @@ fn renumbered(
         renumbered.push(next)?;
     }
     Ok(renumbered)
-}
-
-// STUB
-fn start_kernel<StorageT: StorageIndex>(
-    alloc: Global,
-    grm: &YaccGrammar<StorageT>,
-) -> Result<Vec<CoreItems<StorageT>>, AllocError>
-    ensures kernel { IfOk result (λ kernel. IsKernel grm.now (map (core_set StorageT.index) kernel.items)) }
-    ensures well_formed { IsWellFormed grm.now }
-{
-    let kernel = Vec::new(alloc);
-    Ok(kernel)
 }
