@@ -1,6 +1,7 @@
 pub mod SameCoreLemmas
 pub mod PairLemmas
 pub mod UniteLemmas
+pub mod MergingLemmas
 pub mod KernelLemmas
 pub mod AmongLemmas
 pub mod PassLemmas

@@ -1,14 +1,15 @@
 //! The merging of item sets whose kernels are weakly compatible.
 //!
 //! D. Pager, 'A practical general method for constructing LR(k) parsers', Acta Informatica 7, 1977.
-ghost use Rattle.std.specs.Prelude.{◌≡◌, ◌<◌, ◌≤◌, All, IfOk, IfSome, OnOk, length, map};
+ghost use Rattle.std.specs.Prelude.{◌≡◌, ◌<◌, ◌≤◌, ℕ, All, IfOk, IfSome, OnOk, length, map};
 ghost use Rattle.lrpar_grammar.specs.Grammar.{Grammar, IsWellFormed};
 ghost use Rattle.lrpar_table_items.specs.CoreOrder.{IsKernel};
 ghost use Rattle.lrpar_table_items.specs.Cores.{core_set};
 ghost use Rattle.lrpar_table_items.specs.Next.{kernel_at, kernel_rows};
 ghost use Rattle.lrpar_table_items.specs.Working.{AreSets};
-ghost use Rattle.lrpar_table_merge.specs.Compatible.{AreWeaklyCompatible};
+ghost use Rattle.lrpar_table_merge.specs.Compatible.{AreWeaklyCompatible, HaveSameCores};
 ghost use Rattle.lrpar_table_merge.specs.Merging.{AreCoreRows, AreKernelsOrEmpty, AreMerging, kernels_of};
+ghost use Rattle.lrpar_table_merge.specs.United.{rooms_of};
 
 use crate::compatible::are_weakly_compatible;
 use crate::held::Transitions;
@@ -57,12 +58,7 @@ pub(crate) fn merge<StorageT: StorageIndex>(
     let mut merging = Merging::new(alloc, grm)?;
     let start = start_kernel(alloc, grm)?;
     let _start = merging.place(alloc, grm, max_states, &start)?;
-    // Each round but the last adds a state or lookaheads, so the last one comes long before the bound.
-    for _ in 0..usize::MAX {
-        if !merging.work_on_all(alloc, grm, sets, max_states)? {
-            break;
-        }
-    }
+    merging.settle(alloc, grm, sets, max_states)?;
     let reached = reached(alloc, &merging.states)?;
     Ok(finished(alloc, &merging.states, &reached)?)
 }
@@ -70,7 +66,7 @@ pub(crate) fn merge<StorageT: StorageIndex>(
 impl<StorageT: StorageIndex> Merging<StorageT> {
     // No states.
     fn new(alloc: Global, grm: &YaccGrammar<StorageT>) -> Result<Self, AllocError>
-        ensures { IfOk result (AreMerging StorageT.index grm.now 0 0) }
+        ensures { IfOk result (λ merging. (most limit : ℕ) → AreMerging StorageT.index grm.now most limit merging) }
     {
         let mut by_prod = Vec::with_capacity(alloc, grm.prods_len())?;
         for _ in 0..grm.prods_len() {
@@ -80,6 +76,29 @@ impl<StorageT: StorageIndex> Merging<StorageT> {
             states: Vec::new(alloc),
             by_prod,
         })
+    }
+
+    // Works on states until none waits.
+    fn settle(
+        &mut self,
+        alloc: Global,
+        grm: &YaccGrammar<StorageT>,
+        sets: &mut Sets,
+        max_states: usize,
+    ) -> Result<(), BuildFault>
+        requires well_formed { IsWellFormed grm.now }
+        requires sets { AreSets grm.now sets.old }
+        requires merging { AreMerging StorageT.index grm.now max_states StorageT.limit self.old }
+        ensures sets { AreSets grm.now sets.new }
+        ensures merging { OnOk result (AreMerging StorageT.index grm.now max_states StorageT.limit self.new) }
+    {
+        // Each round but the last adds a state or lookaheads, so the last one comes long before the bound.
+        for _ in 0..usize::MAX {
+            if !self.work_on_all(alloc, grm, sets, max_states)? {
+                return Ok(());
+            }
+        }
+        Ok(())
     }
 
     // Works on each state that waits. Returns whether any did.
@@ -153,7 +172,8 @@ impl<StorageT: StorageIndex> Merging<StorageT> {
     {
         let kernel = copied(alloc, &self.states[number].kernel)?;
         let items = closed(alloc, grm, sets, kernel)?;
-        Successors::new(alloc, grm, items)
+        let successors = Successors::new(alloc, grm, items)?;
+        Ok(successors)
     }
 
     // The states of the kernels; those of kernels without cores are none.
@@ -195,9 +215,7 @@ impl<StorageT: StorageIndex> Merging<StorageT> {
         let first = usize::from(kernel[0].prod);
         match self.find(&self.by_prod[first], kernel) {
             Some(number) => {
-                if unite(&mut self.states[number].kernel, kernel) {
-                    self.states[number].waits = true;
-                }
+                grow(&mut self.states[number], kernel);
                 Ok(number)
             }
             None => self.push(alloc, grm, max_states, first, kernel),
@@ -252,6 +270,18 @@ impl<StorageT: StorageIndex> Merging<StorageT> {
             waits: true,
         })?;
         Ok(number)
+    }
+}
+
+// Adds the lookaheads of the kernel to those of the state's kernel. If any of them was new, the state waits.
+fn grow<StorageT: StorageIndex>(state: &mut MergedState<StorageT>, kernel: &[CoreItems<StorageT>])
+    requires same { HaveSameCores (map (core_set StorageT.index) state.old.kernel.items) (map (core_set StorageT.index) kernel.now) }
+    requires room { rooms_of (map (core_set StorageT.index) state.old.kernel.items) ≡ rooms_of (map (core_set StorageT.index) kernel.now) }
+    ensures { (g : Grammar) → IsKernel g (map (core_set StorageT.index) state.old.kernel.items)
+        → IsKernel g (map (core_set StorageT.index) state.new.kernel.items) }
+{
+    if unite(&mut state.kernel, kernel) {
+        state.waits = true;
     }
 }
 
@@ -324,7 +354,8 @@ fn finished<StorageT: StorageIndex>(
     for number in 0..states.len() {
         if marks[number] {
             let state = &states[number];
-            kernels.push(copied(alloc, &state.kernel)?)?;
+            let kernel = copied(alloc, &state.kernel)?;
+            kernels.push(kernel)?;
             let rules = renumbered(alloc, &state.transitions.rules, &numbers)?;
             let tokens = renumbered(alloc, &state.transitions.tokens, &numbers)?;
             all.push(Transitions { rules, tokens })?;

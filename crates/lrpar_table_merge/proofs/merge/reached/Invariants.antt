@@ -1,0 +1,6 @@
+use Rattle.std.proofs.Common.{◌≡◌, length}
+use Rattle.lrpar_table_merge.proofs.merge.reached.Given as goal
+
+-- there is a mark for each state
+abbrev pub invariant-loop : goal.invariant-loop
+invariant-loop g l = length l.marks.items ≡ length l.states
