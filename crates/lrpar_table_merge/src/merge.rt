@@ -1,13 +1,14 @@
 //! The merging of item sets whose kernels are weakly compatible.
 //!
 //! D. Pager, 'A practical general method for constructing LR(k) parsers', Acta Informatica 7, 1977.
-ghost use Rattle.std.specs.Prelude.{◌≡◌, ◌<◌, ◌≤◌, ℕ, All, IfOk, IfSome, OnOk, length, map};
+ghost use Rattle.std.specs.Prelude.{◌≡◌, ◌<◌, ◌≤◌, ℕ, All, IfErr, IfOk, IfSome, OnOk, length, map};
 ghost use Rattle.lrpar_grammar.specs.Grammar.{Grammar, IsWellFormed};
 ghost use Rattle.lrpar_table_items.specs.CoreOrder.{IsKernel};
 ghost use Rattle.lrpar_table_items.specs.Cores.{core_set};
 ghost use Rattle.lrpar_table_items.specs.Next.{kernel_at, kernel_rows};
 ghost use Rattle.lrpar_table_items.specs.Working.{AreSets};
 ghost use Rattle.lrpar_table_merge.specs.Compatible.{AreWeaklyCompatible, HaveSameCores};
+ghost use Rattle.lrpar_table_merge.specs.Minimised.{IsMergeFault};
 ghost use Rattle.lrpar_table_merge.specs.Merging.{AreCoreRows, AreKernelsOrEmpty, AreMerging, kernels_of};
 ghost use Rattle.lrpar_table_merge.specs.United.{rooms_of};
 
@@ -54,6 +55,7 @@ pub(crate) fn merge<StorageT: StorageIndex>(
     ensures cores { IfOk result (λ merged. AreCoreRows grm.now (kernel_rows StorageT.index merged.0.items)) }
     ensures room { IfOk result (λ merged. length merged.0.items ≤ max_states) }
     ensures fits { IfOk result (λ merged. length merged.0.items ≤ StorageT.limit) }
+    ensures fault { IfErr result IsMergeFault }
 {
     let mut merging = Merging::new(alloc, grm)?;
     let start = start_kernel(alloc, grm)?;
@@ -91,6 +93,7 @@ impl<StorageT: StorageIndex> Merging<StorageT> {
         requires merging { AreMerging StorageT.index grm.now max_states StorageT.limit self.old }
         ensures sets { AreSets grm.now sets.new }
         ensures merging { OnOk result (AreMerging StorageT.index grm.now max_states StorageT.limit self.new) }
+        ensures fault { IfErr result IsMergeFault }
     {
         // Each round but the last adds a state or lookaheads, so the last one comes long before the bound.
         for _ in 0..usize::MAX {
@@ -114,6 +117,7 @@ impl<StorageT: StorageIndex> Merging<StorageT> {
         requires merging { AreMerging StorageT.index grm.now max_states StorageT.limit self.old }
         ensures sets { AreSets grm.now sets.new }
         ensures merging { OnOk result (AreMerging StorageT.index grm.now max_states StorageT.limit self.new) }
+        ensures fault { IfErr result IsMergeFault }
     {
         let mut waited = false;
         for number in 0..max_states {
@@ -143,6 +147,7 @@ impl<StorageT: StorageIndex> Merging<StorageT> {
         requires merging { AreMerging StorageT.index grm.now max_states StorageT.limit self.old }
         ensures sets { AreSets grm.now sets.new }
         ensures merging { OnOk result (AreMerging StorageT.index grm.now max_states StorageT.limit self.new) }
+        ensures fault { IfErr result IsMergeFault }
     {
         let successors = self.successors(alloc, grm, sets, number)?;
         self.states[number].waits = false;
@@ -187,6 +192,7 @@ impl<StorageT: StorageIndex> Merging<StorageT> {
         requires merging { AreMerging StorageT.index grm.now max_states StorageT.limit self.old }
         requires kernels { AreKernelsOrEmpty grm.now (kernel_rows StorageT.index kernels.now) }
         ensures merging { OnOk result (AreMerging StorageT.index grm.now max_states StorageT.limit self.new) }
+        ensures fault { IfErr result IsMergeFault }
     {
         let mut row = Vec::with_capacity(alloc, kernels.len())?;
         for kernel in kernels {
@@ -211,6 +217,7 @@ impl<StorageT: StorageIndex> Merging<StorageT> {
         requires merging { AreMerging StorageT.index grm.now max_states StorageT.limit self.old }
         requires kernel { IsKernel grm.now (map (core_set StorageT.index) kernel.now) }
         ensures merging { OnOk result (AreMerging StorageT.index grm.now max_states StorageT.limit self.new) }
+        ensures fault { IfErr result IsMergeFault }
     {
         let first = usize::from(kernel[0].prod);
         match self.find(&self.by_prod[first], kernel) {
@@ -251,6 +258,7 @@ impl<StorageT: StorageIndex> Merging<StorageT> {
         requires merging { AreMerging StorageT.index grm.now max_states StorageT.limit self.old }
         requires kernel { IsKernel grm.now (map (core_set StorageT.index) kernel.now) }
         ensures merging { OnOk result (AreMerging StorageT.index grm.now max_states StorageT.limit self.new) }
+        ensures fault { IfErr result IsMergeFault }
     {
         let number = self.states.len();
         if number >= max_states {
