@@ -1,10 +1,12 @@
 //! Merging of LR(1) item sets: weak compatibility of kernels, the union of their lookaheads, and the items that merged states hold.
 #![tactic(auto)]
 
+pub mod build;
 pub mod compatible;
 pub mod held;
 pub mod laws;
 mod merge;
 mod merged_states;
 mod merged_table;
+mod propagate;
 pub mod unite;
