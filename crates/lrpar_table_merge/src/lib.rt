@@ -4,4 +4,5 @@
 pub mod compatible;
 pub mod held;
 pub mod laws;
+mod propagate;
 pub mod unite;
