@@ -15,3 +15,5 @@ pub mod WithinLemmas
 pub mod CanonicalLemmas
 pub mod BuiltMergedLemmas
 pub mod MergedFitLemmas
+pub mod PropagateLemmas
+pub mod FromLemmas

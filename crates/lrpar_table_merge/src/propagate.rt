@@ -1,15 +1,111 @@
 //! The items that states hold, propagated from the start along transitions until nothing grows.
-ghost use Rattle.std.specs.Prelude.{◌≡◌, ◌<◌, ℕ, IfErr, IfOk, OnOk, length, map};
-ghost use Rattle.lrpar_grammar.specs.Grammar.{Grammar};
-ghost use Rattle.lrpar_table_items.specs.Cores.{core_set};
+ghost use Rattle.std.specs.Prelude.{◌≡◌, ◌<◌, ◌↔◌, ℕ, IfErr, IfOk, IsTrue, OnOk, length, map};
+ghost use Rattle.lrpar_grammar.specs.Grammar.{Grammar, IsWellFormed};
+ghost use Rattle.lrpar_table_rows.specs.Graph.{ItemOf};
+ghost use Rattle.lrpar_table_items.specs.Canonical.{AreSame};
+ghost use Rattle.lrpar_table_items.specs.CoreOrder.{AreCores, IsKernel};
+ghost use Rattle.lrpar_table_items.specs.Cores.{IsAmong, core_set};
+ghost use Rattle.lrpar_table_items.specs.ItemSets.{IsInClosure};
 ghost use Rattle.lrpar_table_items.specs.Next.{kernel_rows};
+ghost use Rattle.lrpar_table_items.specs.Working.{AreSets, AreSuccessors};
+ghost use Rattle.lrpar_table_merge.specs.Held.{GoesBy, transitions_at};
+ghost use Rattle.lrpar_table_merge.specs.MergedStates.{all_transitions};
 ghost use Rattle.lrpar_table_merge.specs.PassedOn.{AreBeginnings, IsMisfit};
-ghost use Rattle.lrpar_table_merge.specs.Propagated.{AreAdded, AreNoneOrKernels, ArePassedAlong, HasGrown, IsNoneOrKernel, IsPassedAlong, step_at};
+ghost use Rattle.lrpar_table_merge.specs.Propagated.{AreAdded, AreNoneOrKernels, ArePassedAlong, HasGrown, IsNoneOrKernel, IsPassedAlong, IsPassedFrom, step_at};
 ghost use Rattle.lrpar_table_merge.specs.declared.held.HeldFault.TheVariants.{Misfit};
 
-use crate::held::{HeldFault, pass_to};
+use crate::held::{HeldFault, Transitions, pass_to};
+use lrpar_grammar::grammar::YaccGrammar;
 use lrpar_grammar::span::StorageIndex;
-use lrpar_table_items::cores::CoreItems;
+use lrpar_table_items::cores::{CoreItems, copied};
+use lrpar_table_items::sets::{Sets, closed};
+use lrpar_table_items::successors::Successors;
+use std::alloc::{AllocError, Global};
+
+// Passes the items of the state on along its transitions, and marks each state that grew as waiting. Returns whether any kernel grew. A
+// state without an item is passed over.
+fn pass_from<StorageT: StorageIndex>(
+    alloc: Global,
+    grm: &YaccGrammar<StorageT>,
+    sets: &mut Sets,
+    all: &[Transitions],
+    state: usize,
+    kernels: &mut [Vec<CoreItems<StorageT>>],
+    waits: &mut [bool],
+) -> Result<bool, HeldFault>
+    requires well_formed { IsWellFormed grm.now }
+    requires sets { AreSets grm.now sets.old }
+    requires beginnings { AreBeginnings grm.now (kernel_rows StorageT.index kernels.old) }
+    requires waits { length waits.old ≡ length kernels.old }
+    requires state { state < length kernels.old }
+    ensures sets { AreSets grm.now sets.new }
+    ensures added { OnOk result (AreAdded (kernel_rows StorageT.index kernels.old) waits.old (kernel_rows StorageT.index kernels.new) waits.new) }
+    ensures passed { OnOk result (IsPassedFrom grm.now (GoesBy (all_transitions all.now)) state
+        (kernel_rows StorageT.index kernels.old) (kernel_rows StorageT.index kernels.new)) }
+    ensures beginnings { OnOk result (AreBeginnings grm.now (kernel_rows StorageT.index kernels.new)) }
+    ensures grown { IfOk result (HasGrown (kernel_rows StorageT.index kernels.old) waits.old (kernel_rows StorageT.index kernels.new) waits.new) }
+{
+    if !has_items(&kernels[state]) {
+        return Ok(false);
+    }
+    let successors = successors_of(alloc, grm, sets, &kernels[state])?;
+    let by_rules = pass_all(kernels, waits, rules_from(all, state), &successors.rules)?;
+    let by_tokens = pass_all(kernels, waits, tokens_from(all, state), &successors.tokens)?;
+    Ok(by_rules || by_tokens)
+}
+
+// Whether the cores have any item.
+fn has_items<StorageT: StorageIndex>(cores: &[CoreItems<StorageT>]) -> bool
+    ensures { IsTrue result ↔ ((x : ItemOf) × IsAmong (map (core_set StorageT.index) cores.now) x) }
+{
+    for core in cores {
+        if core.tokens.has_any() {
+            return true;
+        }
+    }
+    false
+}
+
+// The closure of the kernel, and the kernels to which it goes.
+fn successors_of<StorageT: StorageIndex>(
+    alloc: Global,
+    grm: &YaccGrammar<StorageT>,
+    sets: &mut Sets,
+    kernel: &[CoreItems<StorageT>],
+) -> Result<Successors<StorageT>, AllocError>
+    requires well_formed { IsWellFormed grm.now }
+    requires sets { AreSets grm.now sets.old }
+    requires kernel { IsKernel grm.now (map (core_set StorageT.index) kernel.now) }
+    ensures sets { AreSets grm.now sets.new }
+    ensures successors { IfOk result (AreSuccessors StorageT.index grm.now) }
+    ensures cores { IfOk result (λ successors. AreCores grm.now (map (core_set StorageT.index) successors.items.items)) }
+    ensures items { IfOk result (λ successors. AreSame (IsAmong (map (core_set StorageT.index) successors.items.items))
+        (IsInClosure grm.now (IsAmong (map (core_set StorageT.index) kernel.now)))) }
+{
+    let copy = copied(alloc, kernel)?;
+    let items = closed(alloc, grm, sets, copy)?;
+    Successors::new(alloc, grm, items)
+}
+
+// The transitions of the state by rules; none, if there are no transitions of this state.
+fn rules_from(all: &[Transitions], state: usize) -> &[Option<usize>]
+    ensures { result.now ≡ (transitions_at (all_transitions all.now) state).rules }
+{
+    match all.get(state) {
+        Some(transitions) => &transitions.rules,
+        None => &[],
+    }
+}
+
+// The transitions of the state by tokens; none, if there are no transitions of this state.
+fn tokens_from(all: &[Transitions], state: usize) -> &[Option<usize>]
+    ensures { result.now ≡ (transitions_at (all_transitions all.now) state).tokens }
+{
+    match all.get(state) {
+        Some(transitions) => &transitions.tokens,
+        None => &[],
+    }
+}
 
 // Passes each of these kernels to the state to which its symbol leads. Returns whether any kernel grew.
 fn pass_all<StorageT: StorageIndex>(

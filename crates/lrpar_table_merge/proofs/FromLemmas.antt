@@ -1,0 +1,80 @@
+-- What a state passes on: the items of the closure of its kernel, each advanced, by the kernels of its successors.
+use Rattle.std.proofs.Common.{◌≡◌, ◌<◌, ◌↔◌, sym, ap, subst, inl, inr, arith, ℕ, List, [], Option, length}
+use Rattle.std.proofs.lemmas.Bool.{cases_lt}
+use Rattle.std.proofs.lemmas.List.{get_or_past}
+use Rattle.lrpar_grammar.specs.Grammar.{Grammar, GrammarSymbol, IsWellFormed, Nonterminal, Terminal, rules_len, tokens_len}
+use Rattle.lrpar_table_rows.specs.Graph.{ItemOf}
+use Rattle.lrpar_table_items.specs.Canonical.{AreSame}
+use Rattle.lrpar_table_items.specs.CoreOrder.{AreCores, IsKernel}
+use Rattle.lrpar_table_items.specs.Cores.{CoreSet, IsAmong}
+use Rattle.lrpar_table_items.specs.ItemSets.{IsAdvanced, IsInClosure}
+use Rattle.lrpar_table_items.specs.Next.{AreNext, kernel_at}
+use Rattle.lrpar_table_items.proofs.NextLemmas.{next_from, next_kernel_is, next_to}
+use Rattle.lrpar_table_items.proofs.SymbolLemmas.{symbol_at_below}
+use Rattle.lrpar_table_merge.specs.Held.{GoesBy, TransitionsOf, transitions_at}
+use Rattle.lrpar_table_merge.specs.Propagated.{AreNoneOrKernels, ArePassedAlong, IsPassedFrom, PassesOn}
+use Rattle.lrpar_table_merge.proofs.PropagateLemmas.{among_low}
+use Rattle.lrpar_table_merge.proofs.WithinLemmas.{closure_root}
+
+-- a state without items passes nothing on
+pub nothing_from : (g : Grammar) (goes : ℕ → GrammarSymbol → ℕ → Type 0) (state : ℕ) (kernels : List (List CoreSet))
+    → ((x : ItemOf) → IsAmong (kernel_at kernels state) x → ⊥) → IsPassedFrom g goes state kernels kernels
+nothing_from g goes state kernels none = record {
+  came = λ s x h. inl h;
+  there = λ symbol x h.
+      let root = closure_root g (IsAmong (kernel_at kernels state)) h.0 h.1 in absurd (none root.0 root.1);
+}
+
+module _ (g : Grammar) (kernel cores : List CoreSet) (closure : AreSame (IsAmong cores) (IsInClosure g (IsAmong kernel))) (are : AreCores g cores)
+    (symbol : ℕ → GrammarSymbol) (nexts : List (List CoreSet)) (next : AreNext g cores symbol nexts) where
+  -- the kernels of the gotos are kernels, if they have any cores
+  pub none_or_kernels : AreNoneOrKernels g nexts
+  none_or_kernels n some =
+      elim (cases_lt n (length nexts)) [
+        | inl low ↦
+            subst (IsKernel g) (sym (next n low)) (next_kernel_is g (symbol n) cores are (subst (λ (k : List CoreSet). 0 < length k) (next n low) some))
+        | inr past ↦ let none = ap (λ (k : List CoreSet). length k) (get_or_past nexts n [] past) in absurd (omega (arith, some, none))
+      ]
+
+  -- their items are those of the closure, advanced
+  pub next_items : (n : ℕ) (x : ItemOf) → IsAmong (kernel_at nexts n) x → IsAdvanced g (IsInClosure g (IsAmong kernel)) (symbol n) x
+  next_items n x h =
+      let to = next_to g (symbol n) cores x (subst (λ k. IsAmong k x) (next n (among_low nexts n x h)) h) in
+      (to.0, (closure to.0).0 to.1, to.2, to.3)
+
+  pub items_next : (n : ℕ) (x : ItemOf) → n < length nexts → IsAdvanced g (IsInClosure g (IsAmong kernel)) (symbol n) x → IsAmong (kernel_at nexts n) x
+  items_next n x low h = subst (λ k. IsAmong k x) (sym (next n low)) (next_from g (symbol n) cores x (h.0, (closure h.0).1 h.1, h.2, h.3))
+
+-- the kernels of rules were passed on, and then those of tokens
+module _ (g : Grammar) (well : IsWellFormed g) (all : List TransitionsOf) (state : ℕ) (before middle after : List (List CoreSet)) (cores : List CoreSet)
+    (closure : AreSame (IsAmong cores) (IsInClosure g (IsAmong (kernel_at before state)))) (are : AreCores g cores)
+    (by_rules by_tokens : List (List CoreSet)) (rules : AreNext g cores Nonterminal by_rules) (tokens : AreNext g cores Terminal by_tokens)
+    (rules_count : length by_rules ≡ rules_len g) (tokens_count : length by_tokens ≡ tokens_len g)
+    (one : ArePassedAlong (transitions_at all state).rules by_rules (length by_rules) before middle)
+    (two : ArePassedAlong (transitions_at all state).tokens by_tokens (length by_tokens) middle after)
+    (kept : (s : ℕ) (x : ItemOf) → IsAmong (kernel_at middle s) x → IsAmong (kernel_at after s) x) where
+  there : (symbol : GrammarSymbol) (x : ItemOf) → PassesOn g before state symbol x → (s : ℕ) × GoesBy all state symbol s × IsAmong (kernel_at after s) x
+  there (Nonterminal r) x h =
+      let listed : r < rules_len g = symbol_at_below g well h.0.prod h.0.dot (Nonterminal r) h.2 in
+      let low : r < length by_rules = omega (arith, listed, rules_count) in
+      let to = one.there r low x (items_next g (kernel_at before state) cores closure are Nonterminal by_rules rules r x low h) in (to.0, to.1, kept to.0 x to.2)
+  there (Terminal t) x h =
+      let listed : t < tokens_len g = symbol_at_below g well h.0.prod h.0.dot (Terminal t) h.2 in
+      let low : t < length by_tokens = omega (arith, listed, tokens_count) in
+      let to = two.there t low x (items_next g (kernel_at before state) cores closure are Terminal by_tokens tokens t x low h) in (to.0, to.1, to.2)
+
+  -- so all was passed on
+  pub passed_from : IsPassedFrom g (GoesBy all) state before after
+  passed_from = record {
+    came = λ s x h.
+        elim (two.came s x h) [
+          | inl own ↦
+              elim (one.came s x own) [
+                | inl old ↦ inl old
+                | inr came ↦
+                    inr (Nonterminal came.0, came.1, next_items g (kernel_at before state) cores closure are Nonterminal by_rules rules came.0 x came.2)
+              ]
+          | inr came ↦ inr (Terminal came.0, came.1, next_items g (kernel_at before state) cores closure are Terminal by_tokens tokens came.0 x came.2)
+        ];
+    there = there;
+  }
