@@ -1,20 +1,42 @@
 -- What a state passes on: the items of the closure of its kernel, each advanced, by the kernels of its successors.
-use Rattle.std.proofs.Common.{◌≡◌, ◌<◌, ◌↔◌, sym, ap, subst, inl, inr, arith, ℕ, List, [], Option, length}
+use Rattle.std.proofs.Common.{◌≡◌, ◌<◌, ◌∙◌, refl, sym, ap, subst, inl, inr, arith, ℕ, IsTrue, List, [], ◌∷◌, ◌++◌, Option, get_or, length, map}
 use Rattle.std.proofs.lemmas.Bool.{cases_lt}
-use Rattle.std.proofs.lemmas.List.{get_or_past}
+use Rattle.std.proofs.lemmas.List.{get_or-map, get_or_past, length-map}
+use Rattle.std.proofs.lemmas.List.Elements.{Contains-push_cases}
 use Rattle.lrpar_grammar.specs.Grammar.{Grammar, GrammarSymbol, IsWellFormed, Nonterminal, Terminal, rules_len, tokens_len}
+use Rattle.lrpar_grammar.specs.Tokens.{has}
 use Rattle.lrpar_table_rows.specs.Graph.{ItemOf}
 use Rattle.lrpar_table_items.specs.Canonical.{AreSame}
 use Rattle.lrpar_table_items.specs.CoreOrder.{AreCores, IsKernel}
-use Rattle.lrpar_table_items.specs.Cores.{CoreSet, IsAmong}
+use Rattle.lrpar_table_items.specs.Cores.{CoreSet, IsAmong, core_set}
+use Rattle.lrpar_table_items.specs.declared.cores.CoreItems.{CoreItems}
 use Rattle.lrpar_table_items.specs.ItemSets.{IsAdvanced, IsInClosure}
 use Rattle.lrpar_table_items.specs.Next.{AreNext, kernel_at}
 use Rattle.lrpar_table_items.proofs.NextLemmas.{next_from, next_kernel_is, next_to}
 use Rattle.lrpar_table_items.proofs.SymbolLemmas.{symbol_at_below}
 use Rattle.lrpar_table_merge.specs.Held.{GoesBy, TransitionsOf, transitions_at}
-use Rattle.lrpar_table_merge.specs.Propagated.{AreNoneOrKernels, ArePassedAlong, IsPassedFrom, PassesOn}
+use Rattle.lrpar_table_merge.specs.Propagated.{AreNoneOrKernels, ArePassedAlong, IsPassedFrom, PassesOn, step_at}
 use Rattle.lrpar_table_merge.proofs.PropagateLemmas.{among_low}
 use Rattle.lrpar_table_merge.proofs.WithinLemmas.{closure_root}
+
+-- one more core without lookaheads
+pub no_item_more : (cores : List CoreSet) (core : CoreSet) → ((x : ItemOf) → IsAmong cores x → ⊥) → ((t : ℕ) → IsTrue (has core.tokens t) → ⊥)
+    → (x : ItemOf) → IsAmong (cores ++ core ∷ []) x → ⊥
+no_item_more cores core none empty x h =
+    elim (Contains-push_cases cores core h.0 h.1) [
+      | inl old ↦ none x (h.0, old, h.2)
+      | inr is ↦ empty x.token (subst (λ (c : CoreSet). IsTrue (has c.tokens x.token)) (sym is) h.2.2)
+    ]
+
+-- a core with a lookahead has an item
+pub some_item_at : {S : Type 0} (index : S → ℕ) (cores : List (CoreItems S)) (i : ℕ) (core : CoreItems S) → i < length cores → core ≡ get_or cores i core
+    → (t : ℕ) → IsTrue (has core.tokens.bits.items t) → (x : ItemOf) × IsAmong (map (core_set index) cores) x
+some_item_at index cores i core low is t h =
+    let count = length-map cores (core_set index) in
+    let x : ItemOf = record { prod = index core.prod.0; dot = core.dot; token = t } in
+    
+    let at = get_or-map (core_set index) cores i core (core_set index core) low ∙ ap (core_set index) (sym is) in
+    (x, (core_set index core, (i, omega (arith, low, count), at), (refl, refl, h)))
 
 -- a state without items passes nothing on
 pub nothing_from : (g : Grammar) (goes : ℕ → GrammarSymbol → ℕ → Type 0) (state : ℕ) (kernels : List (List CoreSet))
@@ -49,19 +71,24 @@ module _ (g : Grammar) (kernel cores : List CoreSet) (closure : AreSame (IsAmong
 module _ (g : Grammar) (well : IsWellFormed g) (all : List TransitionsOf) (state : ℕ) (before middle after : List (List CoreSet)) (cores : List CoreSet)
     (closure : AreSame (IsAmong cores) (IsInClosure g (IsAmong (kernel_at before state)))) (are : AreCores g cores)
     (by_rules by_tokens : List (List CoreSet)) (rules : AreNext g cores Nonterminal by_rules) (tokens : AreNext g cores Terminal by_tokens)
-    (rules_count : length by_rules ≡ rules_len g) (tokens_count : length by_tokens ≡ tokens_len g)
-    (one : ArePassedAlong (transitions_at all state).rules by_rules (length by_rules) before middle)
-    (two : ArePassedAlong (transitions_at all state).tokens by_tokens (length by_tokens) middle after)
+    (n m : ℕ) (rules_count : length by_rules ≡ n) (tokens_count : length by_tokens ≡ m) (rules_all : n ≡ rules_len g) (tokens_all : m ≡ tokens_len g)
+    (rule_steps token_steps : List (Option ℕ)) (rules_are : rule_steps ≡ (transitions_at all state).rules)
+    (tokens_are : token_steps ≡ (transitions_at all state).tokens) (one : ArePassedAlong rule_steps by_rules n before middle)
+    (two : ArePassedAlong token_steps by_tokens m middle after)
     (kept : (s : ℕ) (x : ItemOf) → IsAmong (kernel_at middle s) x → IsAmong (kernel_at after s) x) where
   there : (symbol : GrammarSymbol) (x : ItemOf) → PassesOn g before state symbol x → (s : ℕ) × GoesBy all state symbol s × IsAmong (kernel_at after s) x
   there (Nonterminal r) x h =
       let listed : r < rules_len g = symbol_at_below g well h.0.prod h.0.dot (Nonterminal r) h.2 in
-      let low : r < length by_rules = omega (arith, listed, rules_count) in
-      let to = one.there r low x (items_next g (kernel_at before state) cores closure are Nonterminal by_rules rules r x low h) in (to.0, to.1, kept to.0 x to.2)
+      let low : r < length by_rules = omega (arith, listed, rules_count, rules_all) in
+      let to =
+      one.there r (omega (arith, low, rules_count)) x (items_next g (kernel_at before state) cores closure are Nonterminal by_rules rules r x low h) in
+      (to.0, ap (λ row. step_at row r) (sym rules_are) ∙ to.1, kept to.0 x to.2)
   there (Terminal t) x h =
       let listed : t < tokens_len g = symbol_at_below g well h.0.prod h.0.dot (Terminal t) h.2 in
-      let low : t < length by_tokens = omega (arith, listed, tokens_count) in
-      let to = two.there t low x (items_next g (kernel_at before state) cores closure are Terminal by_tokens tokens t x low h) in (to.0, to.1, to.2)
+      let low : t < length by_tokens = omega (arith, listed, tokens_count, tokens_all) in
+      let to =
+      two.there t (omega (arith, low, tokens_count)) x (items_next g (kernel_at before state) cores closure are Terminal by_tokens tokens t x low h) in
+      (to.0, ap (λ row. step_at row t) (sym tokens_are) ∙ to.1, to.2)
 
   -- so all was passed on
   pub passed_from : IsPassedFrom g (GoesBy all) state before after
@@ -72,9 +99,12 @@ module _ (g : Grammar) (well : IsWellFormed g) (all : List TransitionsOf) (state
               elim (one.came s x own) [
                 | inl old ↦ inl old
                 | inr came ↦
-                    inr (Nonterminal came.0, came.1, next_items g (kernel_at before state) cores closure are Nonterminal by_rules rules came.0 x came.2)
+                    let to = ap (λ row. step_at row came.0) (sym rules_are) ∙ came.1 in
+                    inr (Nonterminal came.0, to, next_items g (kernel_at before state) cores closure are Nonterminal by_rules rules came.0 x came.2)
               ]
-          | inr came ↦ inr (Terminal came.0, came.1, next_items g (kernel_at before state) cores closure are Terminal by_tokens tokens came.0 x came.2)
+          | inr came ↦
+              let to = ap (λ row. step_at row came.0) (sym tokens_are) ∙ came.1 in
+              inr (Terminal came.0, to, next_items g (kernel_at before state) cores closure are Terminal by_tokens tokens came.0 x came.2)
         ];
     there = there;
   }
