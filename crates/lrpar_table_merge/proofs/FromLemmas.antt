@@ -1,5 +1,5 @@
 -- What a state passes on: the items of the closure of its kernel, each advanced, by the kernels of its successors.
-use Rattle.std.proofs.Common.{◌≡◌, ◌<◌, ◌∙◌, refl, sym, ap, subst, inl, inr, arith, ℕ, IsTrue, List, [], ◌∷◌, ◌++◌, Option, get_or, length, map}
+use Rattle.std.proofs.Common.{Vec, ◌≡◌, ◌<◌, ◌∙◌, refl, sym, ap, subst, inl, inr, arith, ℕ, IsTrue, List, [], ◌∷◌, ◌++◌, Option, get_or, length, map}
 use Rattle.std.proofs.lemmas.Bool.{cases_lt}
 use Rattle.std.proofs.lemmas.List.{get_or-map, get_or_past, length-map}
 use Rattle.std.proofs.lemmas.List.Elements.{Contains-push_cases}
@@ -11,7 +11,7 @@ use Rattle.lrpar_table_items.specs.CoreOrder.{AreCores, IsKernel}
 use Rattle.lrpar_table_items.specs.Cores.{CoreSet, IsAmong, core_set}
 use Rattle.lrpar_table_items.specs.declared.cores.CoreItems.{CoreItems}
 use Rattle.lrpar_table_items.specs.ItemSets.{IsAdvanced, IsInClosure}
-use Rattle.lrpar_table_items.specs.Next.{AreNext, kernel_at}
+use Rattle.lrpar_table_items.specs.Next.{AreNext, kernel_at, kernel_rows}
 use Rattle.lrpar_table_items.proofs.NextLemmas.{next_from, next_kernel_is, next_to}
 use Rattle.lrpar_table_items.proofs.SymbolLemmas.{symbol_at_below}
 use Rattle.lrpar_table_merge.specs.Held.{GoesBy, TransitionsOf, transitions_at}
@@ -57,6 +57,10 @@ module _ (g : Grammar) (kernel cores : List CoreSet) (closure : AreSame (IsAmong
             subst (IsKernel g) (sym (next n low)) (next_kernel_is g (symbol n) cores are (subst (λ (k : List CoreSet). 0 < length k) (next n low) some))
         | inr past ↦ let none = ap (λ (k : List CoreSet). length k) (get_or_past nexts n [] past) in absurd (omega (arith, some, none))
       ]
+
+  pub none_or_values : {S A : Type 0} (index : S → ℕ) (lent : List (Vec (CoreItems S) A)) → nexts ≡ kernel_rows index lent
+      → AreNoneOrKernels g (kernel_rows index lent)
+  none_or_values index lent value = subst (AreNoneOrKernels g) value none_or_kernels
 
   -- their items are those of the closure, advanced
   pub next_items : (n : ℕ) (x : ItemOf) → IsAmong (kernel_at nexts n) x → IsAdvanced g (IsInClosure g (IsAmong kernel)) (symbol n) x

@@ -17,3 +17,4 @@ pub mod BuiltMergedLemmas
 pub mod MergedFitLemmas
 pub mod PropagateLemmas
 pub mod FromLemmas
+pub mod ClearLemmas

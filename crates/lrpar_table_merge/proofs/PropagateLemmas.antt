@@ -30,6 +30,10 @@ pub value_at : {S A : Type 0} (index : S → ℕ) (kernels : List (Vec (CoreItem
 value_at index kernels n kernel lent low is value =
     kernel_value index kernels n kernel low ∙ ap (λ (k : Vec (CoreItems _) _). map (core_set index) k.items) (sym is) ∙ ap (map (core_set index)) (sym value)
 
+pub own_at : {S A : Type 0} (index : S → ℕ) (kernels : List (Vec (CoreItems S) A)) (n : ℕ) (d : Vec (CoreItems S) A) (lent : List (CoreItems S))
+    → n < length kernels → lent ≡ (get_or kernels n d).items → kernel_at (kernel_rows index kernels) n ≡ map (core_set index) lent
+own_at index kernels n d lent low value = kernel_value index kernels n d low ∙ ap (map (core_set index)) (sym value)
+
 module _ (before after : List (List CoreSet)) (state : ℕ) (next : List CoreSet) (passed : IsPassedTo before state next after) where
   -- what was passed to a state was passed along the step to it
   pub passed_along : (step : Option ℕ) → step ≡ Some state → IsPassedAlong step next before after

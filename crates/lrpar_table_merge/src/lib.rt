@@ -1,6 +1,7 @@
 //! Merging of LR(1) item sets: weak compatibility of kernels, the union of their lookaheads, and the items that merged states hold.
 #![tactic(auto)]
 
+mod clear;
 pub mod compatible;
 pub mod held;
 pub mod laws;

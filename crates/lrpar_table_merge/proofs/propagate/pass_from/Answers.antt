@@ -5,21 +5,20 @@ use Rattle.lrpar_table_items.specs.Canonical.{AreSame}
 use Rattle.lrpar_table_items.specs.CoreOrder.{IsKernel}
 use Rattle.lrpar_table_items.specs.Cores.{IsAmong, core_set}
 use Rattle.lrpar_table_items.specs.ItemSets.{IsInClosure}
-use Rattle.lrpar_table_items.specs.Next.{AreNext, kernel_at, kernel_rows}
+use Rattle.lrpar_table_items.specs.Next.{AreNext, kernel_rows}
 use Rattle.lrpar_table_merge.specs.Held.{GoesBy}
 use Rattle.lrpar_table_merge.specs.MergedStates.{all_transitions}
-use Rattle.lrpar_table_merge.specs.Propagated.{AreNoneOrKernels, HasGrown}
-use Rattle.lrpar_table_merge.proofs.FromLemmas.{none_or_kernels, nothing_from, passed_from}
+use Rattle.lrpar_table_merge.specs.Propagated.{HasGrown}
+use Rattle.lrpar_table_merge.proofs.FromLemmas.{none_or_values, nothing_from, passed_from}
 use Rattle.lrpar_table_merge.proofs.PassLemmas.{rows_len}
-use Rattle.lrpar_table_merge.proofs.PropagateLemmas.{added_on, grown_on, grown_result, value_at}
+use Rattle.lrpar_table_merge.proofs.PropagateLemmas.{added_on, grown_on, grown_result, own_at}
 use Rattle.lrpar_table_merge.proofs.propagate.pass_from.Goals as goal
 use Rattle.lrpar_table_merge.proofs.propagate.pass_from.Goals.{then-by_rules, else-by_rules}
 
 pub returns-then-not-has_items-clause-passed : goal.returns-then-not-has_items-clause-passed
 returns-then-not-has_items-clause-passed g c =
     let index = g.StorageT.StorageIndex.index in
-    let at = value_at index c.args.kernels.now c.args.state c.index-kernels-state.result c.deref.result.now c.requires.state c.index-kernels-state.is
-    c.deref.ensures.value in
+    let at = own_at index c.args.kernels.now c.args.state c.index-kernels-state.result c.deref.result.now c.requires.state c.deref.ensures.value in
     nothing_from c.args.grm.now (GoesBy (all_transitions c.args.all.now)) c.args.state (kernel_rows index c.args.kernels.now)
     (λ x h. false≢true (sym c.if-not-has_items.true ∙ c.has_items.ensures.1 (x, subst (λ cores. IsAmong cores x) at h)))
 
@@ -28,9 +27,8 @@ successors_of-requires-clause-kernel g c =
     let index = g.StorageT.StorageIndex.index in
     let kernels = c.args.kernels.now in
     let state = c.args.state in
-    let at = value_at index kernels state c.index-kernels-state.result c.deref.result.now c.requires.state c.index-kernels-state.is c.deref.ensures.value in
-    let own = value_at index kernels state c.index-kernels-state-2.result c.deref-2.result.now c.requires.state c.index-kernels-state-2.is
-    c.deref-2.ensures.value in
+    let at = own_at index kernels state c.index-kernels-state.result c.deref.result.now c.requires.state c.deref.ensures.value in
+    let own = own_at index kernels state c.index-kernels-state-2.result c.deref-2.result.now c.requires.state c.deref-2.ensures.value in
     let some = c.has_items.ensures.0 c.if-not-has_items.false in
     let count = rows_len index kernels in
     let low : state < length (kernel_rows index kernels) = omega (arith, count, c.requires.state) in
@@ -41,13 +39,11 @@ pass_all-requires-clause-known g c =
     let index = g.StorageT.StorageIndex.index in
     let grm = c.args.grm.now in
     let all = c.in_ok-successors.ensures in
-    let successors = c.in_ok-successors.successors in (
-      grm,
-      c.requires.beginnings,
-      subst (λ kernels. AreNoneOrKernels grm (kernel_rows index kernels)) (sym c.deref-3.ensures.value)
-          (none_or_kernels grm (map (core_set index) c.deref-2.result.now) (map (core_set index) successors.items.items) all.items all.cores Nonterminal
-          (kernel_rows index successors.rules.items) all.successors.rules),
-    )
+    let successors = c.in_ok-successors.successors in
+    let rules =
+    none_or_values grm (map (core_set index) c.deref-2.result.now) (map (core_set index) successors.items.items) all.items all.cores Nonterminal
+          (kernel_rows index successors.rules.items) all.successors.rules index c.deref-3.result.now (ap (kernel_rows index) (sym c.deref-3.ensures.value)) in
+    (grm, c.requires.beginnings, rules)
 
 pub pass_all-requires-2-clause-known : goal.pass_all-requires-2-clause-known
 pass_all-requires-2-clause-known g c =
@@ -55,13 +51,13 @@ pass_all-requires-2-clause-known g c =
     let grm = c.args.grm.now in
     let all = c.in_ok-successors.ensures in
     let successors = c.in_ok-successors.successors in
-    let first = pass_all-requires-clause-known g c in (
-      grm,
-      c.in_ok-by_rules.ensures.kernels grm c.requires.beginnings first.2,
-      subst (λ kernels. AreNoneOrKernels grm (kernel_rows index kernels)) (sym c.deref-4.ensures.value)
-          (none_or_kernels grm (map (core_set index) c.deref-2.result.now) (map (core_set index) successors.items.items) all.items all.cores Terminal
-          (kernel_rows index successors.tokens.items) all.successors.tokens),
-    )
+    let rules =
+    none_or_values grm (map (core_set index) c.deref-2.result.now) (map (core_set index) successors.items.items) all.items all.cores Nonterminal
+          (kernel_rows index successors.rules.items) all.successors.rules index c.deref-3.result.now (ap (kernel_rows index) (sym c.deref-3.ensures.value)) in
+    let tokens =
+    none_or_values grm (map (core_set index) c.deref-2.result.now) (map (core_set index) successors.items.items) all.items all.cores Terminal
+          (kernel_rows index successors.tokens.items) all.successors.tokens index c.deref-4.result.now (ap (kernel_rows index) (sym c.deref-4.ensures.value)) in
+    (grm, c.in_ok-by_rules.ensures.kernels grm c.requires.beginnings rules, tokens)
 
 pub returns-clause-added : goal.returns-clause-added
 returns-clause-added g c =
@@ -78,8 +74,7 @@ returns-clause-passed g c =
     let all = c.in_ok-successors.ensures in
     let successors = c.in_ok-successors.successors in
     let cores = map (core_set index) successors.items.items in
-    let own = value_at index c.args.kernels.now state c.index-kernels-state-2.result c.deref-2.result.now c.requires.state c.index-kernels-state-2.is
-    c.deref-2.ensures.value in
+    let own = own_at index c.args.kernels.now state c.index-kernels-state-2.result c.deref-2.result.now c.requires.state c.deref-2.ensures.value in
     let rules = c.deref-3.result.now in
     let tokens = c.deref-4.result.now in
     passed_from grm c.requires.well_formed (all_transitions c.args.all.now) state before (kernel_rows index c.pass_all.new.kernels)
@@ -93,7 +88,17 @@ returns-clause-passed g c =
 
 pub returns-clause-beginnings : goal.returns-clause-beginnings
 returns-clause-beginnings g c =
-    let known = pass_all-requires-2-clause-known g c in c.in_ok-by_tokens.ensures.kernels known.0 known.1 known.2
+    let index = g.StorageT.StorageIndex.index in
+    let grm = c.args.grm.now in
+    let all = c.in_ok-successors.ensures in
+    let successors = c.in_ok-successors.successors in
+    let rules =
+    none_or_values grm (map (core_set index) c.deref-2.result.now) (map (core_set index) successors.items.items) all.items all.cores Nonterminal
+          (kernel_rows index successors.rules.items) all.successors.rules index c.deref-3.result.now (ap (kernel_rows index) (sym c.deref-3.ensures.value)) in
+    let tokens =
+    none_or_values grm (map (core_set index) c.deref-2.result.now) (map (core_set index) successors.items.items) all.items all.cores Terminal
+          (kernel_rows index successors.tokens.items) all.successors.tokens index c.deref-4.result.now (ap (kernel_rows index) (sym c.deref-4.ensures.value)) in
+    c.in_ok-by_tokens.ensures.kernels grm (c.in_ok-by_rules.ensures.kernels grm c.requires.beginnings rules) tokens
 
 pub returns-clause-grown : goal.returns-clause-grown
 returns-clause-grown g c =
