@@ -1,8 +1,9 @@
 -- Kernels whose lookaheads are removed, one core after the other.
-use Rattle.std.proofs.Common.{Vec, ◌≡◌, ◌≢◌, ◌<◌, ◌+◌, ◌∙◌, sym, ap, subst, inl, inr, arith, ℕ, IsTrue, false, List, [], All, get_or, length, map, set}
+use Rattle.std.proofs.Common.{Vec, ◌≡◌, ◌≢◌, ◌<◌, ◌+◌, ◌∙◌, sym, ap, subst, inl, inr, arith, ℕ, IsTrue, false, List, [], ◌++◌, All, drop, get_or, length, map, set, take}
 use Rattle.std.proofs.lemmas.Bool.{cases_eq, cases_lt, false≢true}
 use Rattle.std.proofs.lemmas.List.{get_or-map, get_or-set_other, get_or-set_same, get_or_default, length-map, map-set}
 use Rattle.std.proofs.lemmas.List.Elements.{All-set}
+use Rattle.std.proofs.Math.Seq.{take-append_seam}
 use Rattle.lrpar_grammar.specs.Grammar.{Grammar}
 use Rattle.lrpar_grammar.specs.Tokens.{has}
 use Rattle.lrpar_table_rows.specs.Graph.{ItemOf}
@@ -13,6 +14,14 @@ use Rattle.lrpar_table_merge.specs.Compatible.{lookaheads_at}
 use Rattle.lrpar_table_merge.specs.PassedOn.{AreBeginnings}
 use Rattle.lrpar_table_merge.proofs.PropagateLemmas.{among_low}
 use Rattle.lrpar_table_merge.proofs.UniteLemmas.{at_other, at_same}
+
+-- a list that was lent and written back
+pub back : {X : Type 0} (items lent new : List X) (len : ℕ) → length items ≡ len → lent ≡ items → length new ≡ length lent
+    → take len (new ++ drop (length new) items) ≡ new
+back items lent new len held value same =
+    let lent_len = ap (λ (xs : List _). length xs) value in
+    let long : len ≡ length new = omega (arith, held, same, lent_len) in
+    ap (λ n. take n (new ++ drop (length new) items)) long ∙ take-append_seam new (drop (length new) items)
 
 -- cores without lookaheads have no items
 pub no_lookaheads : (cores : List CoreSet) → ((k : ℕ) → k < length cores → (t : ℕ) → has (lookaheads_at cores k) t ≡ false)

@@ -18,3 +18,4 @@ pub mod MergedFitLemmas
 pub mod PropagateLemmas
 pub mod FromLemmas
 pub mod ClearLemmas
+pub mod RoundLemmas

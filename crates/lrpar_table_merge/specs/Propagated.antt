@@ -1,9 +1,10 @@
 -- Lookaheads that are passed on from state to state, until nothing grows.
-use Rattle.std.specs.Prelude.{◌≡◌, ◌<◌, ◌⊎◌, ℕ, Bool, false, IsTrue, List, Option, Some, None, length, slice_index_or}
+use Rattle.std.specs.Prelude.{◌≡◌, ◌<◌, ◌↔◌, ◌⊎◌, ℕ, Bool, false, IsTrue, List, Option, Some, None, length, slice_index_or}
 use Rattle.std.specs.Bool.{OnFalse, OnTrue}
 use Rattle.lrpar_grammar.specs.Grammar.{Grammar, GrammarSymbol}
 use Rattle.lrpar_grammar.specs.Tokens.{has}
 use Rattle.lrpar_table_rows.specs.Graph.{ItemOf}
+use Rattle.lrpar_table_items.specs.Canonical.{HasAfterDot}
 use Rattle.lrpar_table_items.specs.CoreOrder.{IsKernel}
 use Rattle.lrpar_table_items.specs.Cores.{CoreSet, IsAmong}
 use Rattle.lrpar_table_items.specs.ItemSets.{IsAdvanced, IsInClosure, IsStartItem}
@@ -34,6 +35,23 @@ abbrev pub HasGrown : List (List CoreSet) → List Bool → List (List CoreSet) 
 HasGrown before waited after waits grown =
     OnTrue grown (all_missing after < all_missing before) × OnFalse grown ((after ≡ before) × (waits ≡ waited))
 
+-- whether kernels have grown as a state was passed on: then they lack fewer tokens than before; otherwise they are as before, and the state
+-- doesn't wait, nor does any that didn't
+abbrev pub HasSettled : ℕ → List (List CoreSet) → List Bool → List (List CoreSet) → List Bool → Bool → Type 0
+HasSettled state before waited after waits grown =
+    OnTrue grown (all_missing after < all_missing before)
+    × OnFalse grown ((after ≡ before) × (has waits state ≡ false) × ((s : ℕ) → has waited s ≡ false → has waits s ≡ false))
+
+-- whether kernels have grown as the first n states were passed on: then they lack fewer tokens than before; otherwise they are as before,
+-- and none of these states waits
+abbrev pub IsRoundTo : List (List CoreSet) → List (List CoreSet) → List Bool → ℕ → Bool → Type 0
+IsRoundTo before after waits n grown =
+    OnTrue grown (all_missing after < all_missing before) × OnFalse grown ((after ≡ before) × ((s : ℕ) → s < n → has waits s ≡ false))
+
+-- if a state holds an item with a symbol after its dot, it goes by the symbol to one of the first len states
+abbrev pub LeadOn : Grammar → (ℕ → GrammarSymbol → ℕ → Type 0) → ℕ → Type 0
+LeadOn g goes len = (s : ℕ) (symbol : GrammarSymbol) → HasAfterDot g (IsHeld g goes) s symbol → (n : ℕ) × (n < len) × goes s symbol n
+
 -- the items of a kernel were added to those of the state to which the step goes, and nothing else was added
 pub record IsPassedAlong (step : Option ℕ) (next : List CoreSet) (before after : List (List CoreSet)) : Type 0 where
   pub came : (s : ℕ) (x : ItemOf) → IsAmong (kernel_at after s) x → IsAmong (kernel_at before s) x ⊎ ((step ≡ Some s) × IsAmong next x)
@@ -58,6 +76,12 @@ pub record IsPassedFrom (g : Grammar) (goes : ℕ → GrammarSymbol → ℕ → 
   pub came : (s : ℕ) (x : ItemOf) → IsAmong (kernel_at after s) x
       → IsAmong (kernel_at before s) x ⊎ ((symbol : GrammarSymbol) × goes state symbol s × PassesOn g before state symbol x)
   pub there : (symbol : GrammarSymbol) (x : ItemOf) → PassesOn g before state symbol x → (s : ℕ) × goes state symbol s × IsAmong (kernel_at after s) x
+
+-- propagation begins: only state 0 has an item, the start item, and it waits
+pub record HaveBegun (g : Grammar) (kernels : List (List CoreSet)) (waits : List Bool) : Type 0 where
+  pub beginnings : AreBeginnings g kernels
+  pub items : (s : ℕ) (x : ItemOf) → IsAmong (kernel_at kernels s) x ↔ ((s ≡ 0) × IsStartItem g x)
+  pub wait : DoesWait waits 0
 
 -- propagation so far: state 0 has the start item, all items are held, and each state that doesn't wait was passed on
 pub record ArePropagated (g : Grammar) (goes : ℕ → GrammarSymbol → ℕ → Type 0) (kernels : List (List CoreSet)) (waits : List Bool) : Type 0 where
