@@ -1,6 +1,6 @@
 -- Kernels whose lookaheads are removed, one core after the other.
-use Rattle.std.proofs.Common.{Vec, ◌≡◌, ◌≢◌, ◌<◌, ◌+◌, ◌∙◌, sym, ap, subst, inl, inr, arith, ℕ, IsTrue, false, List, [], ◌++◌, All, drop, get_or, length, map, set, take}
-use Rattle.std.proofs.lemmas.Bool.{cases_eq, cases_lt, false≢true}
+use Rattle.std.proofs.Common.{Vec, ◌≡◌, ◌<◌, ◌+◌, ◌∙◌, sym, ap, subst, inl, inr, arith, ℕ, IsTrue, false, List, [], ◌++◌, All, drop, get_or, length, map, set, take}
+use Rattle.std.proofs.lemmas.Bool.{cases_eq, false≢true}
 use Rattle.std.proofs.lemmas.List.{get_or-map, get_or-set_other, get_or-set_same, get_or_default, length-map, map-set}
 use Rattle.std.proofs.lemmas.List.Elements.{All-set}
 use Rattle.std.proofs.Math.Seq.{take-append_seam}

@@ -34,7 +34,6 @@ pub some_item_at : {S : Type 0} (index : S → ℕ) (cores : List (CoreItems S))
 some_item_at index cores i core low is t h =
     let count = length-map cores (core_set index) in
     let x : ItemOf = record { prod = index core.prod.0; dot = core.dot; token = t } in
-    
     let at = get_or-map (core_set index) cores i core (core_set index core) low ∙ ap (core_set index) (sym is) in
     (x, (core_set index core, (i, omega (arith, low, count), at), (refl, refl, h)))
 

@@ -10,8 +10,8 @@ returns-clause-cores g c =
     let value = c.deref_mut.ensures.value in
     let is = back kernel.items c.deref_mut.result.now c.clear_cores.new.kernel kernel.len (sym kernel.ok.0) value c.clear_cores.auto.kernel in
     λ grm are.
-        subst (λ items. All (IsCoreOf grm) (map (core_set index) items)) (sym is)
-        (c.clear_cores.ensures.cores grm (subst (λ items. All (IsCoreOf grm) (map (core_set index) items)) (sym value) are))
+    subst (λ items. All (IsCoreOf grm) (map (core_set index) items)) (sym is)
+    (c.clear_cores.ensures.cores grm (subst (λ items. All (IsCoreOf grm) (map (core_set index) items)) (sym value) are))
 
 pub returns-clause-none : goal.returns-clause-none
 returns-clause-none g c =

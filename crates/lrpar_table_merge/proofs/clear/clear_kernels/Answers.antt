@@ -1,4 +1,4 @@
-use Rattle.std.proofs.Common.{◌<◌, arith, ℕ, length}
+use Rattle.std.proofs.Common.{◌<◌, arith, length}
 use Rattle.lrpar_table_items.specs.Next.{kernel_rows}
 use Rattle.lrpar_table_merge.proofs.ClearLemmas.{all_empty, empty_more, kernels_more}
 use Rattle.lrpar_table_merge.proofs.PassLemmas.{rows_len}

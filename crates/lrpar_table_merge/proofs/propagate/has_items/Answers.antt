@@ -20,8 +20,8 @@ loop-core-preserved g c =
     let index = g.StorageT.StorageIndex.index in
     let more = map-take_more (core_set index) c.args.cores.now c.loop-core.core-index c.core-item.result c.loop-core-test.true c.core-item.is in
     λ x h.
-        no_item_more (map (core_set index) (take c.loop-core.core-index c.args.cores.now)) (core_set index c.core-item.result) c.loop-core.invariant
-        (λ t has_it. false≢true (sym c.if-has_any.false ∙ c.has_any.ensures.1 (t, has_it))) x (subst (λ cores. IsAmong cores x) more h)
+    no_item_more (map (core_set index) (take c.loop-core.core-index c.args.cores.now)) (core_set index c.core-item.result) c.loop-core.invariant
+    (λ t has_it. false≢true (sym c.if-has_any.false ∙ c.has_any.ensures.1 (t, has_it))) x (subst (λ cores. IsAmong cores x) more h)
 
 pub returns : goal.returns
 returns g c =

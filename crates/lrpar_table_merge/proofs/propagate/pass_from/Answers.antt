@@ -42,7 +42,7 @@ pass_all-requires-clause-known g c =
     let successors = c.in_ok-successors.successors in
     let rules =
     none_or_values grm (map (core_set index) c.deref-2.result.now) (map (core_set index) successors.items.items) all.items all.cores Nonterminal
-          (kernel_rows index successors.rules.items) all.successors.rules index c.deref-3.result.now (ap (kernel_rows index) (sym c.deref-3.ensures.value)) in
+    (kernel_rows index successors.rules.items) all.successors.rules index c.deref-3.result.now (ap (kernel_rows index) (sym c.deref-3.ensures.value)) in
     (grm, c.requires.beginnings, rules)
 
 pub pass_all-requires-2-clause-known : goal.pass_all-requires-2-clause-known
@@ -53,10 +53,10 @@ pass_all-requires-2-clause-known g c =
     let successors = c.in_ok-successors.successors in
     let rules =
     none_or_values grm (map (core_set index) c.deref-2.result.now) (map (core_set index) successors.items.items) all.items all.cores Nonterminal
-          (kernel_rows index successors.rules.items) all.successors.rules index c.deref-3.result.now (ap (kernel_rows index) (sym c.deref-3.ensures.value)) in
+    (kernel_rows index successors.rules.items) all.successors.rules index c.deref-3.result.now (ap (kernel_rows index) (sym c.deref-3.ensures.value)) in
     let tokens =
     none_or_values grm (map (core_set index) c.deref-2.result.now) (map (core_set index) successors.items.items) all.items all.cores Terminal
-          (kernel_rows index successors.tokens.items) all.successors.tokens index c.deref-4.result.now (ap (kernel_rows index) (sym c.deref-4.ensures.value)) in
+    (kernel_rows index successors.tokens.items) all.successors.tokens index c.deref-4.result.now (ap (kernel_rows index) (sym c.deref-4.ensures.value)) in
     (grm, c.in_ok-by_rules.ensures.kernels grm c.requires.beginnings rules, tokens)
 
 pub returns-clause-added : goal.returns-clause-added
@@ -94,10 +94,10 @@ returns-clause-beginnings g c =
     let successors = c.in_ok-successors.successors in
     let rules =
     none_or_values grm (map (core_set index) c.deref-2.result.now) (map (core_set index) successors.items.items) all.items all.cores Nonterminal
-          (kernel_rows index successors.rules.items) all.successors.rules index c.deref-3.result.now (ap (kernel_rows index) (sym c.deref-3.ensures.value)) in
+    (kernel_rows index successors.rules.items) all.successors.rules index c.deref-3.result.now (ap (kernel_rows index) (sym c.deref-3.ensures.value)) in
     let tokens =
     none_or_values grm (map (core_set index) c.deref-2.result.now) (map (core_set index) successors.items.items) all.items all.cores Terminal
-          (kernel_rows index successors.tokens.items) all.successors.tokens index c.deref-4.result.now (ap (kernel_rows index) (sym c.deref-4.ensures.value)) in
+    (kernel_rows index successors.tokens.items) all.successors.tokens index c.deref-4.result.now (ap (kernel_rows index) (sym c.deref-4.ensures.value)) in
     c.in_ok-by_tokens.ensures.kernels grm (c.in_ok-by_rules.ensures.kernels grm c.requires.beginnings rules) tokens
 
 pub returns-clause-grown : goal.returns-clause-grown
