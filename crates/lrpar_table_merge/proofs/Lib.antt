@@ -23,3 +23,7 @@ pub mod GivenStepLemmas
 pub mod GivenListLemmas
 pub mod GivenStateLemmas
 pub mod MinimisedLemmas
+pub mod PropagateLemmas
+pub mod FromLemmas
+pub mod ClearLemmas
+pub mod RoundLemmas

@@ -10,3 +10,4 @@ pub mod Merging
 pub mod MergedByLaws
 pub mod MergedSteps
 pub mod Minimised
+pub mod Propagated

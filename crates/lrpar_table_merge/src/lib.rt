@@ -2,6 +2,7 @@
 #![tactic(auto)]
 
 pub mod build;
+mod clear;
 pub mod compatible;
 pub mod held;
 pub mod laws;
