@@ -4,7 +4,9 @@
 mod conflict;
 pub mod examples;
 mod listed;
+mod merged;
 mod met;
+mod paired;
 mod pieces;
 mod text;
 mod unresolved;

@@ -1,15 +1,22 @@
 //! Counterexamples of the conflicts of a table with merged item sets.
-ghost use Rattle.std.specs.Prelude.{◌≡◌, ◌<◌, IfOk, length};
+ghost use Rattle.std.specs.Prelude.{◌≡◌, ◌++◌, ◌∷◌, Contains, IfErr, IfOk, IfSome, IsPermutation, OnOk, map};
+ghost use Rattle.lrpar_table_rows.specs.PlainConflicts.{reduce_reduce_of, shift_reduce_of};
+ghost use Rattle.lrpar_table_build.specs.BuilderLaws.{lists_in};
+ghost use Rattle.lrpar_conflict_examples.specs.Conflicts.{conflicts_in, of_reductions, of_shift};
 ghost use Rattle.lrpar_conflict_examples.specs.ExamplesFit.{ExamplesFit};
+ghost use Rattle.lrpar_conflict_examples.specs.Merged.{IsCanonicalOf, conflicts_of};
+ghost use Rattle.lrpar_conflict_examples.specs.Met.{unmet_of};
 
 use crate::conflict::ConflictExample;
-use crate::unresolved::{UnmetConflict, conflict_examples_with};
-use lrpar_conflict_derivations::examples::ExampleFault;
+use crate::met::met_states;
+use crate::paired::Pairs;
+use crate::unresolved::{UnmetConflict, is_met};
+use lrpar_conflict_derivations::examples::{ExampleFault, Examples};
 use lrpar_grammar::grammar::YaccGrammar;
-use lrpar_grammar::span::{RIdx, StIdx, StorageIndex, TIdx};
+use lrpar_grammar::span::{PIdx, RIdx, StIdx, StorageIndex, TIdx};
 use lrpar_table_build::build::{BuildFault, from_yacc};
 use lrpar_table_precedence::precedences::Precedences;
-use lrpar_table_rows::table::{Action, StateTable};
+use lrpar_table_rows::table::{StateGraph, StateTable};
 use lrpar_table_sentences::moves::Move;
 use std::alloc::{AllocError, Global};
 use thiserror::Error;
@@ -18,7 +25,7 @@ use thiserror::Error;
 #[derive(Clone, Copy, Debug, PartialEq, Eq, Error)]
 pub enum NoExamples<StorageT: StorageIndex> {
     /// The grammar reaches this rule from its start, and it derives no text.
-    #[error("a rule derives no text")]
+    #[error("rule {at} derives no text", at = .0.0.to_index())]
     Unproductive(RIdx<StorageT>),
     /// The canonical table, in which they are looked for, can't be built.
     #[error("no canonical table: {0}")]
@@ -28,7 +35,31 @@ pub enum NoExamples<StorageT: StorageIndex> {
     Memory,
 }
 
-/// The conflicts of a table with merged item sets, in the order of the table.
+impl<StorageT: StorageIndex> From<AllocError> for NoExamples<StorageT> {
+    fn from(_: AllocError) -> NoExamples<StorageT> {
+        NoExamples::Memory
+    }
+}
+
+impl<StorageT: StorageIndex> From<BuildFault> for NoExamples<StorageT> {
+    fn from(fault: BuildFault) -> NoExamples<StorageT> {
+        match fault {
+            BuildFault::Memory => NoExamples::Memory,
+            refusal => NoExamples::Unbuilt(refusal),
+        }
+    }
+}
+
+impl<StorageT: StorageIndex> From<ExampleFault<StorageT>> for NoExamples<StorageT> {
+    fn from(fault: ExampleFault<StorageT>) -> NoExamples<StorageT> {
+        match fault {
+            ExampleFault::Unproductive(rule) => NoExamples::Unproductive(rule),
+            ExampleFault::Memory => NoExamples::Memory,
+        }
+    }
+}
+
+/// The conflicts of a table with merged item sets. In each list those between two reductions come first, both in the order of the table.
 #[derive(Debug)]
 pub struct MergedConflicts<StorageT: StorageIndex> {
     /// Conflicts with a counterexample. It is one of a canonical item set that is within the merged one.
@@ -37,4 +68,331 @@ pub struct MergedConflicts<StorageT: StorageIndex> {
     pub unmet: Vec<UnmetConflict<StorageT>>,
     /// The others: they come from the merging alone, and no canonical item set that a parse can meet has them.
     pub merged: Vec<UnmetConflict<StorageT>>,
+}
+
+// A drop of its own: code that drops one then has one call to prove.
+impl<StorageT: StorageIndex> Drop for MergedConflicts<StorageT> {
+    fn drop(self) {
+        let MergedConflicts {
+            examples,
+            unmet,
+            merged,
+        } = self;
+        drop(examples);
+        drop(unmet);
+        drop(merged);
+    }
+}
+
+// The canonical table of a grammar, and what counterexamples of its conflicts need.
+struct Canonical<StorageT: StorageIndex> {
+    sgraph: StateGraph<StorageT>,
+    stable: StateTable<StorageT>,
+    shared: Examples<StorageT>,
+    // For each of its states whether a parse can meet it.
+    marks: Vec<bool>,
+    // Its states and those of the table with merged item sets.
+    pairs: Pairs<StorageT>,
+}
+
+// A drop of its own: code that drops one then has one call to prove.
+impl<StorageT: StorageIndex> Drop for Canonical<StorageT> {
+    fn drop(self) {
+        let Canonical {
+            sgraph,
+            stable,
+            shared,
+            marks,
+            pairs,
+        } = self;
+        drop(sgraph);
+        drop(stable);
+        drop(shared);
+        drop(marks);
+        drop(pairs);
+    }
+}
+
+/// Counterexamples of the conflicts of a table of the grammar that was built with merged item sets and with these precedences.
+///
+/// They are looked for in the canonical table, which is built without the precedences, with at most `max_states` states. A conflict has the
+/// counterexample of the first canonical conflict with the same token and the same two moves, if that is in a state that a parse can meet,
+/// and to which a path of shifts and gotos leads that leads to the conflict's state in `stable`. The other conflicts are listed apart. If
+/// there are no conflicts, nothing is built.
+///
+/// `bound` is that of `conflict_examples`. `Unbuilt` says, as `from_yacc`, why there is no canonical table; `Unproductive` names, as in
+/// `Examples::new`, the first rule that the grammar reaches from its start and that derives no text; `Memory` says that an allocation
+/// failed. Takes the time and the memory of the canonical table, and the time of a counterexample for each conflict.
+pub fn conflict_examples_by<StorageT: StorageIndex>(
+    alloc: Global,
+    grm: &YaccGrammar<StorageT>,
+    precedences: &Precedences,
+    stable: &StateTable<StorageT>,
+    max_states: usize,
+    bound: usize,
+) -> Result<MergedConflicts<StorageT>, NoExamples<StorageT>>
+    ensures fit { IfOk result (λ found. ExamplesFit grm.now found.examples.items) }
+    // Each conflict of the table is in one of the three lists, as often as the table lists it, and they have no others.
+    ensures all { IfOk result (λ found. IsPermutation (conflicts_in (lists_in stable.now.conflicts)) (conflicts_of StorageT.index found)) }
+{
+    let mut found = MergedConflicts {
+        examples: Vec::new(alloc),
+        unmet: Vec::new(alloc),
+        merged: Vec::new(alloc),
+    };
+    match stable.conflicts() {
+        Some(conflicts) => {
+            let (reductions, shifts) = (conflicts.rr_conflicts(), conflicts.sr_conflicts());
+            let canonical = Canonical::new(alloc, grm, precedences, stable, max_states)?;
+            push_reductions(alloc, grm, &canonical, reductions, bound, &mut found)?;
+            push_shifts(alloc, grm, &canonical, shifts, bound, &mut found)?;
+            Ok(found)
+        }
+        None => Ok(found),
+    }
+}
+
+impl<StorageT: StorageIndex> Canonical<StorageT> {
+    // That of the grammar, and how its states and those of the other table are paired.
+    fn new(
+        alloc: Global,
+        grm: &YaccGrammar<StorageT>,
+        precedences: &Precedences,
+        merged: &StateTable<StorageT>,
+        max_states: usize,
+    ) -> Result<Self, NoExamples<StorageT>>
+        ensures { IfOk result (IsCanonicalOf grm.now usize.MAX) }
+    {
+        let (sgraph, stable) = from_yacc(alloc, grm, max_states)?;
+        let shared = Examples::new(alloc, grm, &sgraph, &stable)?;
+        let marks = met_states(alloc, precedences, &stable)?;
+        let pairs = Pairs::new(alloc, &stable, merged)?;
+        Ok(Canonical {
+            sgraph,
+            stable,
+            shared,
+            marks,
+            pairs,
+        })
+    }
+
+    // Whether a parse can meet this state, and a path leads to it that leads to the other one in the other table.
+    fn is_within(&self, state: StIdx<StorageT>, other: StIdx<StorageT>) -> bool {
+        is_met(&self.marks, state) && self.pairs.are_paired(state, other)
+    }
+
+    // Its first conflict between these two reductions at this token, in a state that is within this one of the other table.
+    fn reductions_like(
+        &self,
+        conflict: &(
+            TIdx<StorageT>,
+            PIdx<StorageT>,
+            PIdx<StorageT>,
+            StIdx<StorageT>,
+        ),
+    ) -> Option<
+        (
+            TIdx<StorageT>,
+            PIdx<StorageT>,
+            PIdx<StorageT>,
+            StIdx<StorageT>,
+        ),
+    >
+        ensures member { IfSome result (λ x. Contains (lists_in self.now.stable.conflicts).reduce_reduce (reduce_reduce_of StorageT.index x)) }
+        ensures token { IfSome result (λ x. StorageT.index x.0.0 ≡ StorageT.index conflict.now.0.0) }
+        ensures first { IfSome result (λ x. StorageT.index x.1.0 ≡ StorageT.index conflict.now.1.0) }
+        ensures second { IfSome result (λ x. StorageT.index x.2.0 ≡ StorageT.index conflict.now.2.0) }
+    {
+        let Some(conflicts) = self.stable.conflicts() else {
+            return None;
+        };
+        let (token, first, second, state) = *conflict;
+        for own in conflicts.rr_conflicts() {
+            let (its_token, its_first, its_second, its_state) = *own;
+            if usize::from(its_token) == usize::from(token)
+                && usize::from(its_first) == usize::from(first)
+                && usize::from(its_second) == usize::from(second)
+                && self.is_within(its_state, state)
+            {
+                return Some(*own);
+            }
+        }
+        None
+    }
+
+    // Its first conflict between this reduction and the shift of the token, in a state that is within this one of the other table.
+    fn shift_like(
+        &self,
+        conflict: &(TIdx<StorageT>, PIdx<StorageT>, StIdx<StorageT>),
+    ) -> Option<(TIdx<StorageT>, PIdx<StorageT>, StIdx<StorageT>)>
+        ensures member { IfSome result (λ x. Contains (lists_in self.now.stable.conflicts).shift_reduce (shift_reduce_of StorageT.index x)) }
+        ensures token { IfSome result (λ x. StorageT.index x.0.0 ≡ StorageT.index conflict.now.0.0) }
+        ensures prod { IfSome result (λ x. StorageT.index x.1.0 ≡ StorageT.index conflict.now.1.0) }
+    {
+        let Some(conflicts) = self.stable.conflicts() else {
+            return None;
+        };
+        let (token, prod, state) = *conflict;
+        for own in conflicts.sr_conflicts() {
+            let (its_token, its_prod, its_state) = *own;
+            if usize::from(its_token) == usize::from(token)
+                && usize::from(its_prod) == usize::from(prod)
+                && self.is_within(its_state, state)
+            {
+                return Some(*own);
+            }
+        }
+        None
+    }
+}
+
+// Adds these reduce/reduce conflicts, each to its list.
+fn push_reductions<StorageT: StorageIndex>(
+    alloc: Global,
+    grm: &YaccGrammar<StorageT>,
+    canonical: &Canonical<StorageT>,
+    conflicts: &[(
+        TIdx<StorageT>,
+        PIdx<StorageT>,
+        PIdx<StorageT>,
+        StIdx<StorageT>,
+    )],
+    bound: usize,
+    found: &mut MergedConflicts<StorageT>,
+) -> Result<(), AllocError>
+    requires canonical { IsCanonicalOf grm.now usize.MAX canonical.now }
+    requires fit { ExamplesFit grm.now found.old.examples.items }
+    ensures fit { OnOk result (ExamplesFit grm.now found.new.examples.items) }
+    ensures all { OnOk result (IsPermutation (conflicts_of StorageT.index found.old ++ map of_reductions (map (reduce_reduce_of StorageT.index) conflicts.now))
+        (conflicts_of StorageT.index found.new)) }
+{
+    for conflict in conflicts {
+        push_reduction(alloc, grm, canonical, conflict, bound, found)?;
+    }
+    Ok(())
+}
+
+// Adds a reduce/reduce conflict to its list.
+fn push_reduction<StorageT: StorageIndex>(
+    alloc: Global,
+    grm: &YaccGrammar<StorageT>,
+    canonical: &Canonical<StorageT>,
+    conflict: &(
+        TIdx<StorageT>,
+        PIdx<StorageT>,
+        PIdx<StorageT>,
+        StIdx<StorageT>,
+    ),
+    bound: usize,
+    found: &mut MergedConflicts<StorageT>,
+) -> Result<(), AllocError>
+    requires canonical { IsCanonicalOf grm.now usize.MAX canonical.now }
+    requires fit { ExamplesFit grm.now found.old.examples.items }
+    ensures fit { OnOk result (ExamplesFit grm.now found.new.examples.items) }
+    ensures all { OnOk result (IsPermutation (of_reductions (reduce_reduce_of StorageT.index conflict.now) ∷ conflicts_of StorageT.index found.old)
+        (conflicts_of StorageT.index found.new)) }
+{
+    match canonical.reductions_like(conflict) {
+        Some(own) => {
+            let (sgraph, stable) = (&canonical.sgraph, &canonical.stable);
+            let shared = &canonical.shared;
+            let example = shared.of_reduce_reduce(alloc, grm, sgraph, stable, &own, bound)?;
+            push_example(found, ConflictExample::of_reductions(conflict, example))
+        }
+        None => {
+            let (token, first, second, state) = *conflict;
+            let apart = UnmetConflict {
+                token,
+                state,
+                first: Move::Make(first),
+                second: Move::Make(second),
+            };
+            push_apart(found, canonical, apart)
+        }
+    }
+}
+
+// Adds these shift/reduce conflicts, each to its list.
+fn push_shifts<StorageT: StorageIndex>(
+    alloc: Global,
+    grm: &YaccGrammar<StorageT>,
+    canonical: &Canonical<StorageT>,
+    conflicts: &[(TIdx<StorageT>, PIdx<StorageT>, StIdx<StorageT>)],
+    bound: usize,
+    found: &mut MergedConflicts<StorageT>,
+) -> Result<(), AllocError>
+    requires canonical { IsCanonicalOf grm.now usize.MAX canonical.now }
+    requires fit { ExamplesFit grm.now found.old.examples.items }
+    ensures fit { OnOk result (ExamplesFit grm.now found.new.examples.items) }
+    ensures all { OnOk result (IsPermutation (conflicts_of StorageT.index found.old ++ map of_shift (map (shift_reduce_of StorageT.index) conflicts.now))
+        (conflicts_of StorageT.index found.new)) }
+{
+    for conflict in conflicts {
+        push_shift(alloc, grm, canonical, conflict, bound, found)?;
+    }
+    Ok(())
+}
+
+// Adds a shift/reduce conflict to its list.
+fn push_shift<StorageT: StorageIndex>(
+    alloc: Global,
+    grm: &YaccGrammar<StorageT>,
+    canonical: &Canonical<StorageT>,
+    conflict: &(TIdx<StorageT>, PIdx<StorageT>, StIdx<StorageT>),
+    bound: usize,
+    found: &mut MergedConflicts<StorageT>,
+) -> Result<(), AllocError>
+    requires canonical { IsCanonicalOf grm.now usize.MAX canonical.now }
+    requires fit { ExamplesFit grm.now found.old.examples.items }
+    ensures fit { OnOk result (ExamplesFit grm.now found.new.examples.items) }
+    ensures all { OnOk result (IsPermutation (of_shift (shift_reduce_of StorageT.index conflict.now) ∷ conflicts_of StorageT.index found.old)
+        (conflicts_of StorageT.index found.new)) }
+{
+    match canonical.shift_like(conflict) {
+        Some(own) => {
+            let (sgraph, stable) = (&canonical.sgraph, &canonical.stable);
+            let shared = &canonical.shared;
+            let example = shared.of_shift_reduce(alloc, grm, sgraph, stable, &own, bound)?;
+            push_example(found, ConflictExample::of_shift(conflict, example))
+        }
+        None => {
+            let (token, prod, state) = *conflict;
+            let apart = UnmetConflict {
+                token,
+                state,
+                first: Move::Make(prod),
+                second: Move::Take(token),
+            };
+            push_apart(found, canonical, apart)
+        }
+    }
+}
+
+// Adds a conflict with its counterexample.
+fn push_example<StorageT: StorageIndex>(
+    found: &mut MergedConflicts<StorageT>,
+    example: ConflictExample<StorageT>,
+) -> Result<(), AllocError>
+    ensures examples { OnOk result (found.new.examples.items ≡ found.old.examples.items ++ example ∷ []) }
+    ensures all { OnOk result (IsPermutation (example.conflict ∷ conflicts_of StorageT.index found.old) (conflicts_of StorageT.index found.new)) }
+{
+    found.examples.push(example)?;
+    Ok(())
+}
+
+// Adds a conflict without one: to those that no parse meets, if its state is in no pair, otherwise to those of the merging.
+fn push_apart<StorageT: StorageIndex>(
+    found: &mut MergedConflicts<StorageT>,
+    canonical: &Canonical<StorageT>,
+    conflict: UnmetConflict<StorageT>,
+) -> Result<(), AllocError>
+    ensures examples { OnOk result (found.new.examples ≡ found.old.examples) }
+    ensures all { OnOk result (IsPermutation (unmet_of StorageT.index conflict ∷ conflicts_of StorageT.index found.old) (conflicts_of StorageT.index found.new)) }
+{
+    if canonical.pairs.is_paired(conflict.state) {
+        found.merged.push(conflict)?;
+    } else {
+        found.unmet.push(conflict)?;
+    }
+    Ok(())
 }

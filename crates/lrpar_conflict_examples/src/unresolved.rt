@@ -161,7 +161,7 @@ fn met_shifts<StorageT: StorageIndex>(
 }
 
 // Whether the state is marked.
-fn is_met<StorageT: StorageIndex>(marks: &[bool], state: StIdx<StorageT>) -> bool
+pub(crate) fn is_met<StorageT: StorageIndex>(marks: &[bool], state: StIdx<StorageT>) -> bool
     ensures { result ≡ is_marked marks.now (StorageT.index state.0) }
 {
     match marks.get(usize::from(state)) {
