@@ -83,6 +83,15 @@ pub mod laws {
     pub use lrpar_table_check::laws::{
         complete_tables_expect_sentences, complete_tables_take_sentences,
     };
+    pub use lrpar_table_merge::laws::{
+        built_by_tables_are_merged_by, built_tables_are_merged, canonical_sets_are_merged,
+        canonical_sets_are_within_merged, merged_by_none_is_merged, merged_conflicts_by_fit,
+        merged_conflicts_fit, merged_shift_conflicts_are_canonical,
+        merged_tables_are_complete_without_conflicts, merged_tables_are_safe,
+        merged_tables_are_viable, merged_tables_by_precedences_are_safe,
+        merged_tables_by_precedences_are_viable, no_merged_conflicts_are_no_canonical,
+        no_merged_conflicts_by_are_no_canonical,
+    };
     pub use lrpar_table_rows::laws::{
         changed_sum_tables_are_unsafe, sum_graph_has_items, sum_rows_are_rows, sum_table_acts,
         sum_table_is_safe, sum_table_is_table,
