@@ -1,5 +1,5 @@
 -- While states are merged, each of them has a kernel.
-use Rattle.std.proofs.Common.{Vec, ◌≡◌, ◌<◌, ◌≤◌, ◌∙◌, sym, ap, subst, arith, ℕ, List, [], ◌∷◌, ◌++◌, All, drop, get_or, length, map, set, take}
+use Rattle.std.proofs.Common.{Vec, ◌≡◌, ◌<◌, ◌∙◌, sym, ap, subst, arith, ℕ, List, [], ◌∷◌, ◌++◌, All, drop, get_or, length, map, set, take}
 use Rattle.std.proofs.lemmas.List.{get_or-map, get_or_default, length-map, length-set, length_push, map-set, map_push}
 use Rattle.std.proofs.Math.Seq.{take-append_seam}
 use Rattle.std.proofs.lemmas.List.Elements.{All-push, All-set}
@@ -68,9 +68,9 @@ module _ {S : Type 0} (index : S → ℕ) where
       → IsKernel g (map (core_set index) kernel.items)
   kernel_or_empty g kernels i kernel low is all some =
       let read = All-map-at (λ (cores : List CoreSet). 0 < length cores → IsKernel g cores) (λ (v : Vec (CoreItems S) _). map (core_set index) v.items)
-          kernels all i kernel low in
+      kernels all i kernel low in
       let one : 0 < length (map (core_set index) kernel.items) → IsKernel g (map (core_set index) kernel.items) =
-          subst (λ (v : Vec (CoreItems S) _). 0 < length (map (core_set index) v.items) → IsKernel g (map (core_set index) v.items)) (sym is) read in
+      subst (λ (v : Vec (CoreItems S) _). 0 < length (map (core_set index) v.items) → IsKernel g (map (core_set index) v.items)) (sym is) read in
       one (omega (arith, some, length-map kernel.items (core_set index)))
 
   -- one more list of cores

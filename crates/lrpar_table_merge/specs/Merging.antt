@@ -1,10 +1,8 @@
 -- States while item sets are merged.
 use Rattle.std.specs.Prelude.{◌≡◌, ◌<◌, ◌≤◌, ℕ, List, All, length, map}
-use Rattle.std.specs.declared.vec.Vec.{Vec}
 use Rattle.lrpar_grammar.specs.Grammar.{Grammar, prods_len}
 use Rattle.lrpar_table_items.specs.CoreOrder.{IsKernel}
 use Rattle.lrpar_table_items.specs.Cores.{CoreSet, IsCoreOf, core_set}
-use Rattle.lrpar_table_items.specs.declared.cores.CoreItems.{CoreItems}
 use Rattle.lrpar_table_merge.specs.declared.merge.MergedState.{MergedState}
 use Rattle.lrpar_table_merge.specs.declared.merge.Merging.{Merging}
 

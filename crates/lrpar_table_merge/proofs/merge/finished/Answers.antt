@@ -1,4 +1,4 @@
-use Rattle.std.proofs.Common.{◌≡◌, ◌≤◌, ◌∙◌, sym, ap, subst, arith, length, map}
+use Rattle.std.proofs.Common.{◌∙◌, sym, ap, subst, arith, length, map}
 use Rattle.std.proofs.lemmas.List.{length_push}
 use Rattle.lrpar_table_items.specs.CoreOrder.{IsKernel}
 use Rattle.lrpar_table_items.specs.Cores.{core_set}

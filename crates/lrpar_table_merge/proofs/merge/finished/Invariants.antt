@@ -1,6 +1,5 @@
-use Rattle.std.proofs.Common.{◌≤◌, length}
+use Rattle.std.proofs.Common.{◌≤◌, All, length}
 use Rattle.lrpar_grammar.specs.Grammar.{Grammar}
-use Rattle.std.proofs.Common.{All}
 use Rattle.lrpar_table_items.specs.CoreOrder.{IsKernel}
 use Rattle.lrpar_table_items.specs.Next.{kernel_rows}
 use Rattle.lrpar_table_merge.specs.Merging.{AreCoreRows, kernels_of}

@@ -1,4 +1,4 @@
-use Rattle.std.proofs.Common.{sym, ap, subst, map}
+use Rattle.std.proofs.Common.{sym, subst, map}
 use Rattle.lrpar_table_items.specs.CoreOrder.{IsKernel}
 use Rattle.lrpar_table_items.specs.Cores.{core_set}
 use Rattle.lrpar_table_merge.proofs.MergingLemmas.{written_back}
@@ -11,5 +11,5 @@ returns-then-unite g c =
     let value = c.deref_mut.ensures.value in
     let back = written_back kernel.items c.deref_mut.result.now c.unite.new.kernel kernel.len (sym kernel.ok.0) value c.unite.auto.kernel in
     λ grm is.
-        subst (λ cores. IsKernel grm (map (core_set index) cores)) (sym back)
-        (c.unite.ensures.kernel grm (subst (λ cores. IsKernel grm (map (core_set index) cores)) (sym value) is))
+    subst (λ cores. IsKernel grm (map (core_set index) cores)) (sym back)
+    (c.unite.ensures.kernel grm (subst (λ cores. IsKernel grm (map (core_set index) cores)) (sym value) is))

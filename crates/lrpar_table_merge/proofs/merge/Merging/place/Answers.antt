@@ -1,6 +1,4 @@
-use Rattle.std.proofs.Common.{◌≡◌, ◌<◌, ◌∙◌, refl, sym, ap, subst, arith, length, map}
-use Rattle.std.proofs.lemmas.List.{get_or_read}
-use Rattle.lrpar_grammar.specs.Grammar.{prods_len}
+use Rattle.std.proofs.Common.{◌∙◌, refl, sym, ap, subst, arith, map}
 use Rattle.lrpar_table_items.specs.Cores.{core_set}
 use Rattle.lrpar_table_merge.specs.Compatible.{HaveSameCores}
 use Rattle.lrpar_table_merge.proofs.MergingLemmas.{first_prod, kernel_read, kernel_rooms, merging_set, state_value}

@@ -1,6 +1,5 @@
-use Rattle.std.proofs.Common.{◌<◌, ◌∙◌, sym, subst, arith, length, map}
+use Rattle.std.proofs.Common.{◌∙◌, sym, subst, arith, map}
 use Rattle.std.proofs.lemmas.Bool.{eqb-false}
-use Rattle.std.proofs.lemmas.List.{length-map}
 use Rattle.lrpar_table_items.specs.CoreOrder.{IsKernel}
 use Rattle.lrpar_table_items.specs.Cores.{core_set}
 use Rattle.lrpar_table_merge.proofs.MergingLemmas.{kernel_or_empty}

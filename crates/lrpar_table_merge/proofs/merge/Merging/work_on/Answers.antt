@@ -1,4 +1,4 @@
-use Rattle.std.proofs.Common.{◌≡◌, ◌<◌, refl, sym, ap, subst, arith, length}
+use Rattle.std.proofs.Common.{◌<◌, refl, sym, ap, subst, arith, length}
 use Rattle.lrpar_table_merge.specs.Merging.{AreMerging}
 use Rattle.lrpar_table_merge.proofs.MergingLemmas.{kernel_read, merging_set}
 use Rattle.lrpar_table_merge.proofs.merge.Merging.work_on.Goals as goal
