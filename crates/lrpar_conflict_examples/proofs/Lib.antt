@@ -6,3 +6,4 @@ pub mod MetLemmas
 pub mod TakenLemmas
 pub mod LeftLemmas
 pub mod BeforeLemmas
+pub mod DealtLemmas

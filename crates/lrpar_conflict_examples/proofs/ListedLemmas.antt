@@ -123,7 +123,7 @@ conflicts_named g lists reductions shifts fit first second =
     (shifts_named g shifts (among_all (ShiftFits g) shifts lists.shift_reduce second fit.shift_reduce))
 
 -- a derivation is that of a tree
-derives_from : (g : Grammar) (before : List ℕ) (token : ℕ) (trees : Forest ℕ) (next : MoveOf) (moves : List MoveOf) (tree : Tree ℕ)
+pub derives_from : (g : Grammar) (before : List ℕ) (token : ℕ) (trees : Forest ℕ) (next : MoveOf) (moves : List MoveOf) (tree : Tree ℕ)
     → IsDerivation g before token trees next moves tree → DerivesFrom g before moves
 derives_from g before token trees next moves tree derivation = record {
   tree = tree;

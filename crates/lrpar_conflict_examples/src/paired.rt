@@ -7,7 +7,7 @@ use lrpar_table_rows::table::{Action, StateTable};
 use std::alloc::{AllocError, Global};
 
 // The states of two tables that paths of the same shifts and gotos from both starts lead to.
-pub(crate) struct Pairs<StorageT> {
+pub(crate) struct Pairs<StorageT: StorageIndex> {
     // For each state of the first table those of the second.
     rows: Vec<Vec<StIdx<StorageT>>>,
     // The pairs, in the order in which they were found.
@@ -15,7 +15,7 @@ pub(crate) struct Pairs<StorageT> {
 }
 
 // A drop of its own: code that drops one then has one call to prove.
-impl<StorageT> Drop for Pairs<StorageT> {
+impl<StorageT: StorageIndex> Drop for Pairs<StorageT> {
     fn drop(self) {
         let Pairs { rows, found } = self;
         drop(rows);
