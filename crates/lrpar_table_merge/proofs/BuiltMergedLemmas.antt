@@ -47,10 +47,10 @@ module _ (g : Grammar) (len : ℕ) (sets : ℕ → ItemOf → Type 0) (goes othe
 -- the transitions of merged sets are a function: whether a state has one is decided by its items
 module _ (g : Grammar) (graph : Graph) (goes : ℕ → GrammarSymbol → ℕ → Type 0) (merged : AreMerged g (graph_len graph) (sets_of graph) goes) where
   -- the state goes on by the symbol, or it doesn't
-  abbrev StepOrNone : ℕ → GrammarSymbol → Type 0
+  abbrev pub StepOrNone : ℕ → GrammarSymbol → Type 0
   StepOrNone s X = ((n : ℕ) × goes s X n) ⊎ ((n : ℕ) → s < graph_len graph → ¬ (goes s X n))
 
-  step_decided : (s : ℕ) (X : GrammarSymbol) → StepOrNone s X
+  pub step_decided : (s : ℕ) (X : GrammarSymbol) → StepOrNone s X
   step_decided s X =
       elim (cases_lt s (graph_len graph)) [
         | inr past ↦ inr (λ n below go. omega (arith, past, below))
@@ -61,7 +61,7 @@ module _ (g : Grammar) (graph : Graph) (goes : ℕ → GrammarSymbol → ℕ →
             ]
       ]
 
-  abbrev target : (s : ℕ) (X : GrammarSymbol) → StepOrNone s X → Option ℕ
+  abbrev pub target : (s : ℕ) (X : GrammarSymbol) → StepOrNone s X → Option ℕ
   target s X (inl to) = Some to.0
   target s X (inr none) = None
 

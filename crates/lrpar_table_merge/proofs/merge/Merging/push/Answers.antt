@@ -19,4 +19,5 @@ returns g c =
           (subst (IsKernel grm) (sym c.in_ok-kernel.ensures) c.requires.kernel)
           (omega (arith, at, c.if-number-max_states.false))
           (omega (arith, at, fits));
+      fault = tt;
     }
