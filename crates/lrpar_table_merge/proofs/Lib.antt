@@ -15,3 +15,8 @@ pub mod WithinLemmas
 pub mod CanonicalLemmas
 pub mod BuiltMergedLemmas
 pub mod MergedFitLemmas
+pub mod PropagateLemmas
+pub mod FromLemmas
+pub mod ClearLemmas
+pub mod RoundLemmas
+pub mod MisfitLemmas

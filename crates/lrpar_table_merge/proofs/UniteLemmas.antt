@@ -35,10 +35,10 @@ module _ (cores : List CoreSet) (place : ℕ) (core d : CoreSet) (low : place < 
   rows_set : lookahead_rows (set cores place core) ≡ set (lookahead_rows cores) place core.tokens
   rows_set = map-set (λ (c : CoreSet). c.tokens) cores place core
 
-  at_same : lookaheads_at (set cores place core) place ≡ core.tokens
+  pub at_same : lookaheads_at (set cores place core) place ≡ core.tokens
   at_same = ap (λ rows. get_or rows place []) rows_set ∙ get_or-set_same (lookahead_rows cores) place core.tokens [] row_low
 
-  at_other : (i : ℕ) → (i ≡ place → ⊥) → lookaheads_at (set cores place core) i ≡ lookaheads_at cores i
+  pub at_other : (i : ℕ) → (i ≡ place → ⊥) → lookaheads_at (set cores place core) i ≡ lookaheads_at cores i
   at_other i other = ap (λ rows. get_or rows i []) rows_set ∙ get_or-set_other (lookahead_rows cores) place i core.tokens [] other
 
   at_place : lookaheads_at cores place ≡ (get_or cores place d).tokens

@@ -6,3 +6,5 @@ pub mod MergedLaws
 pub mod PassedOn
 pub mod MergedStates
 pub mod MergedBy
+pub mod Propagated
+pub mod Misfits
