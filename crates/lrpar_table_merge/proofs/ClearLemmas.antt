@@ -1,7 +1,7 @@
 -- Kernels whose lookaheads are removed, one core after the other.
 use Rattle.std.proofs.Common.{Vec, ◌≡◌, ◌<◌, ◌+◌, ◌∙◌, sym, ap, subst, inl, inr, arith, ℕ, IsTrue, false, List, [], ◌++◌, All, drop, get_or, length, map, set, take}
 use Rattle.std.proofs.lemmas.Bool.{cases_eq, false≢true}
-use Rattle.std.proofs.lemmas.List.{get_or-map, get_or-set_other, get_or-set_same, get_or_default, length-map, map-set}
+use Rattle.std.proofs.lemmas.List.{get_or-map, get_or-set_other, get_or-set_same, get_or_default, length-map, length-set, map-set}
 use Rattle.std.proofs.lemmas.List.Elements.{All-set}
 use Rattle.std.proofs.Math.Seq.{take-append_seam}
 use Rattle.lrpar_grammar.specs.Grammar.{Grammar}
@@ -10,10 +10,11 @@ use Rattle.lrpar_table_rows.specs.Graph.{ItemOf}
 use Rattle.lrpar_table_items.specs.Cores.{CoreSet, IsAmong, IsCoreOf, core_set}
 use Rattle.lrpar_table_items.specs.declared.cores.CoreItems.{CoreItems}
 use Rattle.lrpar_table_items.specs.Next.{kernel_at, kernel_rows}
-use Rattle.lrpar_table_merge.specs.Compatible.{lookaheads_at}
+use Rattle.lrpar_table_merge.specs.Compatible.{HaveSameCores, lookaheads_at, lr0_core}
 use Rattle.lrpar_table_merge.specs.PassedOn.{AreBeginnings}
+use Rattle.lrpar_table_merge.specs.Propagated.{AreAlike}
 use Rattle.lrpar_table_merge.proofs.PropagateLemmas.{among_low}
-use Rattle.lrpar_table_merge.proofs.UniteLemmas.{at_other, at_same}
+use Rattle.lrpar_table_merge.proofs.UniteLemmas.{at_other, at_same, map_set_same}
 
 -- a list that was lent and written back
 pub back : {X : Type 0} (items lent new : List X) (len : ℕ) → length items ≡ len → lent ≡ items → length new ≡ length lent
@@ -51,6 +52,14 @@ module _ {S : Type 0} (index : S → ℕ) (kernel : List (CoreItems S)) (place :
             ap (λ row. has row t) (at_other rows place (core_set index core) (core_set index d) low_value k other) ∙ so_far k (omega (arith, below, other)) t
       ])
 
+  -- the LR(0) cores stay
+  pub same_more : lr0_core (core_set index core) ≡ lr0_core (core_set index (get_or kernel place d))
+      → HaveSameCores (map (core_set index) (set kernel place core)) (map (core_set index) kernel)
+  same_more same =
+      ap (map lr0_core) (map-set (core_set index) kernel place core)
+      ∙ map_set_same lr0_core (map (core_set index) kernel) place (core_set index core) (core_set index d) low_value
+      (same ∙ sym (ap lr0_core (get_or-map (core_set index) kernel place d (core_set index d) low)))
+
   -- it is one of the grammar if it was
   pub cores_more : (g : Grammar) → (IsCoreOf g (core_set index (get_or kernel place d)) → IsCoreOf g (core_set index core))
       → All (IsCoreOf g) (map (core_set index) kernel) → All (IsCoreOf g) (map (core_set index) (set kernel place core))
@@ -83,6 +92,23 @@ module _ {S A : Type 0} (index : S → ℕ) (kernels : List (Vec (CoreItems S) A
         | inr other ↦
             so_far s (omega (arith, below, other)) x (subst (λ kernel. IsAmong kernel x) (get_or-set_other rows state s (cores_of new) [] other) there)
       ]
+
+  pub alike_more : HaveSameCores (map (core_set index) new.items) (map (core_set index) (get_or kernels state d).items)
+      → AreAlike (kernel_rows index kernels) (kernel_rows index (set kernels state new))
+  alike_more same =
+      let rows = kernel_rows index kernels in
+      let own : kernel_at rows state ≡ cores_of (get_or kernels state d) = get_or-map cores_of kernels state d [] low in
+      subst (AreAlike rows) (sym rows_set) (record {
+        len = length-set rows state (cores_of new);
+        cores = λ s.
+            elim (cases_eq s state) as (λ _. HaveSameCores (kernel_at (set rows state (cores_of new)) s) (kernel_at rows s)) [
+              | inl is ↦
+                  ap (λ n. map lr0_core (kernel_at (set rows state (cores_of new)) n)) is
+                  ∙ ap (map lr0_core) (get_or-set_same rows state (cores_of new) [] low_row) ∙ same ∙ ap (map lr0_core) (sym own)
+                  ∙ ap (λ n. map lr0_core (kernel_at rows n)) (sym is)
+              | inr other ↦ ap (map lr0_core) (get_or-set_other rows state s (cores_of new) [] other)
+            ];
+      })
 
   pub kernels_more : (g : Grammar)
       → (All (IsCoreOf g) (map (core_set index) (get_or kernels state d).items) → All (IsCoreOf g) (map (core_set index) new.items))

@@ -27,3 +27,4 @@ pub mod PropagateLemmas
 pub mod FromLemmas
 pub mod ClearLemmas
 pub mod RoundLemmas
+pub mod MisfitLemmas

@@ -9,7 +9,7 @@ use Rattle.lrpar_table_items.specs.declared.cores.CoreItems.{CoreItems}
 use Rattle.lrpar_table_items.specs.Next.{kernel_at, kernel_rows}
 use Rattle.lrpar_table_items.proofs.CoreLemmas.{among_nil}
 use Rattle.lrpar_table_merge.specs.PassedOn.{IsPassedTo, all_missing}
-use Rattle.lrpar_table_merge.specs.Propagated.{AreAdded, ArePassedAlong, HasGrown, IsPassedAlong, step_at}
+use Rattle.lrpar_table_merge.specs.Propagated.{AreAdded, AreAlike, ArePassedAlong, HasGrown, IsPassedAlong, step_at}
 use Rattle.lrpar_table_merge.proofs.PassLemmas.{kernel_value}
 
 -- a list of cores that isn't empty
@@ -49,6 +49,7 @@ module _ (before after : List (List CoreSet)) (state : ℕ) (next : List CoreSet
   -- the state was marked as waiting
   pub added_marked : (waited : List Bool) → state < length waited → AreAdded before waited after (set waited state true)
   added_marked waited low = record {
+    alike = record { len = passed.len; cores = passed.cores };
     kept = λ s x h. (passed.items s x).1 (inl h);
     still = λ s h.
         elim (cases_eq s state) [
@@ -64,8 +65,14 @@ module _ (before after : List (List CoreSet)) (state : ℕ) (next : List CoreSet
         ];
   }
 
+pub alike_itself : (kernels : List (List CoreSet)) → AreAlike kernels kernels
+alike_itself kernels = record { len = refl; cores = λ s. refl }
+
+pub alike_on : (first before after : List (List CoreSet)) → AreAlike first before → AreAlike before after → AreAlike first after
+alike_on first before after one two = record { len = two.len ∙ one.len; cores = λ s. two.cores s ∙ one.cores s }
+
 pub added_itself : (kernels : List (List CoreSet)) (waits : List Bool) → AreAdded kernels waits kernels waits
-added_itself kernels waits = record { kept = λ s x h. h; still = λ s h. h; marked = λ s off x h. h }
+added_itself kernels waits = record { alike = alike_itself kernels; kept = λ s x h. h; still = λ s h. h; marked = λ s off x h. h }
 
 -- a state that doesn't wait didn't, if those that waited still do
 pub off_before : (waited waits : List Bool) (s : ℕ) → (IsTrue (has waited s) → IsTrue (has waits s)) → has waits s ≡ false → has waited s ≡ false
@@ -79,6 +86,7 @@ off_before waited waits s still off =
 pub added_on : (first before after : List (List CoreSet)) (marks waited waits : List Bool) → AreAdded first marks before waited
     → AreAdded before waited after waits → AreAdded first marks after waits
 added_on first before after marks waited waits one two = record {
+  alike = alike_on first before after one.alike two.alike;
   kept = λ s x h. two.kept s x (one.kept s x h);
   still = λ s h. two.still s (one.still s h);
   marked = λ s off x h. one.marked s (off_before waited waits s (two.still s) off) x (two.marked s off x h);

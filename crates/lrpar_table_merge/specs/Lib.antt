@@ -11,3 +11,4 @@ pub mod MergedByLaws
 pub mod MergedSteps
 pub mod Minimised
 pub mod Propagated
+pub mod Misfits

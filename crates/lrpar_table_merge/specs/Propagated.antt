@@ -9,6 +9,7 @@ use Rattle.lrpar_table_items.specs.CoreOrder.{IsKernel}
 use Rattle.lrpar_table_items.specs.Cores.{CoreSet, IsAmong}
 use Rattle.lrpar_table_items.specs.ItemSets.{IsAdvanced, IsInClosure, IsStartItem}
 use Rattle.lrpar_table_items.specs.Next.{kernel_at}
+use Rattle.lrpar_table_merge.specs.Compatible.{HaveSameCores}
 use Rattle.lrpar_table_merge.specs.Held.{IsHeld}
 use Rattle.lrpar_table_merge.specs.PassedOn.{AreBeginnings, all_missing}
 
@@ -24,8 +25,14 @@ AreNoneOrKernels g kernels = (n : ℕ) → IsNoneOrKernel g (kernel_at kernels n
 abbrev pub DoesWait : List Bool → ℕ → Type 0
 DoesWait waits s = IsTrue (has waits s)
 
+-- there are as many kernels, and each has the same LR(0) cores
+pub record AreAlike (before after : List (List CoreSet)) : Type 0 where
+  pub len : length after ≡ length before
+  pub cores : (s : ℕ) → HaveSameCores (kernel_at after s) (kernel_at before s)
+
 -- items were only added, and each state that got any waits; those that waited still do
 pub record AreAdded (before : List (List CoreSet)) (waited : List Bool) (after : List (List CoreSet)) (waits : List Bool) : Type 0 where
+  pub alike : AreAlike before after
   pub kept : (s : ℕ) (x : ItemOf) → IsAmong (kernel_at before s) x → IsAmong (kernel_at after s) x
   pub still : (s : ℕ) → DoesWait waited s → DoesWait waits s
   pub marked : (s : ℕ) → has waits s ≡ false → (x : ItemOf) → IsAmong (kernel_at after s) x → IsAmong (kernel_at before s) x

@@ -5,6 +5,8 @@ ghost use Rattle.lrpar_grammar.specs.Tokens.{has};
 ghost use Rattle.lrpar_table_rows.specs.Graph.{ItemOf};
 ghost use Rattle.lrpar_table_items.specs.Cores.{IsAmong, IsCoreOf, core_set};
 ghost use Rattle.lrpar_table_items.specs.Next.{kernel_at, kernel_rows};
+ghost use Rattle.lrpar_table_merge.specs.Compatible.{HaveSameCores, lr0_core};
+ghost use Rattle.lrpar_table_merge.specs.Propagated.{AreAlike};
 
 use lrpar_grammar::span::StorageIndex;
 use lrpar_table_items::cores::CoreItems;
@@ -13,6 +15,7 @@ use lrpar_table_items::cores::CoreItems;
 pub(crate) fn clear_kernels<StorageT: StorageIndex>(kernels: &mut [Vec<CoreItems<StorageT>>])
     ensures cores { (g : Grammar) → All (All (IsCoreOf g)) (kernel_rows StorageT.index kernels.old)
         → All (All (IsCoreOf g)) (kernel_rows StorageT.index kernels.new) }
+    ensures alike { AreAlike (kernel_rows StorageT.index kernels.old) (kernel_rows StorageT.index kernels.new) }
     ensures none { (s : ℕ) (x : ItemOf) → ¬ (IsAmong (kernel_at (kernel_rows StorageT.index kernels.new) s) x) }
 {
     for state in 0..kernels.len() {
@@ -24,6 +27,7 @@ pub(crate) fn clear_kernels<StorageT: StorageIndex>(kernels: &mut [Vec<CoreItems
 fn clear_kernel<StorageT: StorageIndex>(kernel: &mut Vec<CoreItems<StorageT>>)
     ensures cores { (g : Grammar) → All (IsCoreOf g) (map (core_set StorageT.index) kernel.old.items)
         → All (IsCoreOf g) (map (core_set StorageT.index) kernel.new.items) }
+    ensures same { HaveSameCores (map (core_set StorageT.index) kernel.new.items) (map (core_set StorageT.index) kernel.old.items) }
     ensures none { (x : ItemOf) → ¬ (IsAmong (map (core_set StorageT.index) kernel.new.items) x) }
 {
     clear_cores(kernel);
@@ -33,6 +37,7 @@ fn clear_kernel<StorageT: StorageIndex>(kernel: &mut Vec<CoreItems<StorageT>>)
 fn clear_cores<StorageT: StorageIndex>(kernel: &mut [CoreItems<StorageT>])
     ensures cores { (g : Grammar) → All (IsCoreOf g) (map (core_set StorageT.index) kernel.old)
         → All (IsCoreOf g) (map (core_set StorageT.index) kernel.new) }
+    ensures same { HaveSameCores (map (core_set StorageT.index) kernel.new) (map (core_set StorageT.index) kernel.old) }
     ensures none { (x : ItemOf) → ¬ (IsAmong (map (core_set StorageT.index) kernel.new) x) }
 {
     for place in 0..kernel.len() {
@@ -43,6 +48,7 @@ fn clear_cores<StorageT: StorageIndex>(kernel: &mut [CoreItems<StorageT>])
 // Removes the lookaheads of the core.
 fn clear_core<StorageT: StorageIndex>(core: &mut CoreItems<StorageT>)
     ensures core { (g : Grammar) → IsCoreOf g (core_set StorageT.index core.old) → IsCoreOf g (core_set StorageT.index core.new) }
+    ensures same { lr0_core (core_set StorageT.index core.new) ≡ lr0_core (core_set StorageT.index core.old) }
     ensures none { (t : ℕ) → has core.new.tokens.bits.items t ≡ false }
 {
     core.tokens.clear();

@@ -9,5 +9,6 @@ pub mod laws;
 mod merge;
 mod merged_states;
 mod merged_table;
+mod pass;
 mod propagate;
 pub mod unite;

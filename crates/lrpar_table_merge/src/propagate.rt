@@ -1,6 +1,6 @@
 //! The items that states hold, propagated from the start along transitions until nothing grows.
 ghost use Rattle.std.specs.Prelude.{◌≡◌, ◌<◌, ◌↔◌, ℕ, All, IfErr, IfOk, IsTrue, OnOk, length, map};
-ghost use Rattle.lrpar_grammar.specs.Grammar.{Grammar, IsWellFormed};
+ghost use Rattle.lrpar_grammar.specs.Grammar.{GrammarSymbol, IsWellFormed};
 ghost use Rattle.lrpar_table_rows.specs.Graph.{ItemOf};
 ghost use Rattle.lrpar_table_items.specs.Canonical.{AreSame};
 ghost use Rattle.lrpar_table_items.specs.CoreOrder.{AreCores, IsKernel};
@@ -10,12 +10,14 @@ ghost use Rattle.lrpar_table_items.specs.Next.{kernel_at, kernel_rows};
 ghost use Rattle.lrpar_table_items.specs.Working.{AreSets, AreSuccessors};
 ghost use Rattle.lrpar_table_merge.specs.Held.{GoesBy, IsHeld, transitions_at};
 ghost use Rattle.lrpar_table_merge.specs.MergedStates.{all_transitions};
-ghost use Rattle.lrpar_table_merge.specs.PassedOn.{AreBeginnings, IsMisfit};
-ghost use Rattle.lrpar_table_merge.specs.Propagated.{AreAdded, AreNoneOrKernels, ArePassedAlong, ArePropagated, HasGrown, HasSettled, HaveBegun, IsNoneOrKernel, IsPassedAlong, IsPassedFrom, IsRoundTo, LeadOn, step_at};
+ghost use Rattle.lrpar_table_merge.specs.Misfits.{HasNoStart, IsFaultOfHeld, IsStuck, IsStuckAt};
+ghost use Rattle.lrpar_table_merge.specs.PassedOn.{AreBeginnings};
+ghost use Rattle.lrpar_table_merge.specs.Propagated.{AreAdded, AreAlike, ArePropagated, HasGrown, HasSettled, HaveBegun, IsPassedFrom, IsRoundTo, LeadOn};
 ghost use Rattle.lrpar_table_merge.specs.declared.held.HeldFault.TheVariants.{Misfit};
 
 use crate::clear::clear_kernels;
 use crate::held::{HeldFault, Transitions, pass_to};
+use crate::pass::pass_all;
 use lrpar_grammar::grammar::YaccGrammar;
 use lrpar_grammar::span::StorageIndex;
 use lrpar_table_items::cores::{CoreItems, copied};
@@ -46,10 +48,12 @@ pub(crate) fn propagate<StorageT: StorageIndex>(
     ensures sets { AreSets grm.now sets.new }
     ensures len { length kernels.new ≡ length kernels.old }
     ensures some { OnOk result (0 < length kernels.new) }
+    ensures alike { OnOk result (AreAlike (kernel_rows StorageT.index kernels.old) (kernel_rows StorageT.index kernels.new)) }
     ensures kernels { OnOk result (AreBeginnings grm.now (kernel_rows StorageT.index kernels.new)) }
     ensures held { OnOk result ((s : ℕ) → AreSame (IsInClosure grm.now (IsAmong (kernel_at (kernel_rows StorageT.index kernels.new) s)))
         (IsHeld grm.now (GoesBy (all_transitions all.now)) s)) }
     ensures steps { OnOk result (LeadOn grm.now (GoesBy (all_transitions all.now)) (length kernels.new)) }
+    ensures fault { IfErr result (IsFaultOfHeld grm.now (all_transitions all.now) (kernel_rows StorageT.index kernels.old)) }
 {
     clear_kernels(kernels);
     let mut waits = begin(alloc, grm, kernels)?;
@@ -66,7 +70,9 @@ fn begin<StorageT: StorageIndex>(
     requires none { (s : ℕ) (x : ItemOf) → ¬ (IsAmong (kernel_at (kernel_rows StorageT.index kernels.old) s) x) }
     ensures some { OnOk result (0 < length kernels.new) }
     ensures waits { IfOk result (λ waits. length waits.items ≡ length kernels.new) }
+    ensures alike { OnOk result (AreAlike (kernel_rows StorageT.index kernels.old) (kernel_rows StorageT.index kernels.new)) }
     ensures begun { IfOk result (λ waits. HaveBegun grm.now (kernel_rows StorageT.index kernels.new) waits.items) }
+    ensures misfit { IfErr result (λ fault. fault ≡ Misfit → HasNoStart grm.now (kernel_rows StorageT.index kernels.old)) }
 {
     let start = start_kernel(alloc, grm)?;
     let _grown = pass_to(kernels, 0, &start)?;
@@ -89,10 +95,12 @@ fn pass_rounds<StorageT: StorageIndex>(
     requires waits { length waits.old ≡ length kernels.old }
     requires propagated { ArePropagated grm.now (GoesBy (all_transitions all.now)) (kernel_rows StorageT.index kernels.old) waits.old }
     ensures sets { AreSets grm.now sets.new }
+    ensures alike { OnOk result (AreAlike (kernel_rows StorageT.index kernels.old) (kernel_rows StorageT.index kernels.new)) }
     ensures kernels { OnOk result (AreBeginnings grm.now (kernel_rows StorageT.index kernels.new)) }
     ensures held { OnOk result ((s : ℕ) → AreSame (IsInClosure grm.now (IsAmong (kernel_at (kernel_rows StorageT.index kernels.new) s)))
         (IsHeld grm.now (GoesBy (all_transitions all.now)) s)) }
     ensures steps { OnOk result (LeadOn grm.now (GoesBy (all_transitions all.now)) (length kernels.new)) }
+    ensures stuck { IfErr result (λ fault. fault ≡ Misfit → IsStuck grm.now (all_transitions all.now) (kernel_rows StorageT.index kernels.old)) }
 {
     'rounds: while pass_round(alloc, grm, sets, all, kernels, waits)? {}
     Ok(())
@@ -112,9 +120,11 @@ fn pass_round<StorageT: StorageIndex>(
     requires waits { length waits.old ≡ length kernels.old }
     requires propagated { ArePropagated grm.now (GoesBy (all_transitions all.now)) (kernel_rows StorageT.index kernels.old) waits.old }
     ensures sets { AreSets grm.now sets.new }
+    ensures alike { OnOk result (AreAlike (kernel_rows StorageT.index kernels.old) (kernel_rows StorageT.index kernels.new)) }
     ensures propagated { OnOk result (ArePropagated grm.now (GoesBy (all_transitions all.now)) (kernel_rows StorageT.index kernels.new) waits.new) }
     ensures round { IfOk result (IsRoundTo (kernel_rows StorageT.index kernels.old) (kernel_rows StorageT.index kernels.new) waits.new
         (length kernels.new)) }
+    ensures stuck { IfErr result (λ fault. fault ≡ Misfit → IsStuck grm.now (all_transitions all.now) (kernel_rows StorageT.index kernels.old)) }
 {
     let mut grown = false;
     for state in 0..kernels.len() {
@@ -140,8 +150,11 @@ fn pass_waiting<StorageT: StorageIndex>(
     requires state { state < length kernels.old }
     requires propagated { ArePropagated grm.now (GoesBy (all_transitions all.now)) (kernel_rows StorageT.index kernels.old) waits.old }
     ensures sets { AreSets grm.now sets.new }
+    ensures alike { OnOk result (AreAlike (kernel_rows StorageT.index kernels.old) (kernel_rows StorageT.index kernels.new)) }
     ensures propagated { OnOk result (ArePropagated grm.now (GoesBy (all_transitions all.now)) (kernel_rows StorageT.index kernels.new) waits.new) }
     ensures grown { IfOk result (HasSettled state (kernel_rows StorageT.index kernels.old) waits.old (kernel_rows StorageT.index kernels.new) waits.new) }
+    ensures stuck { IfErr result (λ fault. fault ≡ Misfit → (symbol : GrammarSymbol)
+        × IsStuckAt grm.now (all_transitions all.now) (kernel_rows StorageT.index kernels.old) state symbol) }
 {
     if !waits[state] {
         return Ok(false);
@@ -172,6 +185,8 @@ fn pass_from<StorageT: StorageIndex>(
         (kernel_rows StorageT.index kernels.old) (kernel_rows StorageT.index kernels.new)) }
     ensures beginnings { OnOk result (AreBeginnings grm.now (kernel_rows StorageT.index kernels.new)) }
     ensures grown { IfOk result (HasGrown (kernel_rows StorageT.index kernels.old) waits.old (kernel_rows StorageT.index kernels.new) waits.new) }
+    ensures stuck { IfErr result (λ fault. fault ≡ Misfit → (symbol : GrammarSymbol)
+        × IsStuckAt grm.now (all_transitions all.now) (kernel_rows StorageT.index kernels.old) state symbol) }
 {
     if !has_items(&kernels[state]) {
         return Ok(false);
@@ -232,75 +247,5 @@ fn tokens_from(all: &[Transitions], state: usize) -> &[Option<usize>]
     match all.get(state) {
         Some(transitions) => &transitions.tokens,
         None => &[],
-    }
-}
-
-// Passes each of these kernels to the state to which its symbol leads. Returns whether any kernel grew.
-fn pass_all<StorageT: StorageIndex>(
-    kernels: &mut [Vec<CoreItems<StorageT>>],
-    waits: &mut [bool],
-    row: &[Option<usize>],
-    nexts: &[Vec<CoreItems<StorageT>>],
-) -> Result<bool, HeldFault>
-    requires waits { length waits.old ≡ length kernels.old }
-    requires known { (g : Grammar) × AreBeginnings g (kernel_rows StorageT.index kernels.old)
-        × AreNoneOrKernels g (kernel_rows StorageT.index nexts.now) }
-    ensures added { OnOk result (AreAdded (kernel_rows StorageT.index kernels.old) waits.old (kernel_rows StorageT.index kernels.new) waits.new) }
-    ensures passed { OnOk result (ArePassedAlong row.now (kernel_rows StorageT.index nexts.now) (length nexts.now)
-        (kernel_rows StorageT.index kernels.old) (kernel_rows StorageT.index kernels.new)) }
-    ensures kernels { OnOk result ((g : Grammar) → AreBeginnings g (kernel_rows StorageT.index kernels.old)
-        → AreNoneOrKernels g (kernel_rows StorageT.index nexts.now) → AreBeginnings g (kernel_rows StorageT.index kernels.new)) }
-    ensures grown { IfOk result (HasGrown (kernel_rows StorageT.index kernels.old) waits.old (kernel_rows StorageT.index kernels.new) waits.new) }
-{
-    let mut grown = false;
-    for symbol in 0..nexts.len() {
-        let more = pass_one(kernels, waits, step_at(row, symbol), &nexts[symbol])?;
-        grown = grown || more;
-    }
-    Ok(grown)
-}
-
-// Where the symbol leads; out of range, nowhere.
-fn step_at(row: &[Option<usize>], symbol: usize) -> Option<usize>
-    ensures { result ≡ step_at row.now symbol }
-{
-    match row.get(symbol) {
-        Some(step) => *step,
-        None => None,
-    }
-}
-
-// Passes the kernel to the state to which the step goes, and marks the state as waiting if it grew. Returns whether it did. A kernel
-// without cores is passed over.
-fn pass_one<StorageT: StorageIndex>(
-    kernels: &mut [Vec<CoreItems<StorageT>>],
-    waits: &mut [bool],
-    step: Option<usize>,
-    next: &[CoreItems<StorageT>],
-) -> Result<bool, HeldFault>
-    requires waits { length waits.old ≡ length kernels.old }
-    requires known { (g : Grammar) × AreBeginnings g (kernel_rows StorageT.index kernels.old)
-        × IsNoneOrKernel g (map (core_set StorageT.index) next.now) }
-    ensures added { OnOk result (AreAdded (kernel_rows StorageT.index kernels.old) waits.old (kernel_rows StorageT.index kernels.new) waits.new) }
-    ensures passed { OnOk result (IsPassedAlong step (map (core_set StorageT.index) next.now)
-        (kernel_rows StorageT.index kernels.old) (kernel_rows StorageT.index kernels.new)) }
-    ensures kernels { OnOk result ((g : Grammar) → AreBeginnings g (kernel_rows StorageT.index kernels.old)
-        → IsNoneOrKernel g (map (core_set StorageT.index) next.now) → AreBeginnings g (kernel_rows StorageT.index kernels.new)) }
-    ensures grown { IfOk result (HasGrown (kernel_rows StorageT.index kernels.old) waits.old (kernel_rows StorageT.index kernels.new) waits.new) }
-    ensures misfit { IfErr result (λ fault. (fault ≡ Misfit)
-        × IsMisfit (kernel_rows StorageT.index kernels.old) step (map (core_set StorageT.index) next.now)) }
-{
-    if next.is_empty() {
-        return Ok(false);
-    }
-    match step {
-        None => Err(HeldFault::Misfit),
-        Some(state) => {
-            let grown = pass_to(kernels, state, next)?;
-            if grown {
-                waits[state] = true;
-            }
-            Ok(grown)
-        }
     }
 }

@@ -1,7 +1,7 @@
-use Rattle.std.proofs.Common.{◌<◌, arith, length, map}
+use Rattle.std.proofs.Common.{◌<◌, ◌∙◌, arith, length, map}
 use Rattle.std.proofs.lemmas.List.{length-map}
 use Rattle.lrpar_table_items.specs.Cores.{core_set}
-use Rattle.lrpar_table_merge.proofs.ClearLemmas.{cleared_more, cores_more, no_lookaheads}
+use Rattle.lrpar_table_merge.proofs.ClearLemmas.{cleared_more, cores_more, no_lookaheads, same_more}
 use Rattle.lrpar_table_merge.proofs.clear.clear_cores.Goals as goal
 
 pub loop-place-preserved : goal.loop-place-preserved
@@ -14,6 +14,7 @@ loop-place-preserved g c =
     let one = c.clear_core.ensures in
     let low : place < length kernel = omega (arith, c.loop-place-test.true, c.loop-place.auto.kernel) in record {
       cores = λ grm are. cores_more index kernel place c.clear_core.new.core d low grm (one.core grm) (so_far.cores grm are);
+      same = same_more index kernel place c.clear_core.new.core d low one.same ∙ so_far.same;
       none = cleared_more index kernel place c.clear_core.new.core d low one.none so_far.none;
     }
 

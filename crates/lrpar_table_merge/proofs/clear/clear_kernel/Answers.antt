@@ -1,5 +1,6 @@
-use Rattle.std.proofs.Common.{sym, subst, All, map}
+use Rattle.std.proofs.Common.{◌∙◌, sym, ap, subst, All, map}
 use Rattle.lrpar_table_items.specs.Cores.{IsAmong, IsCoreOf, core_set}
+use Rattle.lrpar_table_merge.specs.Compatible.{lr0_core}
 use Rattle.lrpar_table_merge.proofs.ClearLemmas.{back}
 use Rattle.lrpar_table_merge.proofs.clear.clear_kernel.Goals as goal
 
@@ -12,6 +13,14 @@ returns-clause-cores g c =
     λ grm are.
     subst (λ items. All (IsCoreOf grm) (map (core_set index) items)) (sym is)
     (c.clear_cores.ensures.cores grm (subst (λ items. All (IsCoreOf grm) (map (core_set index) items)) (sym value) are))
+
+pub returns-clause-same : goal.returns-clause-same
+returns-clause-same g c =
+    let kernel = c.args.kernel.now in
+    let rows = map (core_set g.StorageT.StorageIndex.index) in
+    let value = c.deref_mut.ensures.value in
+    let is = back kernel.items c.deref_mut.result.now c.clear_cores.new.kernel kernel.len (sym kernel.ok.0) value c.clear_cores.auto.kernel in
+    ap (λ items. map lr0_core (rows items)) is ∙ c.clear_cores.ensures.same ∙ ap (λ items. map lr0_core (rows items)) value
 
 pub returns-clause-none : goal.returns-clause-none
 returns-clause-none g c =

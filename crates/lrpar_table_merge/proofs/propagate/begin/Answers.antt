@@ -17,6 +17,9 @@ pass_to-requires g c =
     let kernel = subst (λ items. IsKernel grm (map (core_set index) items)) (sym c.deref.ensures.value) c.in_ok-start.ensures.kernel in
     record { known = (grm, empty_beginnings grm (kernel_rows index c.args.kernels.now) c.requires.cores c.requires.none, kernel) }
 
+pub returns-clause-alike : goal.returns-clause-alike
+returns-clause-alike g c = let passed = c.in_ok-_grown.ensures.passed in record { len = passed.len; cores = passed.cores }
+
 pub returns-clause-begun : goal.returns-clause-begun
 returns-clause-begun g c =
     let index = g.StorageT.StorageIndex.index in

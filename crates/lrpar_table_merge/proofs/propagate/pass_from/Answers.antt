@@ -8,10 +8,11 @@ use Rattle.lrpar_table_items.specs.ItemSets.{IsInClosure}
 use Rattle.lrpar_table_items.specs.Next.{AreNext, kernel_rows}
 use Rattle.lrpar_table_merge.specs.Held.{GoesBy}
 use Rattle.lrpar_table_merge.specs.MergedStates.{all_transitions}
-use Rattle.lrpar_table_merge.specs.Propagated.{HasGrown}
+use Rattle.lrpar_table_merge.specs.Propagated.{HasGrown, step_at}
 use Rattle.lrpar_table_merge.proofs.FromLemmas.{none_or_values, nothing_from, passed_from}
+use Rattle.lrpar_table_merge.proofs.MisfitLemmas.{fault_is, stuck_from}
 use Rattle.lrpar_table_merge.proofs.PassLemmas.{rows_len}
-use Rattle.lrpar_table_merge.proofs.PropagateLemmas.{added_on, grown_on, grown_result, own_at}
+use Rattle.lrpar_table_merge.proofs.PropagateLemmas.{added_itself, added_on, alike_itself, grown_on, grown_result, own_at}
 use Rattle.lrpar_table_merge.proofs.propagate.pass_from.Goals as goal
 use Rattle.lrpar_table_merge.proofs.propagate.pass_from.Goals.{then-by_rules, else-by_rules}
 
@@ -21,6 +22,9 @@ returns-then-not-has_items-clause-passed g c =
     let at = own_at index c.args.kernels.now c.args.state c.index-kernels-state.result c.deref.result.now c.requires.state c.deref.ensures.value in
     nothing_from c.args.grm.now (GoesBy (all_transitions c.args.all.now)) c.args.state (kernel_rows index c.args.kernels.now)
     (λ x h. false≢true (sym c.if-not-has_items.true ∙ c.has_items.ensures.1 (x, subst (λ cores. IsAmong cores x) at h)))
+
+pub returns-then-not-has_items-clause-added : goal.returns-then-not-has_items-clause-added
+returns-then-not-has_items-clause-added g c = added_itself (kernel_rows g.StorageT.StorageIndex.index c.args.kernels.now) c.args.waits.now
 
 pub successors_of-requires-clause-kernel : goal.successors_of-requires-clause-kernel
 successors_of-requires-clause-kernel g c =
@@ -58,6 +62,52 @@ pass_all-requires-2-clause-known g c =
     none_or_values grm (map (core_set index) c.deref-2.result.now) (map (core_set index) successors.items.items) all.items all.cores Terminal
     (kernel_rows index successors.tokens.items) all.successors.tokens index c.deref-4.result.now (ap (kernel_rows index) (sym c.deref-4.ensures.value)) in
     (grm, c.in_ok-by_rules.ensures.kernels grm c.requires.beginnings rules, tokens)
+
+pub returns-in_err-by_rules-clause-stuck : goal.returns-in_err-by_rules-clause-stuck
+returns-in_err-by_rules-clause-stuck g c =
+    let index = g.StorageT.StorageIndex.index in
+    let grm = c.args.grm.now in
+    let kernels = c.args.kernels.now in
+    let state = c.args.state in
+    let before = kernel_rows index kernels in
+    let all = c.in_ok-successors.ensures in
+    let cores = map (core_set index) c.in_ok-successors.successors.items.items in
+    let at = own_at index kernels state c.index-kernels-state.result c.deref.result.now c.requires.state c.deref.ensures.value in
+    let own = own_at index kernels state c.index-kernels-state-2.result c.deref-2.result.now c.requires.state c.deref-2.ensures.value in
+    let some = c.has_items.ensures.0 c.if-not-has_items.false in
+    let count = rows_len index kernels in
+    let low : state < length before = omega (arith, count, c.requires.state) in
+    let kernel = (c.requires.beginnings state [] low).filled some.0 (subst (λ items. IsAmong items some.0) (sym at) some.1) in
+    fault_is c.from_residual-in_err-by_rules.result _ c.in_err-by_rules.field-0.0 c.from_residual-in_err-by_rules.ensures.1
+    (λ is.
+    stuck_from grm (all_transitions c.args.all.now) state before (kernel_rows index c.args.kernels.now) cores
+    (subst (λ items. AreSame (IsAmong cores) (IsInClosure grm (IsAmong items))) (sym own) all.items) all.cores Nonterminal
+    (kernel_rows index c.deref-3.result.now)
+    (subst (λ rows. AreNext grm cores Nonterminal (kernel_rows index rows)) (sym c.deref-3.ensures.value) all.successors.rules) c.rules_from.result.now
+    (λ i. ap (λ row. step_at row i) c.rules_from.ensures) kernel (alike_itself before) c.in_err-by_rules.ensures.misfit)
+
+pub returns-in_err-by_tokens-clause-stuck : goal.returns-in_err-by_tokens-clause-stuck
+returns-in_err-by_tokens-clause-stuck g c =
+    let index = g.StorageT.StorageIndex.index in
+    let grm = c.args.grm.now in
+    let kernels = c.args.kernels.now in
+    let state = c.args.state in
+    let before = kernel_rows index kernels in
+    let all = c.in_ok-successors.ensures in
+    let cores = map (core_set index) c.in_ok-successors.successors.items.items in
+    let at = own_at index kernels state c.index-kernels-state.result c.deref.result.now c.requires.state c.deref.ensures.value in
+    let own = own_at index kernels state c.index-kernels-state-2.result c.deref-2.result.now c.requires.state c.deref-2.ensures.value in
+    let some = c.has_items.ensures.0 c.if-not-has_items.false in
+    let count = rows_len index kernels in
+    let low : state < length before = omega (arith, count, c.requires.state) in
+    let kernel = (c.requires.beginnings state [] low).filled some.0 (subst (λ items. IsAmong items some.0) (sym at) some.1) in
+    fault_is c.from_residual-in_err-by_tokens.result _ c.in_err-by_tokens.field-0.0 c.from_residual-in_err-by_tokens.ensures.1
+    (λ is.
+    stuck_from grm (all_transitions c.args.all.now) state before (kernel_rows index c.pass_all.new.kernels) cores
+    (subst (λ items. AreSame (IsAmong cores) (IsInClosure grm (IsAmong items))) (sym own) all.items) all.cores Terminal
+    (kernel_rows index c.deref-4.result.now)
+    (subst (λ rows. AreNext grm cores Terminal (kernel_rows index rows)) (sym c.deref-4.ensures.value) all.successors.tokens) c.tokens_from.result.now
+    (λ i. ap (λ row. step_at row i) c.tokens_from.ensures) kernel c.in_ok-by_rules.ensures.added.alike c.in_err-by_tokens.ensures.misfit)
 
 pub returns-clause-added : goal.returns-clause-added
 returns-clause-added g c =
