@@ -1,14 +1,17 @@
 //! The table builder with a choice: canonical item sets, or merged ones.
-ghost use Rattle.std.specs.Prelude.{◌≤◌, IfErr, IfOk, IfSome, length, map};
+ghost use Rattle.std.specs.Prelude.{◌≡◌, ◌≤◌, IfErr, IfOk, IfSome, length, map};
 ghost use Rattle.lrpar_grammar.specs.Grammar.{IsWellFormed};
 ghost use Rattle.lrpar_table_rows.specs.Graph.{graph_len};
 ghost use Rattle.lrpar_table_rows.specs.Safe.{IsSafe};
+ghost use Rattle.lrpar_table_items.specs.Next.{kernel_rows};
 ghost use Rattle.lrpar_table_items.specs.States.{state_of};
+ghost use Rattle.lrpar_table_items.specs.Working.{AreSets};
 ghost use Rattle.lrpar_table_merge.specs.MergedBy.{IsMergedBy};
 ghost use Rattle.lrpar_table_merge.specs.MergedStates.{AreMergedStates};
+ghost use Rattle.lrpar_table_merge.specs.Merging.{AreCoreRows};
 ghost use Rattle.lrpar_table_merge.specs.Minimised.{IsMergeFault, IsMergingRefusal, IsMinimisedBy, IsMinimisedRefusal};
 
-use crate::held::HeldFault;
+use crate::held::{HeldFault, Transitions};
 use crate::merge::merge;
 use crate::merged_states::merged_states;
 use crate::merged_table::table_of_merged;
@@ -16,6 +19,7 @@ use crate::propagate::propagate;
 use lrpar_grammar::grammar::YaccGrammar;
 use lrpar_grammar::span::StorageIndex;
 use lrpar_table_build::build::{BuildFault, Precedences, from_yacc_with};
+use lrpar_table_items::cores::CoreItems;
 use lrpar_table_items::item_set::State;
 use lrpar_table_items::sets::Sets;
 use lrpar_table_rows::table::{StateGraph, StateTable};
@@ -73,6 +77,7 @@ fn merged_table<StorageT: StorageIndex>(
 ) -> Result<(StateGraph<StorageT>, StateTable<StorageT>), BuildFault>
     ensures built { IfOk result (λ built. IsMergedBy grm.now precedences.now built.0 built.1) }
     ensures room { IfOk result (λ built. graph_len built.0 ≤ max_states) }
+    ensures well_formed { IsWellFormed grm.now }
     ensures refused { IfErr result (IsMergingRefusal grm.now) }
 {
     match states_of(alloc, grm, max_states)? {
@@ -96,14 +101,28 @@ fn states_of<StorageT: StorageIndex>(
     let _start = grm.start_prod();
     let mut sets = Sets::new(alloc, grm)?;
     let (mut kernels, all) = merge(alloc, grm, &mut sets, max_states)?;
-    match propagate(alloc, grm, &mut sets, &all, &mut kernels) {
-        Ok(()) => {}
-        Err(HeldFault::Misfit) => return Ok(None),
-        Err(HeldFault::Memory) => return Err(BuildFault::Memory),
-    }
-    match merged_states(alloc, grm, &mut sets, &all, &kernels) {
+    match settled(alloc, grm, &mut sets, &all, &mut kernels) {
         Ok(states) => Ok(Some(states)),
         Err(HeldFault::Misfit) => Ok(None),
         Err(HeldFault::Memory) => Err(BuildFault::Memory),
     }
+}
+
+// The states of the kernels, whose lookaheads are worked out anew from the start.
+fn settled<StorageT: StorageIndex>(
+    alloc: Global,
+    grm: &YaccGrammar<StorageT>,
+    sets: &mut Sets,
+    all: &[Transitions],
+    kernels: &mut [Vec<CoreItems<StorageT>>],
+) -> Result<Vec<State<StorageT>>, HeldFault>
+    requires well_formed { IsWellFormed grm.now }
+    requires sets { AreSets grm.now sets.old }
+    requires cores { AreCoreRows grm.now (kernel_rows StorageT.index kernels.old) }
+    requires fit { length kernels.old ≤ StorageT.limit }
+    ensures states { IfOk result (λ states. AreMergedStates grm.now (map (state_of StorageT.index) states.items)) }
+    ensures len { IfOk result (λ states. length states.items ≡ length kernels.old) }
+{
+    propagate(alloc, grm, sets, all, kernels)?;
+    merged_states(alloc, grm, sets, all, kernels)
 }

@@ -41,4 +41,5 @@ returns-in-Some g c =
     kernel_read index grm before.states.items c.in-Some.number state c.in-Some.ensures.low c.index_mut.ensures.value c.requires.merging.kernels in record {
       merging = merging_set index grm c.args.max_states g.StorageT.StorageIndex.limit before c.requires.merging _ c.in-Some.number c.grow.new.state refl
           refl (c.grow.ensures grm kernel);
+      fault = tt;
     }
