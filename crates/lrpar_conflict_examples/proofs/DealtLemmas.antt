@@ -1,5 +1,5 @@
 -- Conflicts that are dealt out to three lists, and the counterexamples among them.
-use Rattle.std.proofs.Common.{◌≡◌, ◌<◌, ◌≤◌, ◌+◌, ◌∙◌, refl, sym, ap, subst, arith, ℕ, List, [], ◌∷◌, ◌++◌, Err, None, Ok, OnOk, Option, Result, get_or, length, map, take}
+use Rattle.std.proofs.Common.{◌≡◌, ◌<◌, ◌≤◌, ◌+◌, ◌∙◌, refl, sym, ap, subst, arith, ℕ, List, [], ◌∷◌, ◌++◌, Err, Ok, OnOk, Result, get_or, length, map, take}
 use Rattle.std.specs.List.{AllByRecursion, Contains}
 use Rattle.std.specs.Prelude.{IsPermutation}
 use Rattle.std.proofs.lemmas.List.{append-nil, append_assoc, map-append, take_all}
@@ -9,10 +9,9 @@ use Rattle.lrpar_grammar.specs.Grammar.{Grammar, end_token, tokens_len}
 use Rattle.lrpar_table_rows.specs.ConflictsFit.{ConflictsFit, ReductionsFit, ShiftFits}
 use Rattle.lrpar_table_rows.specs.Graph.{Graph}
 use Rattle.lrpar_table_rows.specs.Table.{ConflictLists, ReduceReduce, ShiftReduce}
-use Rattle.lrpar_table_build.specs.BuilderLaws.{lists_in}
 use Rattle.lrpar_table_sentences.specs.Moves.{Makes, Takes}
 use Rattle.lrpar_conflict_derivations.specs.Example.{ExampleOf, IsExample}
-use Rattle.lrpar_conflict_examples.specs.Conflicts.{ConflictExampleOf, ConflictOf, conflicts_in, of_reductions, of_shift}
+use Rattle.lrpar_conflict_examples.specs.Conflicts.{ConflictExampleOf, ConflictOf, of_reductions, of_shift}
 use Rattle.lrpar_conflict_examples.specs.ExamplesFit.{ExampleFits, ExamplesFit}
 use Rattle.lrpar_conflict_examples.specs.Merged.{conflicts_of}
 use Rattle.lrpar_conflict_examples.specs.Fits.{IsMoveOf}
@@ -149,12 +148,6 @@ pub both_dealt : {X : Type 0} (base first second middle new all : List X) → ba
 both_dealt base first second middle new all none one other same =
     subst (λ l. IsPermutation l new) same
     (IsPermutation-trans _ _ _ (IsPermutation-append_left second first middle (subst (λ l. IsPermutation (l ++ first) middle) none one)) other)
-
-pub nothing_dealt : {S : Type 0} (index : S → ℕ) (conflicts : Option ConflictLists) (found : MergedConflicts S) → conflicts ≡ None
-    → conflicts_of index found ≡ [] → IsPermutation (conflicts_in (lists_in conflicts)) (conflicts_of index found)
-nothing_dealt index conflicts found none empty =
-    subst (λ o. IsPermutation (conflicts_in (lists_in o)) (conflicts_of index found)) (sym none)
-    (subst (IsPermutation []) (sym empty) (IsPermutation-refl []))
 
 -- a clause on success, by another one
 pub OnOk-then : {T E : Type 0} (r : Result T E) (P Q : Type 0) → (P → Q) → OnOk r P → OnOk r Q
