@@ -36,7 +36,6 @@ module _ {X : Type 0} where
   to_third : (a b c : List X) (x : X) → IsPermutation (x ∷ (a ++ (b ++ c))) (a ++ (b ++ (c ++ x ∷ [])))
   to_third a b c x = behind a (b ++ c) (b ++ (c ++ x ∷ [])) x (behind b c (c ++ x ∷ []) x (IsPermutation-sym _ _ (IsPermutation-to_front c x)))
 
-
 module _ {S : Type 0} (index : S → ℕ) (old new : MergedConflicts S) where
   -- a conflict with its counterexample is one more
   pub example_more : (x : ConflictExampleOf) → new.examples.items ≡ old.examples.items ++ x ∷ [] → new.unmet.items ≡ old.unmet.items

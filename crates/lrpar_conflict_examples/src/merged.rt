@@ -235,8 +235,8 @@ impl<StorageT: StorageIndex> Canonical<StorageT> {
         let (token, prod, state) = *conflict;
         for own in conflicts.sr_conflicts() {
             let (its_token, its_prod, its_state) = *own;
-            if usize::from(its_token) == usize::from(token)
-                && usize::from(its_prod) == usize::from(prod)
+            if usize::from(its_prod) == usize::from(prod)
+                && usize::from(its_token) == usize::from(token)
                 && self.is_within(its_state, state)
             {
                 return Some(*own);
