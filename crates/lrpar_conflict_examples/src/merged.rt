@@ -1,5 +1,5 @@
 //! Counterexamples of the conflicts of a table with merged item sets.
-ghost use Rattle.std.specs.Prelude.{◌≡◌, ◌++◌, ◌∷◌, [], Contains, IfErr, IfOk, IfSome, IsPermutation, OnOk, map};
+ghost use Rattle.std.specs.Prelude.{◌≡◌, ◌++◌, ◌∷◌, [], Contains, IfOk, IfSome, IsPermutation, OnOk, map};
 ghost use Rattle.lrpar_table_rows.specs.PlainConflicts.{reduce_reduce_of, shift_reduce_of};
 ghost use Rattle.lrpar_table_build.specs.BuilderLaws.{lists_in};
 ghost use Rattle.lrpar_conflict_examples.specs.Conflicts.{conflicts_in, of_reductions, of_shift};
