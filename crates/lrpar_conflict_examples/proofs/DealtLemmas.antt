@@ -1,6 +1,6 @@
 -- Conflicts that are dealt out to three lists, and the counterexamples among them.
-use Rattle.std.proofs.Common.{◌≡◌, ◌<◌, ◌≤◌, ◌+◌, ◌∙◌, refl, sym, ap, subst, arith, ℕ, List, [], ◌∷◌, ◌++◌, Err, None, Ok, OnOk, Option, Result, get_or, length, map, take}
-use Rattle.std.specs.List.{AllByRecursion, Contains}
+use Rattle.std.proofs.Common.{◌≡◌, ◌<◌, ◌≤◌, ◌+◌, ◌∙◌, sym, ap, subst, arith, ℕ, List, [], ◌∷◌, ◌++◌, Err, Ok, OnOk, Result, get_or, length, map, take}
+use Rattle.std.specs.List.{Contains}
 use Rattle.std.specs.Prelude.{IsPermutation}
 use Rattle.std.proofs.lemmas.List.{append-nil, append_assoc, map-append, take_all}
 use Rattle.std.proofs.lemmas.List.Elements.{All-contains}
@@ -9,10 +9,9 @@ use Rattle.lrpar_grammar.specs.Grammar.{Grammar, end_token, tokens_len}
 use Rattle.lrpar_table_rows.specs.ConflictsFit.{ConflictsFit, ReductionsFit, ShiftFits}
 use Rattle.lrpar_table_rows.specs.Graph.{Graph}
 use Rattle.lrpar_table_rows.specs.Table.{ConflictLists, ReduceReduce, ShiftReduce}
-use Rattle.lrpar_table_build.specs.BuilderLaws.{lists_in}
 use Rattle.lrpar_table_sentences.specs.Moves.{Makes, Takes}
 use Rattle.lrpar_conflict_derivations.specs.Example.{ExampleOf, IsExample}
-use Rattle.lrpar_conflict_examples.specs.Conflicts.{ConflictExampleOf, ConflictOf, conflicts_in, of_reductions, of_shift}
+use Rattle.lrpar_conflict_examples.specs.Conflicts.{ConflictExampleOf, ConflictOf, of_reductions, of_shift}
 use Rattle.lrpar_conflict_examples.specs.ExamplesFit.{ExampleFits, ExamplesFit}
 use Rattle.lrpar_conflict_examples.specs.Merged.{conflicts_of}
 use Rattle.lrpar_conflict_examples.specs.Fits.{IsMoveOf}
@@ -37,45 +36,56 @@ module _ {X : Type 0} where
   to_third : (a b c : List X) (x : X) → IsPermutation (x ∷ (a ++ (b ++ c))) (a ++ (b ++ (c ++ x ∷ [])))
   to_third a b c x = behind a (b ++ c) (b ++ (c ++ x ∷ [])) x (behind b c (c ++ x ∷ []) x (IsPermutation-sym _ _ (IsPermutation-to_front c x)))
 
+-- the conflicts of examples alone, and of all three lists
+abbrev shown_in : List ConflictExampleOf → List ConflictOf
+shown_in = map (λ (x : ConflictExampleOf). x.conflict)
+
+module _ {S : Type 0} (index : S → ℕ) where
+  abbrev all_of : List ConflictExampleOf → List (UnmetConflict S) → List (UnmetConflict S) → List ConflictOf
+  all_of examples unmet merged = shown_in examples ++ (map (unmet_of index) unmet ++ map (unmet_of index) merged)
+
+  dealt_are : (found : MergedConflicts S) (examples : List ConflictExampleOf) (unmet merged : List (UnmetConflict S)) → found.examples.items ≡ examples
+      → found.unmet.items ≡ unmet → found.merged.items ≡ merged → conflicts_of index found ≡ all_of examples unmet merged
+  dealt_are found examples unmet merged first second third =
+      ap (λ e. all_of e found.unmet.items found.merged.items) first ∙ ap (λ u. all_of examples u found.merged.items) second
+      ∙ ap (all_of examples unmet) third
+
+  -- at first there are none
+  pub none_dealt : (found : MergedConflicts S) → found.examples.items ≡ [] → found.unmet.items ≡ [] → found.merged.items ≡ []
+      → conflicts_of index found ≡ []
+  none_dealt found examples unmet merged = dealt_are found [] [] [] examples unmet merged
 
 module _ {S : Type 0} (index : S → ℕ) (old new : MergedConflicts S) where
   -- a conflict with its counterexample is one more
   pub example_more : (x : ConflictExampleOf) → new.examples.items ≡ old.examples.items ++ x ∷ [] → new.unmet.items ≡ old.unmet.items
       → new.merged.items ≡ old.merged.items → IsPermutation (x.conflict ∷ conflicts_of index old) (conflicts_of index new)
   example_more x put unmet merged =
-      let first = map (λ (y : ConflictExampleOf). y.conflict) old.examples.items in
-      let second = map (unmet_of index) old.unmet.items in
-      let third = map (unmet_of index) old.merged.items in
-      subst (λ m. IsPermutation (x.conflict ∷ conflicts_of index old) (map (λ (y : ConflictExampleOf). y.conflict) new.examples.items ++ (map (unmet_of index) new.unmet.items ++ map (unmet_of index) m))) (sym merged)
-      (subst (λ u. IsPermutation (x.conflict ∷ conflicts_of index old) (map (λ (y : ConflictExampleOf). y.conflict) new.examples.items ++ (map (unmet_of index) u ++ third))) (sym unmet)
-      (subst (λ e. IsPermutation (x.conflict ∷ conflicts_of index old) (e ++ (second ++ third)))
-      (sym (ap (map (λ (y : ConflictExampleOf). y.conflict)) put ∙ map-append (λ (y : ConflictExampleOf). y.conflict) old.examples.items (x ∷ [])))
-      (to_first first (second ++ third) x.conflict)))
+      let rest = map (unmet_of index) old.unmet.items ++ map (unmet_of index) old.merged.items in
+      subst (IsPermutation (x.conflict ∷ conflicts_of index old))
+      (sym (dealt_are index new (old.examples.items ++ x ∷ []) old.unmet.items old.merged.items put unmet merged
+      ∙ ap (λ e. e ++ rest) (map-append (λ (y : ConflictExampleOf). y.conflict) old.examples.items (x ∷ []))))
+      (to_first (shown_in old.examples.items) rest x.conflict)
 
   -- and so is one without, in either list
   pub unmet_more : (x : UnmetConflict S) → new.examples.items ≡ old.examples.items → new.unmet.items ≡ old.unmet.items ++ x ∷ []
       → new.merged.items ≡ old.merged.items → IsPermutation (unmet_of index x ∷ conflicts_of index old) (conflicts_of index new)
   unmet_more x examples put merged =
-      let first = map (λ (y : ConflictExampleOf). y.conflict) old.examples.items in
-      let second = map (unmet_of index) old.unmet.items in
+      let first = shown_in old.examples.items in
       let third = map (unmet_of index) old.merged.items in
-      subst (λ m. IsPermutation (unmet_of index x ∷ conflicts_of index old) (map (λ (y : ConflictExampleOf). y.conflict) new.examples.items ++ (map (unmet_of index) new.unmet.items ++ map (unmet_of index) m))) (sym merged)
-      (subst (λ e. IsPermutation (unmet_of index x ∷ conflicts_of index old) (map (λ (y : ConflictExampleOf). y.conflict) e ++ (map (unmet_of index) new.unmet.items ++ third))) (sym examples)
-      (subst (λ u. IsPermutation (unmet_of index x ∷ conflicts_of index old) (first ++ (u ++ third)))
-      (sym (ap (map (unmet_of index)) put ∙ map-append (unmet_of index) old.unmet.items (x ∷ [])))
-      (to_second first second third (unmet_of index x))))
+      subst (IsPermutation (unmet_of index x ∷ conflicts_of index old))
+      (sym (dealt_are index new old.examples.items (old.unmet.items ++ x ∷ []) old.merged.items examples put merged
+      ∙ ap (λ u. first ++ (u ++ third)) (map-append (unmet_of index) old.unmet.items (x ∷ []))))
+      (to_second first (map (unmet_of index) old.unmet.items) third (unmet_of index x))
 
   pub merged_more : (x : UnmetConflict S) → new.examples.items ≡ old.examples.items → new.unmet.items ≡ old.unmet.items
       → new.merged.items ≡ old.merged.items ++ x ∷ [] → IsPermutation (unmet_of index x ∷ conflicts_of index old) (conflicts_of index new)
   merged_more x examples unmet put =
-      let first = map (λ (y : ConflictExampleOf). y.conflict) old.examples.items in
+      let first = shown_in old.examples.items in
       let second = map (unmet_of index) old.unmet.items in
-      let third = map (unmet_of index) old.merged.items in
-      subst (λ u. IsPermutation (unmet_of index x ∷ conflicts_of index old) (map (λ (y : ConflictExampleOf). y.conflict) new.examples.items ++ (map (unmet_of index) u ++ map (unmet_of index) new.merged.items))) (sym unmet)
-      (subst (λ e. IsPermutation (unmet_of index x ∷ conflicts_of index old) (map (λ (y : ConflictExampleOf). y.conflict) e ++ (second ++ map (unmet_of index) new.merged.items))) (sym examples)
-      (subst (λ m. IsPermutation (unmet_of index x ∷ conflicts_of index old) (first ++ (second ++ m)))
-      (sym (ap (map (unmet_of index)) put ∙ map-append (unmet_of index) old.merged.items (x ∷ [])))
-      (to_third first second third (unmet_of index x))))
+      subst (IsPermutation (unmet_of index x ∷ conflicts_of index old))
+      (sym (dealt_are index new old.examples.items old.unmet.items (old.merged.items ++ x ∷ []) examples unmet put
+      ∙ ap (λ m. first ++ (second ++ m)) (map-append (unmet_of index) old.merged.items (x ∷ []))))
+      (to_third first second (map (unmet_of index) old.merged.items) (unmet_of index x))
 
 -- a loop over conflicts: at first none, then one more, in the end all
 module _ {A B : Type 0} (plain : A → B) (own : B → ConflictOf) (xs : List A) (base : List ConflictOf) where
@@ -137,24 +147,12 @@ pub fit_more : (g : Grammar) (old new : List ConflictExampleOf) (x : ConflictExa
     → ExamplesFit g new
 fit_more g old new x fit one put = subst (ExamplesFit g) (sym put) (all_both (ExampleFits g) old (x ∷ []) fit (one, tt))
 
--- at first nothing is dealt out, and in the end all conflicts are
-pub none_dealt : {S : Type 0} (index : S → ℕ) (found : MergedConflicts S) → found.examples.items ≡ [] → found.unmet.items ≡ [] → found.merged.items ≡ []
-    → conflicts_of index found ≡ []
-none_dealt index found examples unmet merged =
-    ap (λ e. map (λ (x : ConflictExampleOf). x.conflict) e ++ (map (unmet_of index) found.unmet.items ++ map (unmet_of index) found.merged.items)) examples
-    ∙ ap (λ u. map (unmet_of index) u ++ map (unmet_of index) found.merged.items) unmet ∙ ap (map (unmet_of index)) merged
-
+-- in the end all conflicts are dealt out
 pub both_dealt : {X : Type 0} (base first second middle new all : List X) → base ≡ [] → IsPermutation (base ++ first) middle
     → IsPermutation (middle ++ second) new → first ++ second ≡ all → IsPermutation all new
 both_dealt base first second middle new all none one other same =
     subst (λ l. IsPermutation l new) same
     (IsPermutation-trans _ _ _ (IsPermutation-append_left second first middle (subst (λ l. IsPermutation (l ++ first) middle) none one)) other)
-
-pub nothing_dealt : {S : Type 0} (index : S → ℕ) (conflicts : Option ConflictLists) (found : MergedConflicts S) → conflicts ≡ None
-    → conflicts_of index found ≡ [] → IsPermutation (conflicts_in (lists_in conflicts)) (conflicts_of index found)
-nothing_dealt index conflicts found none empty =
-    subst (λ o. IsPermutation (conflicts_in (lists_in o)) (conflicts_of index found)) (sym none)
-    (subst (IsPermutation []) (sym empty) (IsPermutation-refl []))
 
 -- a clause on success, by another one
 pub OnOk-then : {T E : Type 0} (r : Result T E) (P Q : Type 0) → (P → Q) → OnOk r P → OnOk r Q

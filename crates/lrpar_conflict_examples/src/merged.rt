@@ -1,5 +1,5 @@
 //! Counterexamples of the conflicts of a table with merged item sets.
-ghost use Rattle.std.specs.Prelude.{◌≡◌, ◌++◌, ◌∷◌, [], Contains, IfErr, IfOk, IfSome, IsPermutation, OnOk, map};
+ghost use Rattle.std.specs.Prelude.{◌≡◌, ◌++◌, ◌∷◌, [], Contains, IfOk, IfSome, IsPermutation, OnOk, map};
 ghost use Rattle.lrpar_table_rows.specs.PlainConflicts.{reduce_reduce_of, shift_reduce_of};
 ghost use Rattle.lrpar_table_build.specs.BuilderLaws.{lists_in};
 ghost use Rattle.lrpar_conflict_examples.specs.Conflicts.{conflicts_in, of_reductions, of_shift};
@@ -235,8 +235,8 @@ impl<StorageT: StorageIndex> Canonical<StorageT> {
         let (token, prod, state) = *conflict;
         for own in conflicts.sr_conflicts() {
             let (its_token, its_prod, its_state) = *own;
-            if usize::from(its_token) == usize::from(token)
-                && usize::from(its_prod) == usize::from(prod)
+            if usize::from(its_prod) == usize::from(prod)
+                && usize::from(its_token) == usize::from(token)
                 && self.is_within(its_state, state)
             {
                 return Some(*own);

@@ -126,11 +126,7 @@ impl<StorageT: StorageIndex> Pairs<StorageT> {
     }
 
     // Adds a pair, unless it is there.
-    fn add(
-        &mut self,
-        state: StIdx<StorageT>,
-        other: StIdx<StorageT>,
-    ) -> Result<(), AllocError> {
+    fn add(&mut self, state: StIdx<StorageT>, other: StIdx<StorageT>) -> Result<(), AllocError> {
         let number = usize::from(state);
         if number >= self.rows.len() || holds(&self.rows[number], other) {
             return Ok(());
