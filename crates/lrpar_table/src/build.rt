@@ -98,13 +98,14 @@ pub fn merged_parser_data<StorageT: StorageIndex>(
     ensures refused { IfErr result (IsUnmerged grm max_states cap) }
 {
     let precedences = Precedences::none(alloc);
-    match from_yacc_by(alloc, &grm, &precedences, Minimiser::Pager, max_states) {
-        Err(fault) => Err(Unbuilt::Table(fault, grm)),
-        Ok((sgraph, stable)) => match ParserData::of_safe(alloc, grm, sgraph, stable, cap) {
-            Ok(data) => Ok(data),
-            Err(refused) => Err(Unbuilt::Chains(refused)),
-        },
-    }
+    parser_data_by(
+        alloc,
+        grm,
+        &precedences,
+        Minimiser::Pager,
+        max_states,
+        cap,
+    )
 }
 
 /// The checked table of the grammar by precedences and a minimiser, as `from_yacc_by` builds it.

@@ -1,16 +1,19 @@
-use Rattle.lrpar_table.proofs.MergedDataLemmas.{merged_alone, merged_data}
+use Rattle.std.proofs.lemmas.Result.{IfErr-weaker, IfOk-weaker}
+use Rattle.lrpar_table_merge.specs.declared.build.Minimiser.TheVariants.{Pager}
+use Rattle.lrpar_table.specs.MergedParserData.{IsMergedParserData, IsMinimisedData, IsUnmerged, IsUnminimised}
+use Rattle.lrpar_table.proofs.MergedDataLemmas.{merged_data, unmerged}
 use Rattle.lrpar_table.proofs.build.merged_parser_data.Goals as goal
 
-pub returns-in-Ok-of_safe-clause-built : goal.returns-in-Ok-of_safe-clause-built
-returns-in-Ok-of_safe-clause-built g c =
-    merged_data _ _ _ _ _ _ _ c.none-precedences.ensures c.in-Ok.ensures.built c.in-Ok.ensures.room c.in-Ok-of_safe.ensures.made c.in-Ok-of_safe.ensures.checked
+pub returns-clause-built : goal.returns-clause-built
+returns-clause-built g c =
+    let lists = c.none-precedences.result in
+    IfOk-weaker c.parser_data_by.result (IsMinimisedData Pager c.args.grm lists c.args.max_states c.args.cap)
+    (IsMergedParserData c.args.grm c.args.max_states c.args.cap)
+    (λ d. merged_data c.args.grm lists c.args.max_states c.args.cap d c.none-precedences.ensures) c.parser_data_by.ensures.built
 
-pub returns-in-Err-of_safe-clause-refused : goal.returns-in-Err-of_safe-clause-refused
-returns-in-Err-of_safe-clause-refused g c =
-    let back = c.in-Err-of_safe.ensures.back in
-    record {
-      grammar = back.0;
-      merged = rw (back.1, back.2) (merged_alone _ _ _ _ c.none-precedences.ensures c.in-Ok.ensures.built);
-      room = rw back.1 c.in-Ok.ensures.room;
-      fault = rw back.2 c.in-Err-of_safe.ensures.fault;
-    }
+pub returns-clause-refused : goal.returns-clause-refused
+returns-clause-refused g c =
+    let lists = c.none-precedences.result in
+    IfErr-weaker c.parser_data_by.result (IsUnminimised Pager g.StorageT.StorageIndex.limit c.args.grm lists c.args.max_states c.args.cap)
+    (IsUnmerged c.args.grm c.args.max_states c.args.cap)
+    (λ u. unmerged c.args.grm lists g.StorageT.StorageIndex.limit c.args.max_states c.args.cap u c.none-precedences.ensures) c.parser_data_by.ensures.refused
