@@ -4,6 +4,7 @@ from checks import check
 from completed import completed
 from ends import ends
 from leaves import leaves, repairs
+from merged import merged
 from places import places
 from precedences import precedences
 from sentences import sentences
@@ -18,7 +19,7 @@ def same(case):
 # By name, in the order of README.md.
 PROPERTIES = {
     "ends": ends, "same": same, "leaves": leaves, "repairs": repairs, "places": places, "check": check, "sentences": sentences,
-    "completed": completed, "precedences": precedences,
+    "completed": completed, "precedences": precedences, "merged": merged,
 }
 # Which property a case has, by its number.
-PLAN = ("ends", "leaves", "repairs", "places", "check", "sentences", "ends", "repairs", "places", "sentences", "same", "ends", "completed", "precedences")
+PLAN = ("ends", "leaves", "repairs", "places", "check", "sentences", "ends", "repairs", "places", "sentences", "same", "ends", "completed", "precedences", "merged")
