@@ -98,14 +98,7 @@ pub fn merged_parser_data<StorageT: StorageIndex>(
     ensures refused { IfErr result (IsUnmerged grm max_states cap) }
 {
     let precedences = Precedences::none(alloc);
-    parser_data_by(
-        alloc,
-        grm,
-        &precedences,
-        Minimiser::Pager,
-        max_states,
-        cap,
-    )
+    parser_data_by(alloc, grm, &precedences, Minimiser::Pager, max_states, cap)
 }
 
 /// The checked table of the grammar by precedences and a minimiser, as `from_yacc_by` builds it.

@@ -84,7 +84,15 @@ fn push_notes(
     }
     for conflict in found.merged.iter().take(MOST) {
         let why = ", with --minimise canonical there is none";
-        push_note(out, alloc, reporter, grm, conflict, "merging alone makes", why)?;
+        push_note(
+            out,
+            alloc,
+            reporter,
+            grm,
+            conflict,
+            "merging alone makes",
+            why,
+        )?;
     }
     Ok(())
 }

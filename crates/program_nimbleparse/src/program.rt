@@ -292,7 +292,13 @@ fn warnings(
     push_token_warnings(&mut text, alloc, &reporter, table.data.grm(), rules)?;
     push_sizes(&mut text, alloc, &reporter, table)?;
     if work.options.is_verbose {
-        push_table(&mut text, alloc, &reporter, &table.data, work.options.minimiser)?;
+        push_table(
+            &mut text,
+            alloc,
+            &reporter,
+            &table.data,
+            work.options.minimiser,
+        )?;
     }
     Ok(text)
 }

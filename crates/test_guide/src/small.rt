@@ -71,9 +71,15 @@ fn merged_states(rt: HostRuntime) -> Result<(), Fail> {
     // 'a' 'c' 'e', whose tokens are numbered as they come: 'a' 'd' 'b' 'e' 'c' 'x'.
     let lexemes = [(0, 1), (4, 1), (3, 1)];
     let lexer = lexer_of(&lexemes);
-    assert_eq!(rt; expected_at_error(alloc, &canonical, &lexer)?.as_str(), "d\nx\n");
+    assert_eq!(rt;
+        expected_at_error(alloc, &canonical, &lexer)?.as_str(),
+        "d\nx\n"
+    );
     assert_eq!(rt; expected_at_error(alloc, &merged, &lexer)?.as_str(), "d\n");
-    assert_eq!(rt; expected_there(alloc, &canonical, &lexer)?.as_str(), "d\nx\n");
+    assert_eq!(rt;
+        expected_there(alloc, &canonical, &lexer)?.as_str(),
+        "d\nx\n"
+    );
     assert_eq!(rt; expected_there(alloc, &merged, &lexer)?.as_str(), "d\nx\n");
     Ok(())
 }
