@@ -1,4 +1,4 @@
-"""Counts the instructions of commands of `lrpar`, and of the lexer alone, and how much memory they take.
+"""Counts the instructions of commands of `lrpar`, of the lexer alone and of the builders, and how much memory commands take.
 
     commands.py [--before PROGRAM] [--before-parts BENCH] [--lexemes N] PROGRAM PARTS TOOLS
 
@@ -18,6 +18,10 @@ from measure import instructions_of, row
 MILLION = 1e6
 # What `check` is run on: a grammar, and a cap that no chain of it exceeds, or that C99 can't have.
 CHECKED = (("json", 100), ("ansic", 100), ("lua", 100), ("c99", 1000))
+# What tables are built of.
+BUILT = ("json", "ansic", "lua", "c99")
+# Calls of the builders and of the check, each with canonical states and with merged ones.
+BUILDERS = (("build", "merge"), ("check_built", "check_merged"))
 # What `tree` and the lexer are run on: a kind of input, and its grammar.
 PARSED = (("json", "json"), ("c", "ansic"))
 SEED = 1
@@ -76,6 +80,13 @@ def main():
         for kind, name in PARSED:
             files = at(name, "y"), at(name, "lex"), paths[kind]
             row("lex", kind, *(it and part(instructions_of([it, "lex"], files)) for it in (words.parts, words.before_parts)))
+    print("\nBuilders: million instructions, and states and entries of the tables, each canonical and merged")
+    row("call", "grammar", "canonical", "merged", "states", "merged", "entries", "merged")
+    for name in BUILT:
+        sizes = subprocess.run([words.parts, "sizes", "1", at(name, "y")], capture_output=True, text=True).stdout.split()
+        for calls in BUILDERS:
+            counts = (part(instructions_of([words.parts, call], [at(name, "y")])) for call in calls)
+            row(calls[0], name, *counts, *(sizes[place] for place in (0, 2, 1, 3)))
 
 
 if __name__ == "__main__":
