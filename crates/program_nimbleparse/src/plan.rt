@@ -37,6 +37,8 @@ pub enum Recovery {
 #[derive(Clone, Copy)]
 pub struct Plan<'a> {
     pub data: &'a ParserData<u32>,
+    /// Whether the states of its table are merged.
+    pub has_merged_states: bool,
     pub rules: &'a LexerRules,
     pub recovery: Recovery,
     pub format: Format,

@@ -200,6 +200,7 @@ impl<'a> Work<'a> {
     fn plan(self, data: &'a ParserData<u32>, rules: &'a LexerRules) -> Plan<'a> {
         Plan {
             data,
+            has_merged_states: self.options.minimiser == Minimiser::Pager,
             rules,
             recovery: self.options.recovery,
             format: self.options.format,
