@@ -53,10 +53,8 @@ def merged(case):
 
 
 def a_grammar(chance):
-    """any grammar, or one with many states that have the same cores; tokens are printed by their names"""
-    grammar = twin_grammar(chance) if chance.random() < 0.4 else any_grammar(chance, KINDS)
-    grammar.printed.clear()
-    return grammar
+    """any grammar, or one with many states that have the same cores"""
+    return twin_grammar(chance) if chance.random() < 0.4 else any_grammar(chance, KINDS)
 
 
 KINDS = random_grammar, random_grammar, leading_grammar, ladder_grammar, layered_grammar
