@@ -5,7 +5,7 @@ from typing import NamedTuple
 
 from case import expect
 from completed import REFUSED
-from grammars import any_grammar, finished, heights, ladder_grammar, layered_grammar, leading_grammar, random_grammar, rule, token
+from grammars import any_grammar, finished, ladder_grammar, layered_grammar, leading_grammar, random_grammar, rule, token
 from texts import any_tokens, language_of, text_by
 
 # How many texts a run has.
@@ -20,7 +20,7 @@ ERROR = re.compile(r"(?m)^(text\d+:\d+:\d+): error: (.+)$")
 class Seen(NamedTuple):
     """What a run says: the number of states, whether there are conflicts, those between a shift and a reduction as pairs of a place and
     a token, the tokens of those between reductions, the tokens of conflicts that merging alone makes, whether these are all, the errors
-    with their places and expected tokens, and the trees."""
+    with their places and messages, and the trees."""
 
     states: int
     has_conflicts: bool
@@ -33,7 +33,7 @@ class Seen(NamedTuple):
 
 
 def merged(case):
-    """the same language, and no more states; fewer expected tokens at most"""
+    """the same language, and no more states"""
     chance = case.chance
     language = language_of(chance, a_grammar(chance))
     case.language(language)
@@ -44,7 +44,7 @@ def merged(case):
         return
     if not canonical.has_conflicts:
         expect(pager is not None, "a table with merged states", pager)
-        see_same(language.grammar, canonical, pager)
+        see_same(canonical, pager)
         see_completed(case, paths)
     elif pager is not None:
         see_conflicts(canonical, pager)
@@ -53,10 +53,8 @@ def merged(case):
 
 
 def a_grammar(chance):
-    """any grammar, or one with many states that have the same cores; tokens are printed by their names"""
-    grammar = twin_grammar(chance) if chance.random() < 0.4 else any_grammar(chance, KINDS)
-    grammar.printed.clear()
-    return grammar
+    """any grammar, or one with many states that have the same cores"""
+    return twin_grammar(chance) if chance.random() < 0.4 else any_grammar(chance, KINDS)
 
 
 KINDS = random_grammar, random_grammar, leading_grammar, ladder_grammar, layered_grammar
@@ -101,32 +99,17 @@ def seen(case, minimiser, paths):
         reductions={name for _, name, text in found if text.endswith("can be reduced")},
         alone=set(MERGED_ALONE.findall(err)),
         is_whole=UNSHOWN.search(err) is None,
-        errors=[(place, expected_tokens(text)) for place, text in ERROR.findall(err)],
+        errors=[(place, text) for place, text in ERROR.findall(err)],
         trees=answer.out,
     )
 
 
-def expected_tokens(text):
-    """the tokens that a message lists as expected, or none if it has only the first of them"""
-    _, _, listed = text.rpartition(", expected ")
-    if re.search(r" or \d+ more$", listed):
-        return None
-    return re.findall(r"'[^']+'|end of input", listed)
-
-
-def see_same(grammar, canonical, pager):
-    """sees that merging makes no conflict where there was none, and that the language is the same. An error is found at the same lexeme.
-    After reductions for which it is no lookahead, some tokens aren't expected any more."""
+def see_same(canonical, pager):
+    """sees that merging makes no conflict where there was none, and that the language is the same: the same trees, and the same messages
+    of errors at the same places"""
     expect(not pager.has_conflicts, "no conflict by merging", pager)
     expect(pager.trees == canonical.trees, canonical.trees, pager.trees)
-    places, merged_places = ([place for place, _ in found.errors] for found in (canonical, pager))
-    expect(merged_places == places, places, merged_places)
-    least = heights(grammar)
-    is_productive = all(name in least for name in grammar.rule_names())
-    for (_, expected), (place, came) in zip(canonical.errors, pager.errors):
-        if expected is not None:
-            expect(came is not None and [name for name in expected if name in came] == came, f"some of {expected} at {place}", came)
-            expect(came or not expected or not is_productive, f"one of {expected} at {place}", came)
+    expect(pager.errors == canonical.errors, canonical.errors, pager.errors)
 
 
 def see_conflicts(canonical, pager):

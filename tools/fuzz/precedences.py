@@ -6,6 +6,7 @@ from canonical import Canonical, Table, decided
 from case import expect
 from erased import File
 from grammars import any_grammar, is_name, quoted, rule, token
+from pager import Merged
 from texts import changed, sentence
 
 # How many files there are in a case, and the most item sets of a table.
@@ -132,26 +133,34 @@ def precedences_of(file, prods):
 def add_table(chance, rows, number, text, is_original, file, grammar):
     """what has to come of the table of the file's grammar by its precedences, and of a parse"""
     prods = [(name, symbols) for name, alternatives in grammar.rules for symbols in alternatives]
-    canonical = Canonical(prods, grammar.start_rule(), MOST)
-    if not canonical.is_whole:
+    tokens = grammar.tokens()
+    minimiser, sets = item_sets(chance, prods, grammar.start_rule(), grammar.rule_names(), tokens)
+    if not sets.is_whole:
         return
-    table = Table(canonical, *precedences_of(file, prods))
+    table = Table(sets, *precedences_of(file, prods))
     if not table.is_accept_alone:
         return
-    tokens = grammar.tokens()
     tried = [chance.choice(tokens) for _ in range(chance.randrange(6))] if tokens else []
     if tokens and chance.random() < 0.7:
         tried = sentence(chance, grammar)
         if chance.random() < 0.3:
             tried, _ = changed(chance, tried, tokens)
     parsed = table.parse([token(name) for name in tried])
-    rows.add("precedence", number, *table_lines(text, is_original, tokens, tried, parsed), *table_came(table, tokens, tried, parsed))
+    given = table_lines(text, is_original, minimiser, tokens, tried, parsed)
+    rows.add("precedence", number, *given, *table_came(table, tokens, tried, parsed))
 
 
-def table_lines(text, is_original, tokens, tried, parsed):
+def item_sets(chance, prods, start, rules, tokens):
+    """canonical or merged item sets, after the line that asks for them"""
+    if chance.random() < 0.5:
+        return "minimiser canonical", Canonical(prods, start, MOST)
+    return "minimiser pager", Merged(prods, start, MOST, [*map(rule, rules), *map(token, tokens)])
+
+
+def table_lines(text, is_original, minimiser, tokens, tried, parsed):
     """what is done with a table; without a parse, if that takes too long here"""
     lexemes = "lexemes " + " ".join(f"#{tokens.index(name)}" for name in tried)
-    lines = [f"text {escaped(text)}", "kind original" if is_original else None, "cap 65535", "show pairs", "hide states"]
+    lines = [f"text {escaped(text)}", "kind original" if is_original else None, minimiser, "cap 65535", "show pairs", "hide states"]
     return lines if parsed is None else [*lines, lexemes]
 
 
@@ -221,9 +230,10 @@ def add_expression(chance, rows, number):
     parsed = Climbing(tokens, precedence, level_of).parsed()
     prods = [("E", symbols_of(form, sign)) for form, sign in forms] + [("E", [token("("), rule("E"), token(")")]), ("E", [token("n")])]
     precedences_of_prods = [*precedence.values(), level_of.get(")"), level_of.get("n"), None]
-    table = Table(Canonical(prods, "E", MOST), lambda symbol: level_of.get(symbol.name), lambda prod: precedences_of_prods[prod])
+    minimiser, sets = item_sets(chance, prods, "E", ["E"], names)
+    table = Table(sets, lambda symbol: level_of.get(symbol.name), lambda prod: precedences_of_prods[prod])
     expect(table.parse(list(map(token, tokens))) == parsed, parsed, text)
-    rows.add("precedence", number, *table_lines(text, True, names, tokens, parsed), *table_came(table, names, tokens, parsed))
+    rows.add("precedence", number, *table_lines(text, True, minimiser, names, tokens, parsed), *table_came(table, names, tokens, parsed))
 
 
 def any_forms(chance, signs):
