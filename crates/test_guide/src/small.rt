@@ -1,7 +1,8 @@
 //! A table with merged item sets, and where it differs from the canonical one.
-use lrpar::build::{Unbuilt, merged_parser_data};
+use lrpar::build::{BuildFault, Minimiser, Unbuilt, from_yacc_by, merged_parser_data};
 use lrpar::grammar::{GrammarFault, YaccGrammar};
 use lrpar::parser::ParseFault;
+use lrpar::precedences::Precedences;
 use lrpar::{LexParseError, ParserData, RTParserBuilder};
 use std::alloc::{AllocError, Global};
 use std::process::Abort;
@@ -92,5 +93,21 @@ fn states_are_fewer(
 ) -> Result<(), Fail> {
     assert_eq!(rt; canonical.stable().states_len(), 13);
     assert_eq!(rt; merged.stable().states_len(), 12);
+    Ok(())
+}
+
+// Why no table with at most this number of merged states is built, if none is.
+fn refusal(alloc: Global, text: &str, most: usize) -> Result<Option<BuildFault>, Failed> {
+    let grm = YaccGrammar::<u8>::new_with_storaget(alloc, text)?;
+    let none = Precedences::none(alloc);
+    Ok(from_yacc_by(alloc, &grm, &none, Minimiser::Pager, most).err())
+}
+
+#[test]
+fn bounds_of_merged_states(rt: HostRuntime) -> Result<(), Fail> {
+    let alloc = rt.alloc();
+    assert!(rt; refusal(alloc, LETTERS, 12)?.is_none());
+    assert!(rt; refusal(alloc, LETTERS, 11)? == Some(BuildFault::TooManyStates));
+    assert!(rt; refusal(alloc, LETTERS, 0)? == Some(BuildFault::TooManyStates));
     Ok(())
 }
