@@ -43,7 +43,7 @@ fn expected_at_error(
     let (_, errors) = RTParserBuilder::new(data).parse_generictree(alloc, lexer)?;
     if let Some(LexParseError::ParseError(error)) = errors.first() {
         for token in error.expected(data) {
-            text.push_str(data.grm().epp_of(token))?;
+            text.push_str(data.grm().epp_of(*token))?;
             text.push('\n')?;
         }
     }
