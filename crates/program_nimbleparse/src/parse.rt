@@ -12,6 +12,7 @@ use lrpar_parse_lexemes::lex_api::NonStreamingLexer;
 use lrpar_parse_repair::repair::Recoverer;
 use lrpar_parse_trees::{Form, write_graph, write_nested};
 use lrpar_report::Reporter;
+use lrpar_table::check::ParserData;
 use program_files::fault::Fault;
 use program_files::parsing::{TextError, Tree};
 use std::alloc::{AllocError, Global};
@@ -117,7 +118,7 @@ fn errors_text(
         let subject = Subject {
             grm: plan.data.grm(),
             input,
-            expected: tokens_of(plan, expected, place, error),
+            expected: tokens_of(plan.data, plan.has_merged_states, expected, place, error),
         };
         push_error(&mut text, alloc, plan.recovery, &reporter, &subject, error)?;
     }
@@ -143,16 +144,15 @@ fn expected_tokens<'input, L: NonStreamingLexer<'input, TokenTypes>>(
 // What may come at an error: at the first one these tokens, and at a later one those at which its state has an action. In a merged state
 // these needn't be those that may come, so none are named then.
 fn tokens_of<'a>(
-    plan: &Plan<'a>,
+    data: &'a ParserData<u32>,
+    has_merged_states: bool,
     first: &'a [TIdx<u32>],
     place: usize,
     error: &TextError,
 ) -> &'a [TIdx<u32>] {
     match error {
         _ if place == 0 => first,
-        LexParseError::ParseError(failure) if !plan.has_merged_states => {
-            failure.expected(plan.data)
-        }
+        LexParseError::ParseError(failure) if !has_merged_states => failure.expected(data),
         LexParseError::ParseError(_) | LexParseError::LexError(_) => &[],
     }
 }
