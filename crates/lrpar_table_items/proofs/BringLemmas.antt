@@ -1,5 +1,5 @@
 -- The rules that a list of cores brings by closure, added to sets one core after the other.
-use Rattle.std.proofs.Common.{◌≡◌, ◌<◌, ◌+◌, ◌↔◌, ◌⊎◌, ◌∙◌, sym, ap, subst, inl, inr, arith, ℕ, Bool, List, [], ◌∷◌, ◌++◌, drop, get_or, length, map, set, IsTrue}
+use Rattle.std.proofs.Common.{◌≡◌, ◌≢◌, ◌<◌, ◌+◌, ◌↔◌, ◌⊎◌, ◌∙◌, sym, ap, subst, inl, inr, arith, ℕ, Bool, List, [], ◌∷◌, ◌++◌, drop, get_or, length, map, set, IsTrue}
 use Rattle.std.proofs.lemmas.Bool.{cases_eq, false≢true}
 use Rattle.std.proofs.lemmas.List.{get_or-map, get_or-set_other, get_or-set_same, length-map}
 use Rattle.std.proofs.lemmas.List.Elements.{Contains-append_left, Contains-push, Contains-push_cases}
@@ -83,11 +83,14 @@ brings_nothing g core rows never r t = (
   ],
 )
 
-module _ (g : Grammar) (brought : List TokenSet) (target : ℕ) (low : target < rules_len g) (room : HaveRoom g (rows_of brought)) (d new : TokenSet) (core : CoreSet)
+module _ (g : Grammar) (brought : List TokenSet) (target : ℕ) (low : target < rules_len g) (room : HaveRoom g (rows_of brought)) (d new : TokenSet)
+    (at_d : d ≡ get_or brought target d) (core : CoreSet)
     (w : List GrammarSymbol) (begins : drop core.dot (symbols_of g core.prod) ≡ Nonterminal target ∷ w)
-    (came : (t : ℕ) → IsTrue (has new.bits.items t) ↔ (IsTrue (has (get_or brought target d).bits.items t) ⊎ IsFirstBefore g core.tokens w t)) where
-  at_target : (get_or brought target d).bits.items ≡ row_at (rows_of brought) target
-  at_target = let count = sets_len g brought room in row_in brought target d (omega (arith, count, low))
+    (came : (t : ℕ) → IsTrue (has new.bits.items t) ↔ (IsTrue (has d.bits.items t) ⊎ IsFirstBefore g core.tokens w t)) where
+  at_target : d.bits.items ≡ row_at (rows_of brought) target
+  at_target =
+      let count = sets_len g brought room in
+      ap (λ (s : TokenSet). s.bits.items) at_d ∙ row_in brought target d (omega (arith, count, low))
 
   now_at : row_at (set (rows_of brought) target new.bits.items) target ≡ new.bits.items
   now_at = let count = room.rules in get_or-set_same (rows_of brought) target new.bits.items [] (omega (arith, count, low))
@@ -123,3 +126,7 @@ module _ (g : Grammar) (brought : List TokenSet) (target : ℕ) (low : target < 
               subst (λ n. HasIn after n t) (same_rule target r w brings.0 alike) (subst (λ b. IsTrue (has b t)) (sym now_at) ((came t).1 (inr first)))
         ],
       )
+
+  -- the sets of other rules are as before
+  pub bring_other : (n : ℕ) → n ≢ target → row_at (rows_of (set brought target new)) n ≡ row_at (rows_of brought) n
+  bring_other n other = ap (λ rows. row_at rows n) (rows-set brought target new) ∙ get_or-set_other (rows_of brought) target n new.bits.items [] other

@@ -1,6 +1,7 @@
 pub mod BroughtLemmas
 pub mod ProdLemmas
 pub mod SpreadLemmas
+pub mod RestLemmas
 pub mod ClosureLemmas
 pub mod BringLemmas
 pub mod AmongLemmas

@@ -1,5 +1,5 @@
 -- One production brings the rule that it begins with: the lookaheads are added to the set of that rule.
-use Rattle.std.proofs.Common.{◌≡◌, ◌<◌, ◌+◌, ◌||◌, ◌&&◌, ◌↔◌, ◌⊎◌, ◌∙◌, sym, ap, subst, inl, inr, arith, ℕ, Bool, false, List, [], ◌∷◌, ◌++◌, All, length, set, get_or, drop, nat_lt, IsTrue}
+use Rattle.std.proofs.Common.{◌≡◌, ◌≢◌, ◌<◌, ◌+◌, ◌||◌, ◌&&◌, ◌↔◌, ◌⊎◌, ◌∙◌, sym, ap, subst, inl, inr, arith, ℕ, Bool, false, List, [], ◌∷◌, ◌++◌, All, length, set, get_or, drop, nat_lt, IsTrue}
 use Rattle.std.proofs.lemmas.Bool.{OnFalse_at, OnTrue_at, cases_Bool, cases_eq, cases_lt, false≢true}
 use Rattle.std.proofs.lemmas.List.{get_or-set_other, get_or-set_same, set-get_or}
 use Rattle.std.proofs.lemmas.List.Elements.{All-contains, All-get_or, All-push}
@@ -37,26 +37,30 @@ pub record IsSpreadTo (g : Grammar) (sets : List TokenSet) (p target : ℕ) (old
   pub room : HaveRoom g (rows_of (set sets target new))
   pub kept : Keeps (rows_of sets) (rows_of (set sets target new))
   pub sound : AreBroughtFrom g (rows_of sets) (rows_of (set sets target new))
-  pub grown : missing new.bits.items < missing (get_or sets target old).bits.items → total_missing (rows_of (set sets target new)) < total_missing (rows_of sets)
-  pub same : new.bits.items ≡ (get_or sets target old).bits.items → rows_of (set sets target new) ≡ rows_of sets
-  pub closed : new.bits.items ≡ (get_or sets target old).bits.items → IsSpreadAt g (rows_of (set sets target new)) p
+  pub grown : missing new.bits.items < missing old.bits.items → total_missing (rows_of (set sets target new)) < total_missing (rows_of sets)
+  pub same : new.bits.items ≡ old.bits.items → rows_of (set sets target new) ≡ rows_of sets
+  pub closed : row_at (rows_of (set sets target new)) (rule_of g p) ≡ row_at (rows_of sets) (rule_of g p) → IsSpreadAt g (rows_of (set sets target new)) p
+  pub other : (n : ℕ) → n ≢ target → row_at (rows_of (set sets target new)) n ≡ row_at (rows_of sets) n
 
 module _ (g : Grammar) (sets : List TokenSet) (p rule target dummy : ℕ) (w : List GrammarSymbol) (known : p < prods_len g) (is : rule ≡ rule_of g p)
     (rule_low : rule_of g p < rules_len g) (begins : symbols_of g p ≡ Nonterminal target ∷ w) (low : target < rules_len g) (marked : dummy ≡ dummy_lookahead g)
-    (room : HaveRoom g (rows_of sets)) (d d' new : TokenSet) (fresh cleared : List Bool) (none : (t : ℕ) → has cleared t ≡ false)
-    (came : (t : ℕ) → IsTrue (has fresh t) ↔ (IsTrue (has cleared t) ⊎ IsFirstBefore g (get_or sets rule d).bits.items w t))
-    (long : length fresh ≡ dummy_lookahead g + 1) (wide : length new.bits.items ≡ length (get_or sets target d').bits.items)
-    (put : (t : ℕ) → has new.bits.items t ≡ (has (get_or sets target d').bits.items t || (nat_lt t (dummy + 1) && has fresh t))) where
+    (room : HaveRoom g (rows_of sets)) (d d' new : TokenSet) (at_rule : d ≡ get_or sets rule d)
+    (at_target : d' ≡ get_or sets target d') (fresh cleared : List Bool) (none : (t : ℕ) → has cleared t ≡ false)
+    (came : (t : ℕ) → IsTrue (has fresh t) ↔ (IsTrue (has cleared t) ⊎ IsFirstBefore g d.bits.items w t))
+    (long : length fresh ≡ dummy_lookahead g + 1) (wide : length new.bits.items ≡ length d'.bits.items)
+    (put : (t : ℕ) → has new.bits.items t ≡ (has d'.bits.items t || (nat_lt t (dummy + 1) && has fresh t))) where
   inside : target < length (rows_of sets)
   inside = let count = room.rules in omega (arith, count, low)
 
-  old_row : (get_or sets target d').bits.items ≡ row_at (rows_of sets) target
-  old_row = let count = sets_len g sets room in row_in sets target d' (omega (arith, count, low))
+  old_row : d'.bits.items ≡ row_at (rows_of sets) target
+  old_row =
+      let count = sets_len g sets room in
+      ap (λ (s : TokenSet). s.bits.items) at_target ∙ row_in sets target d' (omega (arith, count, low))
 
-  from_row : (get_or sets rule d).bits.items ≡ row_at (rows_of sets) (rule_of g p)
+  from_row : d.bits.items ≡ row_at (rows_of sets) (rule_of g p)
   from_row =
       let count = sets_len g sets room in
-      row_in sets rule d (omega (arith, count, is, rule_low)) ∙ ap (row_at (rows_of sets)) is
+      ap (λ (s : TokenSet). s.bits.items) at_rule ∙ row_in sets rule d (omega (arith, count, is, rule_low)) ∙ ap (row_at (rows_of sets)) is
 
   new_rows : rows_of (set sets target new) ≡ set (rows_of sets) target new.bits.items
   new_rows = rows-set sets target new
@@ -107,35 +111,30 @@ module _ (g : Grammar) (sets : List TokenSet) (p rule target dummy : ℕ) (w : L
         | inr other ↦ Given r t (subst (λ b. IsTrue (has b t)) (get_or-set_other (rows_of sets) target r new.bits.items [] other) h')
       ]
 
-  spread_less : missing new.bits.items < missing (get_or sets target d').bits.items → total_missing (rows_of (set sets target new)) < total_missing (rows_of sets)
+  spread_less : missing new.bits.items < missing d'.bits.items → total_missing (rows_of (set sets target new)) < total_missing (rows_of sets)
   spread_less less =
       let less' = subst (λ b. missing new.bits.items < missing b) old_row less in
       subst (λ rows. total_missing rows < total_missing (rows_of sets)) (sym new_rows) (missing_set (rows_of sets) target new.bits.items inside less')
 
-  spread_same : new.bits.items ≡ (get_or sets target d').bits.items → rows_of (set sets target new) ≡ rows_of sets
+  spread_same : new.bits.items ≡ d'.bits.items → rows_of (set sets target new) ≡ rows_of sets
   spread_same same = new_rows ∙ ap (set (rows_of sets) target) (same ∙ old_row) ∙ set-get_or (rows_of sets) target []
 
-  spread_closed : new.bits.items ≡ (get_or sets target d').bits.items → IsSpreadAt g (rows_of (set sets target new)) p
-  spread_closed same =
-      subst (λ rows. IsSpreadAt g rows p) (sym (spread_same same)) (λ r s t v begins' has_s first.
+  spread_closed : row_at (rows_of (set sets target new)) (rule_of g p) ≡ row_at (rows_of sets) (rule_of g p) → IsSpreadAt g (rows_of (set sets target new)) p
+  spread_closed same r s t v begins' has_s first =
       let alike = sym begins ∙ begins' in
       let first' = subst (λ u. IsFirst g s u t) (sym (same_rest target r w v alike)) first in
-      let in_fresh = (fresh_is t).1 (s, has_s, first') in
+      let in_fresh = (fresh_is t).1 (s, subst (λ b. IsTrue (has b s)) same has_s, first') in
       let room_t = has_room fresh t in_fresh in
       let low_t : t < dummy + 1 = omega (arith, room_t, long, marked) in
       let now = (new_has t).1 (inr (low_t, in_fresh)) in
-      subst (λ n. HasIn (rows_of sets) n t) (same_rule target r w v alike) (subst (λ b. IsTrue (has b t)) (same ∙ old_row) now))
+      let there = subst (λ b. IsTrue (has b t)) (sym new_row) now in
+      subst (λ rows. HasIn rows r t) (sym new_rows) (subst (λ n. HasIn (set (rows_of sets) target new.bits.items) n t) (same_rule target r w v alike) there)
+
+  spread_other : (n : ℕ) → n ≢ target → row_at (rows_of (set sets target new)) n ≡ row_at (rows_of sets) n
+  spread_other n other = ap (λ rows. row_at rows n) new_rows ∙ get_or-set_other (rows_of sets) target n new.bits.items [] other
 
   pub spread_to : IsSpreadTo g sets p target d' new
-  spread_to = record { room = spread_room; kept = spread_keeps; sound = spread_sound; grown = spread_less; same = spread_same; closed = spread_closed }
-
--- if the production's rule has no lookaheads, the production brings nothing
-spread_nothing : (g : Grammar) (sets : List TokenSet) (p rule : ℕ) (d : TokenSet) → rule ≡ rule_of g p → rule_of g p < rules_len g → HaveRoom g (rows_of sets)
-    → ((t : ℕ) → IsTrue (has (get_or sets rule d).bits.items t) → ⊥) → IsSpreadAt g (rows_of sets) p
-spread_nothing g sets p rule d is low room none r s t w begins has_s first =
-    let count = sets_len g sets room in
-    let row = row_in sets rule d (omega (arith, count, is, low)) ∙ ap (row_at (rows_of sets)) is in
-    absurd (none s (subst (λ b. IsTrue (has b s)) (sym row) has_s))
+  spread_to = record { room = spread_room; kept = spread_keeps; sound = spread_sound; grown = spread_less; same = spread_same; closed = spread_closed; other = spread_other }
 
 -- one step of the closure after another
 pub brought_on : (g : Grammar) (one two three : List (List Bool)) → AreBroughtFrom g one two → AreBroughtFrom g two three → AreBroughtFrom g one three
@@ -152,38 +151,6 @@ pub exact_spread : (g : Grammar) (before after : List (List Bool)) → Keeps bef
     → ((p : ℕ) → p < prods_len g → IsSpreadAt g after p) → (r t : ℕ) → HasIn after r t ↔ IsBrought g (HasIn before) r t
 exact_spread g before after kept sound closed r t = (λ h. sound r t h, λ h. closed_brought g (HasIn before) after kept closed r t h)
 
--- a pass, with one more production: something was new, or nothing so far
-pub step_grown : (first before after : List (List Bool)) (grown : Bool) → OnTrue grown (total_missing before < total_missing first)
-    → OnFalse grown (before ≡ first) → total_missing after < total_missing before → total_missing after < total_missing first
-step_grown first before after grown less same fewer =
-    elim (cases_Bool grown) [
-      | inl held ↦ let less' = OnTrue_at held less in omega (arith, less', fewer)
-      | inr fell ↦ let same' = OnFalse_at fell same in subst (λ rows. total_missing after < total_missing rows) same' fewer
-    ]
-
--- the sets are closed at the productions of one more rule
-pub step_closed : (g : Grammar) (before after : List (List Bool)) (n : ℕ) → after ≡ before
-    → ((p : ℕ) → p < prods_len g → rule_of g p < n → IsSpreadAt g before p) → IsSpreadOf g after n
-    → (p : ℕ) → p < prods_len g → rule_of g p < n + 1 → IsSpreadAt g after p
-step_closed g before after n same closed last p known low =
-    elim (cases_lt (rule_of g p) n) [
-      | inl early ↦ subst (λ rows. IsSpreadAt g rows p) (sym same) (closed p known early)
-      | inr late ↦ last p known (omega (arith, low, late))
-    ]
-
--- the sets are closed at one more production
-pub step_listed : (g : Grammar) (before after : List (List Bool)) (prods more : List ℕ) (p : ℕ) → after ≡ before → more ≡ prods ++ p ∷ []
-    → All (IsSpreadAt g before) prods → IsSpreadAt g after p → All (IsSpreadAt g after) more
-step_listed g before after prods more p same is so_far last =
-    subst (All (IsSpreadAt g after)) (sym is)
-    (All-push (IsSpreadAt g after) prods p (subst (λ rows. All (IsSpreadAt g rows) prods) (sym same) so_far) last)
-
 -- sets that are closed at all listed productions of a rule are closed at the rule
 pub spread_of : (g : Grammar) (rows : List (List Bool)) (n : ℕ) → All (IsSpreadAt g rows) (prods_of g n) → IsSpreadOf g rows n
 spread_of g rows n all p known is = All-contains (IsSpreadAt g rows) (prods_of g n) p all (in_prods g n p known is)
-
--- a rule without lookaheads brings nothing
-pub nothing_of : (g : Grammar) (sets : List TokenSet) (n : ℕ) (d : TokenSet) → n < rules_len g → HaveRoom g (rows_of sets)
-    → ((t : ℕ) → IsTrue (has (get_or sets n d).bits.items t) → ⊥) → IsSpreadOf g (rows_of sets) n
-nothing_of g sets n d low room none p known is =
-    spread_nothing g sets p n d (sym is) (subst (λ m. m < rules_len g) (sym is) low) room none

@@ -1,7 +1,10 @@
 -- Data for building states: FIRST sets and scratch space for closures, and the kernels of all symbols.
-use Rattle.std.specs.Prelude.{◌≡◌, ◌+◌, ℕ, length, map}
+use Rattle.std.specs.Prelude.{◌≡◌, ◌<◌, ◌+◌, ℕ, Bool, false, List, length, map}
+use Rattle.std.specs.Bool.{OnFalse, OnTrue}
 use Rattle.lrpar_grammar.specs.Grammar.{Grammar, Nonterminal, Terminal, rules_len, tokens_len}
-use Rattle.lrpar_table_first.specs.FirstRows.{AreFirsts, HaveRoom, dummy_lookahead, rows_of}
+use Rattle.lrpar_grammar.specs.Tokens.{has}
+use Rattle.lrpar_table_first.specs.FirstRows.{AreFirsts, HaveRoom, dummy_lookahead, row_at, rows_of, total_missing}
+use Rattle.lrpar_table_items.specs.Brought.{AreBroughtFrom, IsSpreadOf, Keeps}
 use Rattle.lrpar_table_items.specs.Cores.{core_set}
 use Rattle.lrpar_table_items.specs.Next.{AreNext, kernel_rows}
 use Rattle.lrpar_table_items.specs.declared.sets.Sets.{Sets}
@@ -11,8 +14,32 @@ use Rattle.lrpar_table_items.specs.declared.successors.Successors.{Successors}
 pub record AreSets (g : Grammar) (sets : Sets) : Type 0 where
   pub firsts : AreFirsts g (rows_of sets.firsts.items)
   pub room : HaveRoom g (rows_of sets.brought.items)
+  pub waits : length sets.waits.items ≡ rules_len g
   pub front : length sets.front.bits.items ≡ dummy_lookahead g + 1
   pub fresh : length sets.fresh.bits.items ≡ dummy_lookahead g + 1
+
+-- the lookaheads that are brought to each rule
+abbrev pub brought_rows : Sets → List (List Bool)
+brought_rows sets = rows_of sets.brought.items
+
+-- rule n doesn't wait to pass its lookaheads on
+abbrev pub Rests : Sets → ℕ → Type 0
+Rests sets n = has sets.waits.items n ≡ false
+
+-- each rule that doesn't wait has passed its lookaheads on
+abbrev pub AreSpreadButWaiting : Grammar → Sets → Type 0
+AreSpreadButWaiting g sets = (n : ℕ) → Rests sets n → IsSpreadOf g (brought_rows sets) n
+
+-- a rule that doesn't wait afterwards didn't wait before, and has the lookaheads that it had
+abbrev pub KeepsResting : Sets → Sets → Type 0
+KeepsResting before after = (n : ℕ) → Rests after n → Rests before n × (row_at (brought_rows after) n ≡ row_at (brought_rows before) n)
+
+-- lookaheads were passed on: none is lost, and the new ones are in the closure of the old ones. The flag says whether there are new ones.
+pub record HasGrown (g : Grammar) (flag : Bool) (before after : Sets) : Type 0 where
+  pub kept : Keeps (brought_rows before) (brought_rows after)
+  pub sound : AreBroughtFrom g (brought_rows before) (brought_rows after)
+  pub grown : OnTrue flag (total_missing (brought_rows after) < total_missing (brought_rows before))
+  pub same : OnFalse flag (brought_rows after ≡ brought_rows before)
 
 -- a kernel for each rule and one for each token: those to which the cores go by these symbols
 pub record AreSuccessors {S : Type 0} (index : S → ℕ) (g : Grammar) (successors : Successors S) : Type 0 where

@@ -2,14 +2,16 @@
 ghost use Rattle.std.specs.Prelude.{◌≡◌, ◌<◌, ◌+◌, ◌↔◌, ◌⊎◌, ◌++◌, ◌∷◌, ℕ, [], All, IfOk, OnOk, length, map};
 ghost use Rattle.lrpar_grammar.specs.Grammar.{IsWellFormed, rules_len};
 ghost use Rattle.lrpar_table_rows.specs.Graph.{ItemOf};
-ghost use Rattle.lrpar_table_first.specs.FirstRows.{AreFirsts, HaveRoom, dummy_lookahead, rows_of};
+ghost use Rattle.lrpar_table_first.specs.FirstRows.{HaveRoom, dummy_lookahead, rows_of};
 ghost use Rattle.lrpar_table_items.specs.Brought.{HasIn, IsBrought};
 ghost use Rattle.lrpar_table_items.specs.Cores.{AreBringing, Brings, IsAmong, IsCoreOf, IsOfRows, IsOfRule, core_set};
 ghost use Rattle.lrpar_table_items.specs.ItemSets.{IsInClosure};
 ghost use Rattle.lrpar_table_items.specs.CoreOrder.{AreCores, IsAhead, IsKernel};
+ghost use Rattle.lrpar_table_items.specs.Working.{AreSets, KeepsResting, brought_rows};
 
 use crate::cores::CoreItems;
 use crate::reach::spread;
+use crate::sets::Sets;
 use lrpar_grammar::grammar::YaccGrammar;
 use lrpar_grammar::span::{PIdx, RIdx, StorageIndex};
 use lrpar_grammar::token_set::TokenSet;
@@ -17,33 +19,25 @@ use lrpar_table_first::after_dot::rule_after;
 use lrpar_table_first::first::{add_first_before, clear_all};
 use std::alloc::{AllocError, Global};
 
-/// The closure of the kernel's cores: the cores themselves; and each production, with its dot at the start, of each rule that the
-/// closure adds, with the rule's lookaheads. `brought`, with a set for each rule, `front` and `fresh` are scratch space.
-pub(crate) fn closure<StorageT: StorageIndex>(
+/// The closure of the kernel: its cores themselves; and each production, with its dot at the start, of each rule that the closure adds, with
+/// the rule's lookaheads.
+pub fn closed<StorageT: StorageIndex>(
     alloc: Global,
     grm: &YaccGrammar<StorageT>,
-    firsts: &[TokenSet],
-    cores: Vec<CoreItems<StorageT>>,
-    brought: &mut [TokenSet],
-    front: &mut TokenSet,
-    fresh: &mut TokenSet,
+    sets: &mut Sets,
+    kernel: Vec<CoreItems<StorageT>>,
 ) -> Result<Vec<CoreItems<StorageT>>, AllocError>
     requires well_formed { IsWellFormed grm.now }
-    requires firsts { AreFirsts grm.now (rows_of firsts.now) }
-    requires kernel { IsKernel grm.now (map (core_set StorageT.index) cores.items) }
-    requires room { HaveRoom grm.now (rows_of brought.old) }
-    requires front { length front.old.bits.items ≡ dummy_lookahead grm.now + 1 }
-    requires fresh { length fresh.old.bits.items ≡ dummy_lookahead grm.now + 1 }
-    ensures room { HaveRoom grm.now (rows_of brought.new) }
-    ensures front { length front.new.bits.items ≡ dummy_lookahead grm.now + 1 }
-    ensures fresh { length fresh.new.bits.items ≡ dummy_lookahead grm.now + 1 }
+    requires sets { AreSets grm.now sets.old }
+    requires kernel { IsKernel grm.now (map (core_set StorageT.index) kernel.items) }
+    ensures sets { AreSets grm.now sets.new }
     ensures items { IfOk result (λ closure. (x : ItemOf) → IsAmong (map (core_set StorageT.index) closure.items) x
-        ↔ IsInClosure grm.now (IsAmong (map (core_set StorageT.index) cores.items)) x) }
+        ↔ IsInClosure grm.now (IsAmong (map (core_set StorageT.index) kernel.items)) x) }
     ensures cores { IfOk result (λ closure. AreCores grm.now (map (core_set StorageT.index) closure.items)) }
 {
-    let mut closure = cores;
-    bring(grm, firsts, &closure, brought, front, fresh);
-    push_brought(alloc, grm, brought, &mut closure)?;
+    let mut closure = kernel;
+    bring(grm, &closure, sets);
+    push_brought(alloc, grm, &sets.brought, &mut closure)?;
     Ok(closure)
 }
 
@@ -116,57 +110,53 @@ fn push_core<StorageT: StorageIndex>(
     Ok(())
 }
 
-/// Sets `brought` to the lookaheads of each rule that the closure of the cores adds. `front` and `fresh` are scratch space.
-pub(crate) fn bring<StorageT: StorageIndex>(
+// Sets the lookaheads of each rule to those that the closure of the cores brings to it.
+fn bring<StorageT: StorageIndex>(
     grm: &YaccGrammar<StorageT>,
-    firsts: &[TokenSet],
     cores: &[CoreItems<StorageT>],
-    brought: &mut [TokenSet],
-    front: &mut TokenSet,
-    fresh: &mut TokenSet,
+    sets: &mut Sets,
 )
     requires well_formed { IsWellFormed grm.now }
-    requires firsts { AreFirsts grm.now (rows_of firsts.now) }
+    requires sets { AreSets grm.now sets.old }
     requires cores { All (IsCoreOf grm.now) (map (core_set StorageT.index) cores.now) }
-    requires room { HaveRoom grm.now (rows_of brought.old) }
-    requires front { length front.old.bits.items ≡ dummy_lookahead grm.now + 1 }
-    requires fresh { length fresh.old.bits.items ≡ dummy_lookahead grm.now + 1 }
-    ensures room { HaveRoom grm.now (rows_of brought.new) }
-    ensures front { length front.new.bits.items ≡ dummy_lookahead grm.now + 1 }
-    ensures fresh { length fresh.new.bits.items ≡ dummy_lookahead grm.now + 1 }
-    ensures exact { (r t : ℕ) → HasIn (rows_of brought.new) r t
+    ensures sets { AreSets grm.now sets.new }
+    ensures exact { (r t : ℕ) → HasIn (brought_rows sets.new) r t
         ↔ IsBrought grm.now (AreBringing grm.now (map (core_set StorageT.index) cores.now)) r t }
 {
-    clear_all(brought);
+    clear_all(&mut sets.brought);
     for core in cores {
-        bring_one(grm, firsts, core, brought, front);
+        bring_one(grm, core, sets);
     }
-    spread(grm, firsts, brought, front, fresh);
+    spread(grm, sets);
 }
 
-// Adds to `brought` the lookaheads of the rule after the core's dot, if a rule is there. `front` is scratch space.
+// Adds the lookaheads of the rule after the core's dot, if a rule is there. The rule waits to pass them on.
 fn bring_one<StorageT: StorageIndex>(
     grm: &YaccGrammar<StorageT>,
-    firsts: &[TokenSet],
     core: &CoreItems<StorageT>,
-    brought: &mut [TokenSet],
-    front: &mut TokenSet,
+    sets: &mut Sets,
 )
     requires well_formed { IsWellFormed grm.now }
-    requires firsts { AreFirsts grm.now (rows_of firsts.now) }
+    requires sets { AreSets grm.now sets.old }
     requires core { IsCoreOf grm.now (core_set StorageT.index core.now) }
-    requires room { HaveRoom grm.now (rows_of brought.old) }
-    requires front { length front.old.bits.items ≡ dummy_lookahead grm.now + 1 }
-    ensures room { HaveRoom grm.now (rows_of brought.new) }
-    ensures front { length front.new.bits.items ≡ dummy_lookahead grm.now + 1 }
-    ensures exact { (r t : ℕ) → HasIn (rows_of brought.new) r t
-        ↔ (HasIn (rows_of brought.old) r t ⊎ Brings grm.now (core_set StorageT.index core.now) r t) }
+    ensures sets { AreSets grm.now sets.new }
+    ensures exact { (r t : ℕ) → HasIn (brought_rows sets.new) r t
+        ↔ (HasIn (brought_rows sets.old) r t ⊎ Brings grm.now (core_set StorageT.index core.now) r t) }
+    ensures resting { KeepsResting sets.old sets.new }
 {
     match rule_after(grm, core.prod, core.dot) {
         None => {}
         Some((rule, rest)) => {
             let target = usize::from(rule);
-            add_first_before(grm, firsts, rest, &core.tokens, front, &mut brought[target]);
+            add_first_before(
+                grm,
+                &sets.firsts,
+                rest,
+                &core.tokens,
+                &mut sets.front,
+                &mut sets.brought[target],
+            );
+            sets.waits[target] = true;
         }
     }
 }

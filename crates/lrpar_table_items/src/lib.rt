@@ -1,7 +1,7 @@
 //! Closure and goto of LR(1) items, the canonical collection of item sets, and the choice between the actions of a state.
 #![tactic(auto)]
 
-mod closure;
+pub mod closure;
 pub mod complete_items;
 pub mod cores;
 pub mod fault;

@@ -1,100 +1,91 @@
 //! The rules that the closure adds for rules after the dot, with their lookaheads.
-ghost use Rattle.std.specs.Prelude.{◌≡◌, ◌<◌, ◌+◌, ◌↔◌, ℕ, length};
-ghost use Rattle.std.specs.Bool.{OnFalse, OnTrue};
-ghost use Rattle.lrpar_grammar.specs.Grammar.{IsWellFormed, prods_len, rules_len, tokens_len};
-ghost use Rattle.lrpar_table_first.specs.FirstRows.{AreFirsts, HaveRoom, dummy_lookahead, rows_of, total_missing};
-ghost use Rattle.lrpar_table_items.specs.Brought.{AreBroughtFrom, HasIn, IsBrought, IsSpreadAt, IsSpreadOf, Keeps};
+ghost use Rattle.std.specs.Prelude.{◌≡◌, ◌<◌, ◌||◌, ◌↔◌, ℕ, length, slice_set};
+ghost use Rattle.std.specs.Bool.{OnFalse};
+ghost use Rattle.lrpar_grammar.specs.Grammar.{IsWellFormed, prods_len, rule_of, rules_len};
+ghost use Rattle.lrpar_grammar.specs.Tokens.{has};
+ghost use Rattle.lrpar_table_items.specs.Brought.{HasIn, IsBrought, IsSpreadAt, IsSpreadOf};
+ghost use Rattle.lrpar_table_items.specs.Working.{AreSets, AreSpreadButWaiting, HasGrown, KeepsResting, Rests, brought_rows};
 
+use crate::sets::Sets;
 use lrpar_grammar::grammar::YaccGrammar;
 use lrpar_grammar::span::{PIdx, RIdx, StorageIndex};
-use lrpar_grammar::token_set::TokenSet;
 use lrpar_table_first::after_dot::rule_after;
 use lrpar_table_first::first::add_first_before;
 
-/// Closes the sets, which have the lookaheads of each rule: adds the lookaheads of all rules that the closure adds. `front` and
-/// `fresh` are scratch space.
-pub(crate) fn spread<StorageT: StorageIndex>(
-    grm: &YaccGrammar<StorageT>,
-    firsts: &[TokenSet],
-    sets: &mut [TokenSet],
-    front: &mut TokenSet,
-    fresh: &mut TokenSet,
-)
+/// Closes the sets, which have the lookaheads of each rule: adds the lookaheads of all rules that the closure adds. Rules that don't wait
+/// have passed on theirs.
+pub(crate) fn spread<StorageT: StorageIndex>(grm: &YaccGrammar<StorageT>, sets: &mut Sets)
     requires well_formed { IsWellFormed grm.now }
-    requires firsts { AreFirsts grm.now (rows_of firsts.now) }
-    requires room { HaveRoom grm.now (rows_of sets.old) }
-    requires front { length front.old.bits.items ≡ dummy_lookahead grm.now + 1 }
-    requires fresh { length fresh.old.bits.items ≡ dummy_lookahead grm.now + 1 }
-    ensures room { HaveRoom grm.now (rows_of sets.new) }
-    ensures front { length front.new.bits.items ≡ dummy_lookahead grm.now + 1 }
-    ensures fresh { length fresh.new.bits.items ≡ dummy_lookahead grm.now + 1 }
-    ensures exact { (r t : ℕ) → HasIn (rows_of sets.new) r t ↔ IsBrought grm.now (HasIn (rows_of sets.old)) r t }
+    requires sets { AreSets grm.now sets.old }
+    requires waiting { AreSpreadButWaiting grm.now sets.old }
+    ensures sets { AreSets grm.now sets.new }
+    ensures exact { (r t : ℕ) → HasIn (brought_rows sets.new) r t ↔ IsBrought grm.now (HasIn (brought_rows sets.old)) r t }
 {
-    'passes: while spread_all(grm, firsts, sets, front, fresh) {}
+    'passes: while spread_all(grm, sets) {}
 }
 
-// For each rule that has lookaheads, adds the rules that its productions begin with, and returns whether anything was new.
-fn spread_all<StorageT: StorageIndex>(
-    grm: &YaccGrammar<StorageT>,
-    firsts: &[TokenSet],
-    sets: &mut [TokenSet],
-    front: &mut TokenSet,
-    fresh: &mut TokenSet,
-) -> bool
+// For each rule that waits, adds the rules that its productions begin with. Returns whether anything was new; if not, no rule waits.
+fn spread_all<StorageT: StorageIndex>(grm: &YaccGrammar<StorageT>, sets: &mut Sets) -> bool
     requires well_formed { IsWellFormed grm.now }
-    requires firsts { AreFirsts grm.now (rows_of firsts.now) }
-    requires room { HaveRoom grm.now (rows_of sets.old) }
-    requires front { length front.old.bits.items ≡ dummy_lookahead grm.now + 1 }
-    requires fresh { length fresh.old.bits.items ≡ dummy_lookahead grm.now + 1 }
-    ensures room { HaveRoom grm.now (rows_of sets.new) }
-    ensures front { length front.new.bits.items ≡ dummy_lookahead grm.now + 1 }
-    ensures fresh { length fresh.new.bits.items ≡ dummy_lookahead grm.now + 1 }
-    ensures kept { Keeps (rows_of sets.old) (rows_of sets.new) }
-    ensures sound { AreBroughtFrom grm.now (rows_of sets.old) (rows_of sets.new) }
-    ensures grown { OnTrue result (total_missing (rows_of sets.new) < total_missing (rows_of sets.old)) }
-    ensures closed { OnFalse result ((p : ℕ) → p < prods_len grm.now → IsSpreadAt grm.now (rows_of sets.new) p) }
+    requires sets { AreSets grm.now sets.old }
+    requires waiting { AreSpreadButWaiting grm.now sets.old }
+    ensures sets { AreSets grm.now sets.new }
+    ensures waiting { AreSpreadButWaiting grm.now sets.new }
+    ensures growth { HasGrown grm.now result sets.old sets.new }
+    ensures rests { OnFalse result ((n : ℕ) → n < rules_len grm.now → Rests sets.new n) }
 {
     let mut grown = false;
     for rule in 0..grm.rules_len() {
         let ridx = RIdx(StorageT::from_index(rule).unwrap());
-        if spread_rule(grm, firsts, ridx, sets, front, fresh) {
+        if spread_waiting(grm, ridx, sets) {
             grown = true;
         }
     }
     grown
 }
 
-// If the rule has lookaheads, adds the rule that each of its productions begins with, and returns whether anything was new.
-fn spread_rule<StorageT: StorageIndex>(
+// If the rule waits, adds the rules that its productions begin with. Returns whether anything was new; if not, the rule doesn't wait any
+// more, and no other rule waits that didn't.
+fn spread_waiting<StorageT: StorageIndex>(
     grm: &YaccGrammar<StorageT>,
-    firsts: &[TokenSet],
     ridx: RIdx<StorageT>,
-    sets: &mut [TokenSet],
-    front: &mut TokenSet,
-    fresh: &mut TokenSet,
+    sets: &mut Sets,
 ) -> bool
     requires rule { StorageT.index ridx.0 < rules_len grm.now }
     requires well_formed { IsWellFormed grm.now }
-    requires firsts { AreFirsts grm.now (rows_of firsts.now) }
-    requires room { HaveRoom grm.now (rows_of sets.old) }
-    requires front { length front.old.bits.items ≡ dummy_lookahead grm.now + 1 }
-    requires fresh { length fresh.old.bits.items ≡ dummy_lookahead grm.now + 1 }
-    ensures room { HaveRoom grm.now (rows_of sets.new) }
-    ensures front { length front.new.bits.items ≡ dummy_lookahead grm.now + 1 }
-    ensures fresh { length fresh.new.bits.items ≡ dummy_lookahead grm.now + 1 }
-    ensures kept { Keeps (rows_of sets.old) (rows_of sets.new) }
-    ensures sound { AreBroughtFrom grm.now (rows_of sets.old) (rows_of sets.new) }
-    ensures grown { OnTrue result (total_missing (rows_of sets.new) < total_missing (rows_of sets.old)) }
-    ensures same { OnFalse result (rows_of sets.new ≡ rows_of sets.old) }
-    ensures closed { OnFalse result (IsSpreadOf grm.now (rows_of sets.new) (StorageT.index ridx.0)) }
+    requires sets { AreSets grm.now sets.old }
+    requires waiting { AreSpreadButWaiting grm.now sets.old }
+    ensures sets { AreSets grm.now sets.new }
+    ensures waiting { AreSpreadButWaiting grm.now sets.new }
+    ensures growth { HasGrown grm.now result sets.old sets.new }
+    ensures rests { OnFalse result (Rests sets.new (StorageT.index ridx.0) × ((n : ℕ) → Rests sets.old n → Rests sets.new n)) }
 {
     let rule = usize::from(ridx);
-    if !sets[rule].has_any() {
+    if !sets.waits[rule] {
         return false;
     }
+    sets.waits[rule] = false;
+    spread_rule(grm, ridx, sets)
+}
+
+// Adds the rules that the productions of the rule begin with. Returns whether anything was new. A rule with new lookaheads waits.
+fn spread_rule<StorageT: StorageIndex>(
+    grm: &YaccGrammar<StorageT>,
+    ridx: RIdx<StorageT>,
+    sets: &mut Sets,
+) -> bool
+    requires well_formed { IsWellFormed grm.now }
+    requires sets { AreSets grm.now sets.old }
+    requires rule { StorageT.index ridx.0 < rules_len grm.now }
+    ensures sets { AreSets grm.now sets.new }
+    ensures growth { HasGrown grm.now result sets.old sets.new }
+    ensures resting { KeepsResting sets.old sets.new }
+    ensures waits { OnFalse result (sets.new.waits.items ≡ sets.old.waits.items) }
+    ensures closed { Rests sets.new (StorageT.index ridx.0) → IsSpreadOf grm.now (brought_rows sets.new) (StorageT.index ridx.0) }
+{
     let mut grown = false;
     for pidx in grm.rule_to_prods(ridx) {
-        if spread_from(grm, firsts, *pidx, sets, front, fresh) {
+        if spread_from(grm, *pidx, sets) {
             grown = true;
         }
     }
@@ -102,38 +93,48 @@ fn spread_rule<StorageT: StorageIndex>(
 }
 
 // Adds the rule that the production begins with, with the lookaheads First(w, t): w are the symbols after it in the production, and
-// t is a lookahead of the production's rule. Returns whether anything was new.
+// t is a lookahead of the production's rule. Returns whether anything was new. A rule with new lookaheads waits.
 fn spread_from<StorageT: StorageIndex>(
     grm: &YaccGrammar<StorageT>,
-    firsts: &[TokenSet],
     pidx: PIdx<StorageT>,
-    sets: &mut [TokenSet],
-    front: &mut TokenSet,
-    fresh: &mut TokenSet,
+    sets: &mut Sets,
 ) -> bool
-    requires prod { StorageT.index pidx.0 < prods_len grm.now }
     requires well_formed { IsWellFormed grm.now }
-    requires firsts { AreFirsts grm.now (rows_of firsts.now) }
-    requires room { HaveRoom grm.now (rows_of sets.old) }
-    requires front { length front.old.bits.items ≡ dummy_lookahead grm.now + 1 }
-    requires fresh { length fresh.old.bits.items ≡ dummy_lookahead grm.now + 1 }
-    ensures room { HaveRoom grm.now (rows_of sets.new) }
-    ensures front { length front.new.bits.items ≡ dummy_lookahead grm.now + 1 }
-    ensures fresh { length fresh.new.bits.items ≡ dummy_lookahead grm.now + 1 }
-    ensures kept { Keeps (rows_of sets.old) (rows_of sets.new) }
-    ensures sound { AreBroughtFrom grm.now (rows_of sets.old) (rows_of sets.new) }
-    ensures grown { OnTrue result (total_missing (rows_of sets.new) < total_missing (rows_of sets.old)) }
-    ensures same { OnFalse result (rows_of sets.new ≡ rows_of sets.old) }
-    ensures closed { OnFalse result (IsSpreadAt grm.now (rows_of sets.new) (StorageT.index pidx.0)) }
+    requires sets { AreSets grm.now sets.old }
+    requires prod { StorageT.index pidx.0 < prods_len grm.now }
+    ensures sets { AreSets grm.now sets.new }
+    ensures growth { HasGrown grm.now result sets.old sets.new }
+    ensures resting { KeepsResting sets.old sets.new }
+    ensures waits { OnFalse result (sets.new.waits.items ≡ sets.old.waits.items) }
+    ensures closed { Rests sets.new (rule_of grm.now (StorageT.index pidx.0)) → IsSpreadAt grm.now (brought_rows sets.new) (StorageT.index pidx.0) }
 {
     match rule_after(grm, pidx, 0) {
         None => false,
         Some((brought, rest)) => {
             let rule = usize::from(grm.prod_to_rule(pidx));
-            fresh.clear();
-            add_first_before(grm, firsts, rest, &sets[rule], front, fresh);
+            sets.fresh.clear();
+            add_first_before(
+                grm,
+                &sets.firsts,
+                rest,
+                &sets.brought[rule],
+                &mut sets.front,
+                &mut sets.fresh,
+            );
             let target = usize::from(brought);
-            sets[target].unite_below(fresh, grm.tokens_len() + 1)
+            let grown = sets.brought[target].unite_below(&sets.fresh, grm.tokens_len() + 1);
+            mark(&mut sets.waits, target, grown);
+            grown
         }
+    }
+}
+
+// Marks the rule as one that waits, if its lookaheads have grown.
+fn mark(waits: &mut Vec<bool>, rule: usize, grown: bool)
+    requires { rule < length waits.old.items }
+    ensures { waits.new.items ≡ slice_set waits.old.items rule (has waits.old.items rule || grown) }
+{
+    if grown {
+        waits[rule] = true;
     }
 }

@@ -1,24 +1,19 @@
 //! FIRST sets and scratch space, for closures.
-ghost use Rattle.std.specs.Prelude.{◌↔◌, IfOk, map};
-ghost use Rattle.lrpar_grammar.specs.Grammar.{IsWellFormed};
-ghost use Rattle.lrpar_table_rows.specs.Graph.{ItemOf};
-ghost use Rattle.lrpar_table_items.specs.CoreOrder.{AreCores, IsKernel};
-ghost use Rattle.lrpar_table_items.specs.Cores.{IsAmong, core_set};
-ghost use Rattle.lrpar_table_items.specs.ItemSets.{IsInClosure};
+ghost use Rattle.std.specs.Prelude.{IfOk};
 ghost use Rattle.lrpar_table_items.specs.Working.{AreSets};
 
-use crate::closure::closure;
-use crate::cores::CoreItems;
 use lrpar_grammar::grammar::YaccGrammar;
 use lrpar_grammar::span::StorageIndex;
 use lrpar_grammar::token_set::TokenSet;
 use lrpar_table_first::first::{empty_sets, first_sets};
 use std::alloc::{AllocError, Global};
 
-/// The FIRST sets of the rules, and scratch space for closures.
+/// The FIRST sets of the rules, and scratch space for closures: the lookaheads that a closure brings to each rule, whether the rule waits to
+/// pass them on, and two sets of tokens.
 pub struct Sets {
     pub firsts: Vec<TokenSet>,
     pub brought: Vec<TokenSet>,
+    pub waits: Vec<bool>,
     pub front: TokenSet,
     pub fresh: TokenSet,
 }
@@ -29,11 +24,13 @@ impl Drop for Sets {
         let Sets {
             firsts,
             brought,
+            waits,
             front,
             fresh,
         } = self;
         drop(firsts);
         drop(brought);
+        drop(waits);
         drop(front);
         drop(fresh);
     }
@@ -49,39 +46,15 @@ impl Sets {
     {
         let firsts = first_sets(alloc, grm)?;
         let brought = empty_sets(alloc, grm)?;
+        let waits = vec![in alloc; false; grm.rules_len()]?;
         let front = TokenSet::new(alloc, grm.tokens_len() + 1)?;
         let fresh = TokenSet::new(alloc, grm.tokens_len() + 1)?;
         Ok(Sets {
             firsts,
             brought,
+            waits,
             front,
             fresh,
         })
     }
-}
-
-/// The closure of the kernel.
-pub fn closed<StorageT: StorageIndex>(
-    alloc: Global,
-    grm: &YaccGrammar<StorageT>,
-    sets: &mut Sets,
-    kernel: Vec<CoreItems<StorageT>>,
-) -> Result<Vec<CoreItems<StorageT>>, AllocError>
-    requires well_formed { IsWellFormed grm.now }
-    requires sets { AreSets grm.now sets.old }
-    requires kernel { IsKernel grm.now (map (core_set StorageT.index) kernel.items) }
-    ensures sets { AreSets grm.now sets.new }
-    ensures items { IfOk result (λ closure. (x : ItemOf) → IsAmong (map (core_set StorageT.index) closure.items) x
-        ↔ IsInClosure grm.now (IsAmong (map (core_set StorageT.index) kernel.items)) x) }
-    ensures cores { IfOk result (λ closure. AreCores grm.now (map (core_set StorageT.index) closure.items)) }
-{
-    closure(
-        alloc,
-        grm,
-        &sets.firsts,
-        kernel,
-        &mut sets.brought,
-        &mut sets.front,
-        &mut sets.fresh,
-    )
 }

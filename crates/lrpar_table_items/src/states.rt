@@ -15,12 +15,13 @@ ghost use Rattle.lrpar_table_items.specs.Resolution.{shift_entry};
 ghost use Rattle.lrpar_table_items.specs.States.{AreKernelsBy, AreStates, AreSteps, IsExpanded, StartsRight, state_of, step_entry};
 ghost use Rattle.lrpar_table_items.specs.Working.{AreSets, AreSuccessors};
 
+use crate::closure::closed;
 use crate::cores::CoreItems;
 use crate::fault::BuildFault;
 use crate::item_set::State;
 use crate::kernels::Kernels;
 use crate::numbers::number;
-use crate::sets::{Sets, closed};
+use crate::sets::Sets;
 use crate::successors::Successors;
 use lrpar_grammar::grammar::YaccGrammar;
 use lrpar_grammar::span::{Numbered, RIdx, StIdx, StorageIndex, TIdx};

@@ -21,9 +21,10 @@ use crate::compatible::have_same_cores;
 use crate::held::{HeldFault, Transitions};
 use lrpar_grammar::grammar::YaccGrammar;
 use lrpar_grammar::span::{Numbered, RIdx, StIdx, StorageIndex, TIdx};
+use lrpar_table_items::closure::closed;
 use lrpar_table_items::cores::{CoreItems, copied};
 use lrpar_table_items::item_set::State;
-use lrpar_table_items::sets::{Sets, closed};
+use lrpar_table_items::sets::Sets;
 use lrpar_table_items::successors::Successors;
 use std::alloc::Global;
 
