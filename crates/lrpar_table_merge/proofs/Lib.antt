@@ -1,3 +1,4 @@
+pub mod ExpansionLemmas
 pub mod SameCoreLemmas
 pub mod PairLemmas
 pub mod UniteLemmas

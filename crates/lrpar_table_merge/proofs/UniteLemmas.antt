@@ -1,6 +1,7 @@
 -- The union of two kernels, core by core.
 use Rattle.std.proofs.Common.{◌≡◌, ◌<◌, ◌≤◌, ◌+◌, ◌||◌, ◌∙◌, refl, sym, ap, subst, inl, inr, arith, ℕ, Bool, true, false, List, [], get_or, length, map, set}
-use Rattle.std.proofs.lemmas.Bool.{cases_eq, cases_lt}
+use Rattle.std.specs.Bool.{OnFalse, OnTrue}
+use Rattle.std.proofs.lemmas.Bool.{OnFalse_at, OnTrue_at, cases_Bool, cases_eq, cases_lt}
 use Rattle.std.proofs.lemmas.List.{get_or-map, get_or-set_other, get_or-set_same, get_or_past, length-map, map-set, set-get_or}
 use Rattle.lrpar_grammar.specs.Tokens.{has, missing}
 use Rattle.lrpar_table_first.specs.FirstRows.{total_missing}
@@ -16,6 +17,15 @@ use Rattle.lrpar_table_merge.proofs.SameCoreLemmas.{lookaheads_of, map_twice}
 pub map_set_same : {X Y : Type 0} (f : X → Y) (xs : List X) (i : ℕ) (y d : X) → i < length xs → f y ≡ f (get_or xs i d) → map f (set xs i y) ≡ map f xs
 map_set_same f xs i y d low same =
     map-set f xs i y ∙ ap (set (map f xs) i) (same ∙ sym (get_or-map f xs i d (f d) low)) ∙ set-get_or (map f xs) i (f d)
+
+-- after one more core: something was new, or nothing so far
+pub step_grown : (first before after : List (List Bool)) (grown : Bool) → OnTrue grown (total_missing before < total_missing first)
+    → OnFalse grown (before ≡ first) → total_missing after < total_missing before → total_missing after < total_missing first
+step_grown first before after grown less same fewer =
+    elim (cases_Bool grown) [
+      | inl held ↦ let less' = OnTrue_at held less in omega (arith, less', fewer)
+      | inr fell ↦ let same' = OnFalse_at fell same in subst (λ rows. total_missing after < total_missing rows) same' fewer
+    ]
 
 -- the first n cores have the lookaheads of both kernels, the others are as before
 pub record AreUnitedBelow (before other after : List CoreSet) (n : ℕ) : Type 0 where

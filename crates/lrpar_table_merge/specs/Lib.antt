@@ -1,4 +1,5 @@
 pub mod Compatible
+pub mod Expansions
 pub mod United
 pub mod Held
 pub mod Merged

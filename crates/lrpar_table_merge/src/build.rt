@@ -5,12 +5,13 @@ ghost use Rattle.lrpar_table_rows.specs.Graph.{graph_len};
 ghost use Rattle.lrpar_table_rows.specs.Safe.{IsSafe};
 ghost use Rattle.lrpar_table_items.specs.Next.{kernel_rows};
 ghost use Rattle.lrpar_table_items.specs.States.{state_of};
-ghost use Rattle.lrpar_table_items.specs.Working.{AreSets};
+ghost use Rattle.lrpar_table_merge.specs.Expansions.{AreExpansions};
 ghost use Rattle.lrpar_table_merge.specs.MergedBy.{IsMergedBy};
 ghost use Rattle.lrpar_table_merge.specs.MergedStates.{AreMergedStates};
 ghost use Rattle.lrpar_table_merge.specs.Merging.{AreCoreRows};
 ghost use Rattle.lrpar_table_merge.specs.Minimised.{IsMergeFault, IsMergingRefusal, IsMinimisedBy, IsMinimisedRefusal};
 
+use crate::expansions::Expansions;
 use crate::held::{HeldFault, Transitions};
 use crate::merge::merge;
 use crate::merged_states::merged_states;
@@ -21,7 +22,6 @@ use lrpar_grammar::span::StorageIndex;
 use lrpar_table_build::build::{BuildFault, Precedences, from_yacc_with};
 use lrpar_table_items::cores::CoreItems;
 use lrpar_table_items::item_set::State;
-use lrpar_table_items::sets::Sets;
 use lrpar_table_rows::table::{StateGraph, StateTable};
 use std::alloc::Global;
 
@@ -99,7 +99,7 @@ fn states_of<StorageT: StorageIndex>(
     ensures fault { IfErr result IsMergeFault }
 {
     let _start = grm.start_prod();
-    let mut sets = Sets::new(alloc, grm)?;
+    let mut sets = Expansions::new(alloc, grm)?;
     let (mut kernels, all) = merge(alloc, grm, &mut sets, max_states)?;
     match settled(alloc, grm, &mut sets, &all, &mut kernels) {
         Ok(states) => Ok(Some(states)),
@@ -112,12 +112,12 @@ fn states_of<StorageT: StorageIndex>(
 fn settled<StorageT: StorageIndex>(
     alloc: Global,
     grm: &YaccGrammar<StorageT>,
-    sets: &mut Sets,
+    sets: &mut Expansions<StorageT>,
     all: &[Transitions],
     kernels: &mut [Vec<CoreItems<StorageT>>],
 ) -> Result<Vec<State<StorageT>>, HeldFault>
     requires well_formed { IsWellFormed grm.now }
-    requires sets { AreSets grm.now sets.old }
+    requires sets { AreExpansions StorageT.index grm.now sets.old }
     requires cores { AreCoreRows grm.now (kernel_rows StorageT.index kernels.old) }
     requires fit { length kernels.old ≤ StorageT.limit }
     ensures states { IfOk result (λ states. AreMergedStates grm.now (map (state_of StorageT.index) states.items)) }

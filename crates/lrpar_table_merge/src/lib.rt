@@ -4,6 +4,7 @@
 pub mod build;
 mod clear;
 pub mod compatible;
+mod expansions;
 pub mod held;
 pub mod laws;
 mod merge;

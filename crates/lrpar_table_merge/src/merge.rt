@@ -6,23 +6,21 @@ ghost use Rattle.lrpar_grammar.specs.Grammar.{Grammar, IsWellFormed};
 ghost use Rattle.lrpar_table_items.specs.CoreOrder.{IsKernel};
 ghost use Rattle.lrpar_table_items.specs.Cores.{core_set};
 ghost use Rattle.lrpar_table_items.specs.Next.{kernel_at, kernel_rows};
-ghost use Rattle.lrpar_table_items.specs.Working.{AreSets};
+ghost use Rattle.lrpar_table_merge.specs.Expansions.{AreExpansions};
 ghost use Rattle.lrpar_table_merge.specs.Compatible.{AreWeaklyCompatible, HaveSameCores};
 ghost use Rattle.lrpar_table_merge.specs.Minimised.{IsMergeFault};
 ghost use Rattle.lrpar_table_merge.specs.Merging.{AreCoreRows, AreKernelsOrEmpty, AreMerging, kernels_of};
 ghost use Rattle.lrpar_table_merge.specs.United.{rooms_of};
 
 use crate::compatible::are_weakly_compatible;
+use crate::expansions::Expansions;
 use crate::held::Transitions;
 use crate::unite::unite;
 use lrpar_grammar::grammar::YaccGrammar;
 use lrpar_grammar::span::StorageIndex;
-use lrpar_table_items::closure::closed;
 use lrpar_table_items::cores::{CoreItems, copied};
 use lrpar_table_items::fault::BuildFault;
-use lrpar_table_items::sets::Sets;
 use lrpar_table_items::states::start_kernel;
-use lrpar_table_items::successors::Successors;
 use std::alloc::{AllocError, Global};
 
 /// A state while item sets are merged: its kernel, where it goes, and whether it has to be worked on.
@@ -47,12 +45,12 @@ pub struct Merging<StorageT> {
 pub(crate) fn merge<StorageT: StorageIndex>(
     alloc: Global,
     grm: &YaccGrammar<StorageT>,
-    sets: &mut Sets,
+    sets: &mut Expansions<StorageT>,
     max_states: usize,
 ) -> Result<(Vec<Vec<CoreItems<StorageT>>>, Vec<Transitions>), BuildFault>
     requires well_formed { IsWellFormed grm.now }
-    requires sets { AreSets grm.now sets.old }
-    ensures sets { AreSets grm.now sets.new }
+    requires sets { AreExpansions StorageT.index grm.now sets.old }
+    ensures sets { AreExpansions StorageT.index grm.now sets.new }
     ensures cores { IfOk result (λ merged. AreCoreRows grm.now (kernel_rows StorageT.index merged.0.items)) }
     ensures room { IfOk result (λ merged. length merged.0.items ≤ max_states) }
     ensures fits { IfOk result (λ merged. length merged.0.items ≤ StorageT.limit) }
@@ -86,13 +84,13 @@ impl<StorageT: StorageIndex> Merging<StorageT> {
         &mut self,
         alloc: Global,
         grm: &YaccGrammar<StorageT>,
-        sets: &mut Sets,
+        sets: &mut Expansions<StorageT>,
         max_states: usize,
     ) -> Result<(), BuildFault>
         requires well_formed { IsWellFormed grm.now }
-        requires sets { AreSets grm.now sets.old }
+        requires sets { AreExpansions StorageT.index grm.now sets.old }
         requires merging { AreMerging StorageT.index grm.now max_states StorageT.limit self.old }
-        ensures sets { AreSets grm.now sets.new }
+        ensures sets { AreExpansions StorageT.index grm.now sets.new }
         ensures merging { OnOk result (AreMerging StorageT.index grm.now max_states StorageT.limit self.new) }
         ensures fault { IfErr result IsMergeFault }
     {
@@ -110,13 +108,13 @@ impl<StorageT: StorageIndex> Merging<StorageT> {
         &mut self,
         alloc: Global,
         grm: &YaccGrammar<StorageT>,
-        sets: &mut Sets,
+        sets: &mut Expansions<StorageT>,
         max_states: usize,
     ) -> Result<bool, BuildFault>
         requires well_formed { IsWellFormed grm.now }
-        requires sets { AreSets grm.now sets.old }
+        requires sets { AreExpansions StorageT.index grm.now sets.old }
         requires merging { AreMerging StorageT.index grm.now max_states StorageT.limit self.old }
-        ensures sets { AreSets grm.now sets.new }
+        ensures sets { AreExpansions StorageT.index grm.now sets.new }
         ensures merging { OnOk result (AreMerging StorageT.index grm.now max_states StorageT.limit self.new) }
         ensures fault { IfErr result IsMergeFault }
     {
@@ -138,19 +136,20 @@ impl<StorageT: StorageIndex> Merging<StorageT> {
         &mut self,
         alloc: Global,
         grm: &YaccGrammar<StorageT>,
-        sets: &mut Sets,
+        sets: &mut Expansions<StorageT>,
         max_states: usize,
         number: usize,
     ) -> Result<(), BuildFault>
         requires well_formed { IsWellFormed grm.now }
-        requires sets { AreSets grm.now sets.old }
+        requires sets { AreExpansions StorageT.index grm.now sets.old }
         requires number { number < length self.old.states.items }
         requires merging { AreMerging StorageT.index grm.now max_states StorageT.limit self.old }
-        ensures sets { AreSets grm.now sets.new }
+        ensures sets { AreExpansions StorageT.index grm.now sets.new }
         ensures merging { OnOk result (AreMerging StorageT.index grm.now max_states StorageT.limit self.new) }
         ensures fault { IfErr result IsMergeFault }
     {
-        let successors = self.successors(alloc, grm, sets, number)?;
+        let place = sets.expand(alloc, grm, &self.states[number].kernel)?;
+        let successors = sets.at(place);
         self.states[number].waits = false;
         let rules = self.place_all(alloc, grm, max_states, &successors.rules)?;
         let tokens = self.place_all(alloc, grm, max_states, &successors.tokens)?;
@@ -158,28 +157,6 @@ impl<StorageT: StorageIndex> Merging<StorageT> {
             self.states[number].transitions = Transitions { rules, tokens };
         }
         Ok(())
-    }
-
-    // The closure of the state's kernel, and the kernels to which it goes.
-    fn successors(
-        &self,
-        alloc: Global,
-        grm: &YaccGrammar<StorageT>,
-        sets: &mut Sets,
-        number: usize,
-    ) -> Result<Successors<StorageT>, AllocError>
-        requires well_formed { IsWellFormed grm.now }
-        requires sets { AreSets grm.now sets.old }
-        requires number { number < length self.now.states.items }
-        requires kernels { All (IsKernel grm.now) (kernels_of StorageT.index self.now.states.items) }
-        ensures sets { AreSets grm.now sets.new }
-        ensures rules { IfOk result (λ successors. AreKernelsOrEmpty grm.now (kernel_rows StorageT.index successors.rules.items)) }
-        ensures tokens { IfOk result (λ successors. AreKernelsOrEmpty grm.now (kernel_rows StorageT.index successors.tokens.items)) }
-    {
-        let kernel = copied(alloc, &self.states[number].kernel)?;
-        let items = closed(alloc, grm, sets, kernel)?;
-        let successors = Successors::new(alloc, grm, items)?;
-        Ok(successors)
     }
 
     // The states of the kernels; those of kernels without cores are none.

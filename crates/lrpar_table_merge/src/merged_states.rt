@@ -5,26 +5,27 @@ ghost use Rattle.lrpar_grammar.specs.Grammar.{IsWellFormed, Nonterminal, Termina
 ghost use Rattle.lrpar_table_rows.specs.Graph.{ItemOf};
 ghost use Rattle.lrpar_table_rows.specs.PlainRows.{goto_entry};
 ghost use Rattle.lrpar_table_items.specs.Canonical.{AreSame};
+ghost use Rattle.lrpar_table_items.specs.CoreOrder.{IsKernel};
 ghost use Rattle.lrpar_table_items.specs.Cores.{IsAmong, core_set};
 ghost use Rattle.lrpar_table_items.specs.ItemSets.{IsInClosure};
 ghost use Rattle.lrpar_table_items.specs.Next.{kernel_at, kernel_rows};
 ghost use Rattle.lrpar_table_items.specs.Resolution.{shift_entry};
 ghost use Rattle.lrpar_table_items.specs.States.{state_of, step_entry};
-ghost use Rattle.lrpar_table_items.specs.Working.{AreSets, AreSuccessors};
+ghost use Rattle.lrpar_table_items.specs.Working.{AreSuccessors};
+ghost use Rattle.lrpar_table_merge.specs.Expansions.{AreExpansions, IsExpandedAt};
 ghost use Rattle.lrpar_table_merge.specs.Held.{GoesBy, IsHeld, transitions_at};
 ghost use Rattle.lrpar_table_merge.specs.MergedStates.{AreMergedStates, all_transitions, transitions_of};
-ghost use Rattle.lrpar_table_merge.specs.MergedSteps.{AreGivenBy, AreGivenSteps, FitsNext, IsClosureOf, IsGivenState};
+ghost use Rattle.lrpar_table_merge.specs.MergedSteps.{AreGivenBy, AreGivenSteps, FitsNext, IsGivenState};
 ghost use Rattle.lrpar_table_merge.specs.PassedOn.{AreBeginnings, IsBeginning};
 ghost use Rattle.lrpar_table_merge.specs.declared.held.HeldFault.TheVariants.{Misfit};
 
 use crate::compatible::have_same_cores;
+use crate::expansions::Expansions;
 use crate::held::{HeldFault, Transitions};
 use lrpar_grammar::grammar::YaccGrammar;
 use lrpar_grammar::span::{Numbered, RIdx, StIdx, StorageIndex, TIdx};
-use lrpar_table_items::closure::closed;
 use lrpar_table_items::cores::{CoreItems, copied};
 use lrpar_table_items::item_set::State;
-use lrpar_table_items::sets::Sets;
 use lrpar_table_items::successors::Successors;
 use std::alloc::Global;
 
@@ -38,18 +39,18 @@ use std::alloc::Global;
 pub(crate) fn merged_states<StorageT: StorageIndex>(
     alloc: Global,
     grm: &YaccGrammar<StorageT>,
-    sets: &mut Sets,
+    sets: &mut Expansions<StorageT>,
     all: &[Transitions],
     kernels: &[Vec<CoreItems<StorageT>>],
 ) -> Result<Vec<State<StorageT>>, HeldFault>
     requires well_formed { IsWellFormed grm.now }
-    requires sets { AreSets grm.now sets.old }
+    requires sets { AreExpansions StorageT.index grm.now sets.old }
     requires some { 0 < length kernels.now }
     requires fit { length kernels.now ≤ StorageT.limit }
     requires kernels { AreBeginnings grm.now (kernel_rows StorageT.index kernels.now) }
     requires held { (s : ℕ) → AreSame (IsInClosure grm.now (IsAmong (kernel_at (kernel_rows StorageT.index kernels.now) s)))
         (IsHeld grm.now (GoesBy (all_transitions all.now)) s) }
-    ensures sets { AreSets grm.now sets.new }
+    ensures sets { AreExpansions StorageT.index grm.now sets.new }
     ensures states { IfOk result (λ states. AreMergedStates grm.now (map (state_of StorageT.index) states.items)) }
     ensures len { IfOk result (λ states. length states.items ≡ length kernels.now) }
 {
@@ -65,56 +66,56 @@ pub(crate) fn merged_states<StorageT: StorageIndex>(
 fn merged_state<StorageT: StorageIndex>(
     alloc: Global,
     grm: &YaccGrammar<StorageT>,
-    sets: &mut Sets,
+    sets: &mut Expansions<StorageT>,
     all: &[Transitions],
     kernels: &[Vec<CoreItems<StorageT>>],
     number: usize,
 ) -> Result<State<StorageT>, HeldFault>
     requires well_formed { IsWellFormed grm.now }
-    requires sets { AreSets grm.now sets.old }
+    requires sets { AreExpansions StorageT.index grm.now sets.old }
     requires number { number < length kernels.now }
     requires fit { length kernels.now ≤ StorageT.limit }
     requires kernels { AreBeginnings grm.now (kernel_rows StorageT.index kernels.now) }
-    ensures sets { AreSets grm.now sets.new }
+    ensures sets { AreExpansions StorageT.index grm.now sets.new }
     ensures state { IfOk result (λ state. IsGivenState grm.now (kernel_rows StorageT.index kernels.now)
         (transitions_at (all_transitions all.now) number) (kernel_at (kernel_rows StorageT.index kernels.now) number)
         (state_of StorageT.index state)) }
 {
-    let items = expanded(alloc, grm, sets, &kernels[number])?;
-    let successors = Successors::new(alloc, grm, items)?;
+    let place = expanded(alloc, grm, sets, &kernels[number])?;
+    let successors = sets.at(place);
+    let items = copied(alloc, &successors.items)?;
     let none = Transitions {
         rules: Vec::new(alloc),
         tokens: Vec::new(alloc),
     };
     let transitions = all.get(number).unwrap_or(&none);
-    let (gotos, shifts) = all_steps(alloc, grm, kernels, &successors, transitions)?;
+    let (gotos, shifts) = all_steps(alloc, grm, kernels, successors, transitions)?;
     Ok(State {
-        items: successors.items,
+        items,
         gotos,
         shifts,
     })
 }
 
-// The closure of the kernel, if it has an item.
+// Where the item set of the kernel is, if it has an item.
 fn expanded<StorageT: StorageIndex>(
     alloc: Global,
     grm: &YaccGrammar<StorageT>,
-    sets: &mut Sets,
+    sets: &mut Expansions<StorageT>,
     kernel: &[CoreItems<StorageT>],
-) -> Result<Vec<CoreItems<StorageT>>, HeldFault>
+) -> Result<usize, HeldFault>
     requires well_formed { IsWellFormed grm.now }
-    requires sets { AreSets grm.now sets.old }
+    requires sets { AreExpansions StorageT.index grm.now sets.old }
     requires kernel { IsBeginning grm.now (map (core_set StorageT.index) kernel.now) }
-    ensures sets { AreSets grm.now sets.new }
-    ensures items { IfOk result (λ items. IsClosureOf grm.now (map (core_set StorageT.index) kernel.now)
-        (map (core_set StorageT.index) items.items)) }
+    ensures sets { AreExpansions StorageT.index grm.now sets.new }
+    ensures is_kernel { IfOk result (λ _. IsKernel grm.now (map (core_set StorageT.index) kernel.now)) }
+    ensures expanded { IfOk result (IsExpandedAt StorageT.index grm.now sets.new.all.items (map (core_set StorageT.index) kernel.now)) }
 {
     if !has_item(kernel) {
         return Err(HeldFault::Misfit);
     }
-    let own = copied(alloc, kernel)?;
-    let items = closed(alloc, grm, sets, own)?;
-    Ok(items)
+    let place = sets.expand(alloc, grm, kernel)?;
+    Ok(place)
 }
 
 // Whether the first core has a lookahead. Then the cores have an item.

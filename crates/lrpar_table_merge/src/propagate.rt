@@ -7,7 +7,8 @@ ghost use Rattle.lrpar_table_items.specs.CoreOrder.{AreCores, IsKernel};
 ghost use Rattle.lrpar_table_items.specs.Cores.{IsAmong, IsCoreOf, core_set};
 ghost use Rattle.lrpar_table_items.specs.ItemSets.{IsInClosure};
 ghost use Rattle.lrpar_table_items.specs.Next.{kernel_at, kernel_rows};
-ghost use Rattle.lrpar_table_items.specs.Working.{AreSets, AreSuccessors};
+ghost use Rattle.lrpar_table_items.specs.Working.{AreSuccessors};
+ghost use Rattle.lrpar_table_merge.specs.Expansions.{AreExpansions};
 ghost use Rattle.lrpar_table_merge.specs.Held.{GoesBy, IsHeld, transitions_at};
 ghost use Rattle.lrpar_table_merge.specs.MergedStates.{all_transitions};
 ghost use Rattle.lrpar_table_merge.specs.Misfits.{HasNoStart, IsFaultOfHeld, IsStuck, IsStuckAt};
@@ -16,16 +17,14 @@ ghost use Rattle.lrpar_table_merge.specs.Propagated.{AreAdded, AreAlike, AreProp
 ghost use Rattle.lrpar_table_merge.specs.declared.held.HeldFault.TheVariants.{Misfit};
 
 use crate::clear::clear_kernels;
+use crate::expansions::Expansions;
 use crate::held::{HeldFault, Transitions, pass_to};
 use crate::pass::pass_all;
 use lrpar_grammar::grammar::YaccGrammar;
 use lrpar_grammar::span::StorageIndex;
-use lrpar_table_items::closure::closed;
-use lrpar_table_items::cores::{CoreItems, copied};
-use lrpar_table_items::sets::Sets;
+use lrpar_table_items::cores::CoreItems;
 use lrpar_table_items::states::start_kernel;
-use lrpar_table_items::successors::Successors;
-use std::alloc::{AllocError, Global};
+use std::alloc::Global;
 
 /// Sets the lookaheads of the kernels to those that the states hold: propagated from the start item along the transitions, and nothing
 /// else. The cores of the kernels stay. `sets` is scratch space.
@@ -35,18 +34,18 @@ use std::alloc::{AllocError, Global};
 /// item's. It returns `Memory` if an allocation fails. After an `Err` the lookaheads may be any.
 ///
 /// It takes rounds over the states, until no kernel grows: at most one for each token that a core gets as a lookahead, and one more. A
-/// round builds the closures and the kernels of the gotos of those states alone whose kernels have grown.
+/// round looks at those states alone whose kernels have grown; it makes closures that weren't made before.
 pub(crate) fn propagate<StorageT: StorageIndex>(
     alloc: Global,
     grm: &YaccGrammar<StorageT>,
-    sets: &mut Sets,
+    sets: &mut Expansions<StorageT>,
     all: &[Transitions],
     kernels: &mut [Vec<CoreItems<StorageT>>],
 ) -> Result<(), HeldFault>
     requires well_formed { IsWellFormed grm.now }
-    requires sets { AreSets grm.now sets.old }
+    requires sets { AreExpansions StorageT.index grm.now sets.old }
     requires cores { All (All (IsCoreOf grm.now)) (kernel_rows StorageT.index kernels.old) }
-    ensures sets { AreSets grm.now sets.new }
+    ensures sets { AreExpansions StorageT.index grm.now sets.new }
     ensures len { length kernels.new ≡ length kernels.old }
     ensures some { OnOk result (0 < length kernels.new) }
     ensures alike { OnOk result (AreAlike (kernel_rows StorageT.index kernels.old) (kernel_rows StorageT.index kernels.new)) }
@@ -86,16 +85,16 @@ fn begin<StorageT: StorageIndex>(
 fn pass_rounds<StorageT: StorageIndex>(
     alloc: Global,
     grm: &YaccGrammar<StorageT>,
-    sets: &mut Sets,
+    sets: &mut Expansions<StorageT>,
     all: &[Transitions],
     kernels: &mut [Vec<CoreItems<StorageT>>],
     waits: &mut [bool],
 ) -> Result<(), HeldFault>
     requires well_formed { IsWellFormed grm.now }
-    requires sets { AreSets grm.now sets.old }
+    requires sets { AreExpansions StorageT.index grm.now sets.old }
     requires waits { length waits.old ≡ length kernels.old }
     requires propagated { ArePropagated grm.now (GoesBy (all_transitions all.now)) (kernel_rows StorageT.index kernels.old) waits.old }
-    ensures sets { AreSets grm.now sets.new }
+    ensures sets { AreExpansions StorageT.index grm.now sets.new }
     ensures alike { OnOk result (AreAlike (kernel_rows StorageT.index kernels.old) (kernel_rows StorageT.index kernels.new)) }
     ensures kernels { OnOk result (AreBeginnings grm.now (kernel_rows StorageT.index kernels.new)) }
     ensures held { OnOk result ((s : ℕ) → AreSame (IsInClosure grm.now (IsAmong (kernel_at (kernel_rows StorageT.index kernels.new) s)))
@@ -111,16 +110,16 @@ fn pass_rounds<StorageT: StorageIndex>(
 fn pass_round<StorageT: StorageIndex>(
     alloc: Global,
     grm: &YaccGrammar<StorageT>,
-    sets: &mut Sets,
+    sets: &mut Expansions<StorageT>,
     all: &[Transitions],
     kernels: &mut [Vec<CoreItems<StorageT>>],
     waits: &mut [bool],
 ) -> Result<bool, HeldFault>
     requires well_formed { IsWellFormed grm.now }
-    requires sets { AreSets grm.now sets.old }
+    requires sets { AreExpansions StorageT.index grm.now sets.old }
     requires waits { length waits.old ≡ length kernels.old }
     requires propagated { ArePropagated grm.now (GoesBy (all_transitions all.now)) (kernel_rows StorageT.index kernels.old) waits.old }
-    ensures sets { AreSets grm.now sets.new }
+    ensures sets { AreExpansions StorageT.index grm.now sets.new }
     ensures alike { OnOk result (AreAlike (kernel_rows StorageT.index kernels.old) (kernel_rows StorageT.index kernels.new)) }
     ensures propagated { OnOk result (ArePropagated grm.now (GoesBy (all_transitions all.now)) (kernel_rows StorageT.index kernels.new) waits.new) }
     ensures round { IfOk result (IsRoundTo (kernel_rows StorageT.index kernels.old) (kernel_rows StorageT.index kernels.new) waits.new
@@ -139,18 +138,18 @@ fn pass_round<StorageT: StorageIndex>(
 fn pass_waiting<StorageT: StorageIndex>(
     alloc: Global,
     grm: &YaccGrammar<StorageT>,
-    sets: &mut Sets,
+    sets: &mut Expansions<StorageT>,
     all: &[Transitions],
     state: usize,
     kernels: &mut [Vec<CoreItems<StorageT>>],
     waits: &mut [bool],
 ) -> Result<bool, HeldFault>
     requires well_formed { IsWellFormed grm.now }
-    requires sets { AreSets grm.now sets.old }
+    requires sets { AreExpansions StorageT.index grm.now sets.old }
     requires waits { length waits.old ≡ length kernels.old }
     requires state { state < length kernels.old }
     requires propagated { ArePropagated grm.now (GoesBy (all_transitions all.now)) (kernel_rows StorageT.index kernels.old) waits.old }
-    ensures sets { AreSets grm.now sets.new }
+    ensures sets { AreExpansions StorageT.index grm.now sets.new }
     ensures alike { OnOk result (AreAlike (kernel_rows StorageT.index kernels.old) (kernel_rows StorageT.index kernels.new)) }
     ensures propagated { OnOk result (ArePropagated grm.now (GoesBy (all_transitions all.now)) (kernel_rows StorageT.index kernels.new) waits.new) }
     ensures grown { IfOk result (HasSettled state (kernel_rows StorageT.index kernels.old) waits.old (kernel_rows StorageT.index kernels.new) waits.new) }
@@ -169,18 +168,18 @@ fn pass_waiting<StorageT: StorageIndex>(
 fn pass_from<StorageT: StorageIndex>(
     alloc: Global,
     grm: &YaccGrammar<StorageT>,
-    sets: &mut Sets,
+    sets: &mut Expansions<StorageT>,
     all: &[Transitions],
     state: usize,
     kernels: &mut [Vec<CoreItems<StorageT>>],
     waits: &mut [bool],
 ) -> Result<bool, HeldFault>
     requires well_formed { IsWellFormed grm.now }
-    requires sets { AreSets grm.now sets.old }
+    requires sets { AreExpansions StorageT.index grm.now sets.old }
     requires beginnings { AreBeginnings grm.now (kernel_rows StorageT.index kernels.old) }
     requires waits { length waits.old ≡ length kernels.old }
     requires state { state < length kernels.old }
-    ensures sets { AreSets grm.now sets.new }
+    ensures sets { AreExpansions StorageT.index grm.now sets.new }
     ensures added { OnOk result (AreAdded (kernel_rows StorageT.index kernels.old) waits.old (kernel_rows StorageT.index kernels.new) waits.new) }
     ensures passed { OnOk result (IsPassedFrom grm.now (GoesBy (all_transitions all.now)) state
         (kernel_rows StorageT.index kernels.old) (kernel_rows StorageT.index kernels.new)) }
@@ -192,10 +191,11 @@ fn pass_from<StorageT: StorageIndex>(
     if !has_items(&kernels[state]) {
         return Ok(false);
     }
-    let successors = successors_of(alloc, grm, sets, &kernels[state])?;
+    let place = sets.expand(alloc, grm, &kernels[state])?;
+    let successors = sets.at(place);
     let by_rules = pass_all(kernels, waits, rules_from(all, state), &successors.rules)?;
     let by_tokens = pass_all(kernels, waits, tokens_from(all, state), &successors.tokens)?;
-    Ok(by_rules || by_tokens)
+    Ok(by_rules | by_tokens)
 }
 
 // Whether the cores have any item.
@@ -208,27 +208,6 @@ fn has_items<StorageT: StorageIndex>(cores: &[CoreItems<StorageT>]) -> bool
         }
     }
     false
-}
-
-// The closure of the kernel, and the kernels to which it goes.
-fn successors_of<StorageT: StorageIndex>(
-    alloc: Global,
-    grm: &YaccGrammar<StorageT>,
-    sets: &mut Sets,
-    kernel: &[CoreItems<StorageT>],
-) -> Result<Successors<StorageT>, AllocError>
-    requires well_formed { IsWellFormed grm.now }
-    requires sets { AreSets grm.now sets.old }
-    requires kernel { IsKernel grm.now (map (core_set StorageT.index) kernel.now) }
-    ensures sets { AreSets grm.now sets.new }
-    ensures successors { IfOk result (AreSuccessors StorageT.index grm.now) }
-    ensures cores { IfOk result (λ successors. AreCores grm.now (map (core_set StorageT.index) successors.items.items)) }
-    ensures items { IfOk result (λ successors. AreSame (IsAmong (map (core_set StorageT.index) successors.items.items))
-        (IsInClosure grm.now (IsAmong (map (core_set StorageT.index) kernel.now)))) }
-{
-    let copy = copied(alloc, kernel)?;
-    let items = closed(alloc, grm, sets, copy)?;
-    Successors::new(alloc, grm, items)
 }
 
 // The transitions of the state by rules; none, if there are no transitions of this state.

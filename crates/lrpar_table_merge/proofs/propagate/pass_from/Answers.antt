@@ -14,7 +14,6 @@ use Rattle.lrpar_table_merge.proofs.MisfitLemmas.{fault_is, stuck_from}
 use Rattle.lrpar_table_merge.proofs.PassLemmas.{rows_len}
 use Rattle.lrpar_table_merge.proofs.PropagateLemmas.{added_itself, added_on, alike_itself, grown_on, grown_result, own_at}
 use Rattle.lrpar_table_merge.proofs.propagate.pass_from.Goals as goal
-use Rattle.lrpar_table_merge.proofs.propagate.pass_from.Goals.{then-by_rules, else-by_rules}
 
 pub returns-then-not-has_items-clause-passed : goal.returns-then-not-has_items-clause-passed
 returns-then-not-has_items-clause-passed g c =
@@ -26,8 +25,8 @@ returns-then-not-has_items-clause-passed g c =
 pub returns-then-not-has_items-clause-added : goal.returns-then-not-has_items-clause-added
 returns-then-not-has_items-clause-added g c = added_itself (kernel_rows g.StorageT.StorageIndex.index c.args.kernels.now) c.args.waits.now
 
-pub successors_of-requires-clause-kernel : goal.successors_of-requires-clause-kernel
-successors_of-requires-clause-kernel g c =
+pub expand-requires-clause-kernel : goal.expand-requires-clause-kernel
+expand-requires-clause-kernel g c =
     let index = g.StorageT.StorageIndex.index in
     let kernels = c.args.kernels.now in
     let state = c.args.state in
@@ -42,25 +41,25 @@ pub pass_all-requires-clause-known : goal.pass_all-requires-clause-known
 pass_all-requires-clause-known g c =
     let index = g.StorageT.StorageIndex.index in
     let grm = c.args.grm.now in
-    let all = c.in_ok-successors.ensures in
-    let successors = c.in_ok-successors.successors in
+    let all = c.at-successors.ensures grm (map (core_set index) c.deref-2.result.now) c.in_ok-place.ensures.expanded in
+    let successors = c.at-successors.result.now in
     let rules =
     none_or_values grm (map (core_set index) c.deref-2.result.now) (map (core_set index) successors.items.items) all.items all.cores Nonterminal
-    (kernel_rows index successors.rules.items) all.successors.rules index c.deref-3.result.now (ap (kernel_rows index) (sym c.deref-3.ensures.value)) in
+    (kernel_rows index successors.rules.items) all.next.rules index c.deref-3.result.now (ap (kernel_rows index) (sym c.deref-3.ensures.value)) in
     (grm, c.requires.beginnings, rules)
 
 pub pass_all-requires-2-clause-known : goal.pass_all-requires-2-clause-known
 pass_all-requires-2-clause-known g c =
     let index = g.StorageT.StorageIndex.index in
     let grm = c.args.grm.now in
-    let all = c.in_ok-successors.ensures in
-    let successors = c.in_ok-successors.successors in
+    let all = c.at-successors.ensures grm (map (core_set index) c.deref-2.result.now) c.in_ok-place.ensures.expanded in
+    let successors = c.at-successors.result.now in
     let rules =
     none_or_values grm (map (core_set index) c.deref-2.result.now) (map (core_set index) successors.items.items) all.items all.cores Nonterminal
-    (kernel_rows index successors.rules.items) all.successors.rules index c.deref-3.result.now (ap (kernel_rows index) (sym c.deref-3.ensures.value)) in
+    (kernel_rows index successors.rules.items) all.next.rules index c.deref-3.result.now (ap (kernel_rows index) (sym c.deref-3.ensures.value)) in
     let tokens =
     none_or_values grm (map (core_set index) c.deref-2.result.now) (map (core_set index) successors.items.items) all.items all.cores Terminal
-    (kernel_rows index successors.tokens.items) all.successors.tokens index c.deref-4.result.now (ap (kernel_rows index) (sym c.deref-4.ensures.value)) in
+    (kernel_rows index successors.tokens.items) all.next.tokens index c.deref-4.result.now (ap (kernel_rows index) (sym c.deref-4.ensures.value)) in
     (grm, c.in_ok-by_rules.ensures.kernels grm c.requires.beginnings rules, tokens)
 
 pub returns-in_err-by_rules-clause-stuck : goal.returns-in_err-by_rules-clause-stuck
@@ -70,8 +69,8 @@ returns-in_err-by_rules-clause-stuck g c =
     let kernels = c.args.kernels.now in
     let state = c.args.state in
     let before = kernel_rows index kernels in
-    let all = c.in_ok-successors.ensures in
-    let cores = map (core_set index) c.in_ok-successors.successors.items.items in
+    let all = c.at-successors.ensures grm (map (core_set index) c.deref-2.result.now) c.in_ok-place.ensures.expanded in
+    let cores = map (core_set index) c.at-successors.result.now.items.items in
     let at = own_at index kernels state c.index-kernels-state.result c.deref.result.now c.requires.state c.deref.ensures.value in
     let own = own_at index kernels state c.index-kernels-state-2.result c.deref-2.result.now c.requires.state c.deref-2.ensures.value in
     let some = c.has_items.ensures.0 c.if-not-has_items.false in
@@ -83,7 +82,7 @@ returns-in_err-by_rules-clause-stuck g c =
     stuck_from grm (all_transitions c.args.all.now) state before (kernel_rows index c.args.kernels.now) cores
     (subst (λ items. AreSame (IsAmong cores) (IsInClosure grm (IsAmong items))) (sym own) all.items) all.cores Nonterminal
     (kernel_rows index c.deref-3.result.now)
-    (subst (λ rows. AreNext grm cores Nonterminal (kernel_rows index rows)) (sym c.deref-3.ensures.value) all.successors.rules) c.rules_from.result.now
+    (subst (λ rows. AreNext grm cores Nonterminal (kernel_rows index rows)) (sym c.deref-3.ensures.value) all.next.rules) c.rules_from.result.now
     (λ i. ap (λ row. step_at row i) c.rules_from.ensures) kernel (alike_itself before) c.in_err-by_rules.ensures.misfit)
 
 pub returns-in_err-by_tokens-clause-stuck : goal.returns-in_err-by_tokens-clause-stuck
@@ -93,8 +92,8 @@ returns-in_err-by_tokens-clause-stuck g c =
     let kernels = c.args.kernels.now in
     let state = c.args.state in
     let before = kernel_rows index kernels in
-    let all = c.in_ok-successors.ensures in
-    let cores = map (core_set index) c.in_ok-successors.successors.items.items in
+    let all = c.at-successors.ensures grm (map (core_set index) c.deref-2.result.now) c.in_ok-place.ensures.expanded in
+    let cores = map (core_set index) c.at-successors.result.now.items.items in
     let at = own_at index kernels state c.index-kernels-state.result c.deref.result.now c.requires.state c.deref.ensures.value in
     let own = own_at index kernels state c.index-kernels-state-2.result c.deref-2.result.now c.requires.state c.deref-2.ensures.value in
     let some = c.has_items.ensures.0 c.if-not-has_items.false in
@@ -106,7 +105,7 @@ returns-in_err-by_tokens-clause-stuck g c =
     stuck_from grm (all_transitions c.args.all.now) state before (kernel_rows index c.pass_all.new.kernels) cores
     (subst (λ items. AreSame (IsAmong cores) (IsInClosure grm (IsAmong items))) (sym own) all.items) all.cores Terminal
     (kernel_rows index c.deref-4.result.now)
-    (subst (λ rows. AreNext grm cores Terminal (kernel_rows index rows)) (sym c.deref-4.ensures.value) all.successors.tokens) c.tokens_from.result.now
+    (subst (λ rows. AreNext grm cores Terminal (kernel_rows index rows)) (sym c.deref-4.ensures.value) all.next.tokens) c.tokens_from.result.now
     (λ i. ap (λ row. step_at row i) c.tokens_from.ensures) kernel c.in_ok-by_rules.ensures.added.alike c.in_err-by_tokens.ensures.misfit)
 
 pub returns-clause-added : goal.returns-clause-added
@@ -121,8 +120,8 @@ returns-clause-passed g c =
     let grm = c.args.grm.now in
     let state = c.args.state in
     let before = kernel_rows index c.args.kernels.now in
-    let all = c.in_ok-successors.ensures in
-    let successors = c.in_ok-successors.successors in
+    let all = c.at-successors.ensures grm (map (core_set index) c.deref-2.result.now) c.in_ok-place.ensures.expanded in
+    let successors = c.at-successors.result.now in
     let cores = map (core_set index) successors.items.items in
     let own = own_at index c.args.kernels.now state c.index-kernels-state-2.result c.deref-2.result.now c.requires.state c.deref-2.ensures.value in
     let rules = c.deref-3.result.now in
@@ -130,24 +129,24 @@ returns-clause-passed g c =
     passed_from grm c.requires.well_formed (all_transitions c.args.all.now) state before (kernel_rows index c.pass_all.new.kernels)
     (kernel_rows index c.pass_all-2.new.kernels) cores (subst (λ kernel. AreSame (IsAmong cores) (IsInClosure grm (IsAmong kernel))) (sym own) all.items)
     all.cores (kernel_rows index rules) (kernel_rows index tokens)
-    (subst (λ kernels. AreNext grm cores Nonterminal (kernel_rows index kernels)) (sym c.deref-3.ensures.value) all.successors.rules)
-    (subst (λ kernels. AreNext grm cores Terminal (kernel_rows index kernels)) (sym c.deref-4.ensures.value) all.successors.tokens) (length rules)
-    (length tokens) (rows_len index rules) (rows_len index tokens) (ap (λ kernels. length kernels) c.deref-3.ensures.value ∙ all.successors.rules_len)
-    (ap (λ kernels. length kernels) c.deref-4.ensures.value ∙ all.successors.tokens_len) c.rules_from.result.now c.tokens_from.result.now
+    (subst (λ kernels. AreNext grm cores Nonterminal (kernel_rows index kernels)) (sym c.deref-3.ensures.value) all.next.rules)
+    (subst (λ kernels. AreNext grm cores Terminal (kernel_rows index kernels)) (sym c.deref-4.ensures.value) all.next.tokens) (length rules)
+    (length tokens) (rows_len index rules) (rows_len index tokens) (ap (λ kernels. length kernels) c.deref-3.ensures.value ∙ all.next.rules_len)
+    (ap (λ kernels. length kernels) c.deref-4.ensures.value ∙ all.next.tokens_len) c.rules_from.result.now c.tokens_from.result.now
     c.rules_from.ensures c.tokens_from.ensures c.in_ok-by_rules.ensures.passed c.in_ok-by_tokens.ensures.passed c.in_ok-by_tokens.ensures.added.kept
 
 pub returns-clause-beginnings : goal.returns-clause-beginnings
 returns-clause-beginnings g c =
     let index = g.StorageT.StorageIndex.index in
     let grm = c.args.grm.now in
-    let all = c.in_ok-successors.ensures in
-    let successors = c.in_ok-successors.successors in
+    let all = c.at-successors.ensures grm (map (core_set index) c.deref-2.result.now) c.in_ok-place.ensures.expanded in
+    let successors = c.at-successors.result.now in
     let rules =
     none_or_values grm (map (core_set index) c.deref-2.result.now) (map (core_set index) successors.items.items) all.items all.cores Nonterminal
-    (kernel_rows index successors.rules.items) all.successors.rules index c.deref-3.result.now (ap (kernel_rows index) (sym c.deref-3.ensures.value)) in
+    (kernel_rows index successors.rules.items) all.next.rules index c.deref-3.result.now (ap (kernel_rows index) (sym c.deref-3.ensures.value)) in
     let tokens =
     none_or_values grm (map (core_set index) c.deref-2.result.now) (map (core_set index) successors.items.items) all.items all.cores Terminal
-    (kernel_rows index successors.tokens.items) all.successors.tokens index c.deref-4.result.now (ap (kernel_rows index) (sym c.deref-4.ensures.value)) in
+    (kernel_rows index successors.tokens.items) all.next.tokens index c.deref-4.result.now (ap (kernel_rows index) (sym c.deref-4.ensures.value)) in
     c.in_ok-by_tokens.ensures.kernels grm (c.in_ok-by_rules.ensures.kernels grm c.requires.beginnings rules) tokens
 
 pub returns-clause-grown : goal.returns-clause-grown
@@ -155,10 +154,5 @@ returns-clause-grown g c =
     let index = g.StorageT.StorageIndex.index in
     let before = kernel_rows index c.args.kernels.now in
     let after = kernel_rows index c.pass_all-2.new.kernels in
-    let grown = grown_result c.in_ok-by_rules.by_rules c.in_ok-by_tokens.by_tokens c.if-by_rules.result (elim c.if-by_rules.branch [
-      | then-by_rules w ↦ inl (w.if-by_rules.true, w.result-is ∙ w.if-by_rules.true)
-      | else-by_rules w ↦ inr (w.if-by_rules.false, w.result-is)
-    ]) in
-    subst (HasGrown before c.args.waits.now after c.pass_all-2.new.waits) grown
-    (grown_on before (kernel_rows index c.pass_all.new.kernels) after c.args.waits.now c.pass_all.new.waits c.pass_all-2.new.waits
-    c.in_ok-by_rules.by_rules c.in_ok-by_tokens.by_tokens c.in_ok-by_rules.ensures.grown c.in_ok-by_tokens.ensures.grown)
+    grown_on before (kernel_rows index c.pass_all.new.kernels) after c.args.waits.now c.pass_all.new.waits c.pass_all-2.new.waits
+    c.in_ok-by_rules.by_rules c.in_ok-by_tokens.by_tokens c.in_ok-by_rules.ensures.grown c.in_ok-by_tokens.ensures.grown

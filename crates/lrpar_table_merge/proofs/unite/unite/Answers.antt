@@ -3,11 +3,10 @@ use Rattle.std.proofs.lemmas.Bool.{OnFalse_at, OnFalse_from, OnTrue_at, OnTrue_f
 use Rattle.std.proofs.lemmas.List.{length-map}
 use Rattle.lrpar_table_first.specs.FirstRows.{total_missing}
 use Rattle.lrpar_table_items.specs.Cores.{core_set}
-use Rattle.lrpar_table_items.proofs.SpreadLemmas.{step_grown}
 use Rattle.lrpar_table_merge.specs.Compatible.{lookahead_rows}
 use Rattle.lrpar_table_merge.proofs.KernelLemmas.{kernel_united}
 use Rattle.lrpar_table_merge.proofs.SameCoreLemmas.{same_len}
-use Rattle.lrpar_table_merge.proofs.UniteLemmas.{fewer_value, map_set_same, row_value, room_at, united_all, united_none, united_value}
+use Rattle.lrpar_table_merge.proofs.UniteLemmas.{fewer_value, map_set_same, row_value, room_at, step_grown, united_all, united_none, united_value}
 use Rattle.lrpar_table_merge.proofs.unite.unite.Goals as goal
 use Rattle.lrpar_table_merge.proofs.unite.unite.Goals.{then-unite_core, else-unite_core}
 

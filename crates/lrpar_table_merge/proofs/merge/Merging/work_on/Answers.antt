@@ -1,8 +1,35 @@
-use Rattle.std.proofs.Common.{◌<◌, refl, sym, ap, subst, arith, length}
-use Rattle.lrpar_table_merge.specs.Merging.{AreMerging}
-use Rattle.lrpar_table_merge.proofs.MergingLemmas.{kernel_read, merging_set}
+use Rattle.std.proofs.Common.{◌<◌, refl, sym, subst, arith, length, map}
+use Rattle.lrpar_grammar.specs.Grammar.{Nonterminal, Terminal}
+use Rattle.lrpar_table_items.specs.CoreOrder.{IsKernel}
+use Rattle.lrpar_table_items.specs.Cores.{core_set}
+use Rattle.lrpar_table_items.specs.Next.{kernel_rows}
+use Rattle.lrpar_table_merge.specs.Merging.{AreKernelsOrEmpty}
+use Rattle.lrpar_table_merge.proofs.MergingLemmas.{kernel_read, merging_set, next_kernels}
 use Rattle.lrpar_table_merge.proofs.merge.Merging.work_on.Goals as goal
-use Rattle.lrpar_table_merge.proofs.merge.Merging.work_on.Goals.{then-number-len, else-number-len}
+
+pub expand-requires-clause-kernel : goal.expand-requires-clause-kernel
+expand-requires-clause-kernel g c =
+    let index = g.StorageT.StorageIndex.index in
+    subst (λ cores. IsKernel c.args.grm.now (map (core_set index) cores)) (sym c.deref.ensures.value)
+    (kernel_read index c.args.grm.now c.args.self.now.states.items c.args.number c.index.result.now c.requires.number c.index.ensures c.requires.merging.kernels)
+
+pub place_all-requires-clause-kernels : goal.place_all-requires-clause-kernels
+place_all-requires-clause-kernels g c =
+    let index = g.StorageT.StorageIndex.index in
+    let grm = c.args.grm.now in
+    let successors = c.at-successors.result.now in
+    let all = c.at-successors.ensures grm (map (core_set index) c.deref.result.now) c.in_ok-place.ensures.expanded in
+    subst (λ rows. AreKernelsOrEmpty grm (kernel_rows index rows)) (sym c.deref-2.ensures.value)
+    (next_kernels grm (map (core_set index) successors.items.items) Nonterminal (kernel_rows index successors.rules.items) all.cores all.next.rules)
+
+pub place_all-requires-2-clause-kernels : goal.place_all-requires-2-clause-kernels
+place_all-requires-2-clause-kernels g c =
+    let index = g.StorageT.StorageIndex.index in
+    let grm = c.args.grm.now in
+    let successors = c.at-successors.result.now in
+    let all = c.at-successors.ensures grm (map (core_set index) c.deref.result.now) c.in_ok-place.ensures.expanded in
+    subst (λ rows. AreKernelsOrEmpty grm (kernel_rows index rows)) (sym c.deref-3.ensures.value)
+    (next_kernels grm (map (core_set index) successors.items.items) Terminal (kernel_rows index successors.tokens.items) all.cores all.next.tokens)
 
 pub place_all-requires-clause-merging : goal.place_all-requires-clause-merging
 place_all-requires-clause-merging g c =
@@ -14,20 +41,15 @@ place_all-requires-clause-merging g c =
     kernel_read index grm before.states.items number c.index_mut.result.now c.requires.number c.index_mut.ensures.value c.requires.merging.kernels in
     merging_set index grm c.args.max_states g.StorageT.StorageIndex.limit before c.requires.merging _ number _ refl refl kernel
 
-pub returns-clause-merging : goal.returns-clause-merging
-returns-clause-merging g c =
+pub returns-then-number-len-clause-merging : goal.returns-then-number-len-clause-merging
+returns-then-number-len-clause-merging g c =
     let index = g.StorageT.StorageIndex.index in
     let limit = g.StorageT.StorageIndex.limit in
     let grm = c.args.grm.now in
     let before = c.place_all-2.new.self in
     let number = c.args.number in
     let are = c.in_ok-tokens.ensures.merging in
-    elim c.if-number-len.branch [
-      | then-number-len w ↦
-          let low : number < length before.states.items = omega (arith, w.if-number-len.true, c.len.ensures) in
-          let state = w.index_mut-then-number-len.result.now in
-          let kernel = kernel_read index grm before.states.items number state low w.index_mut-then-number-len.ensures.value are.kernels in
-          merging_set index grm c.args.max_states limit before are c.if-number-len.self number _ (ap (λ m. m.states.items) w.self-is)
-          (ap (λ m. length m.by_prod.items) w.self-is) kernel
-      | else-number-len w ↦ subst (AreMerging index grm c.args.max_states limit) (sym w.self-is) are
-    ]
+    let low : number < length before.states.items = omega (arith, c.if-number-len.true, c.len.ensures) in
+    let state = c.index_mut-then-number-len.result.now in
+    let kernel = kernel_read index grm before.states.items number state low c.index_mut-then-number-len.ensures.value are.kernels in
+    merging_set index grm c.args.max_states limit before are _ number _ refl refl kernel

@@ -1,0 +1,141 @@
+//! Item sets that are kept, so that the closure of a kernel is made once.
+ghost use Rattle.std.specs.Prelude.{◌≡◌, ◌<◌, All, IfOk, IfSome, List, length, map};
+ghost use Rattle.lrpar_grammar.specs.Grammar.{Grammar, IsWellFormed};
+ghost use Rattle.lrpar_table_items.specs.CoreOrder.{IsKernel};
+ghost use Rattle.lrpar_table_items.specs.Cores.{CoreSet, core_set};
+ghost use Rattle.lrpar_table_items.specs.Working.{AreSets};
+ghost use Rattle.lrpar_table_merge.specs.Expansions.{AreExpansions, IsExpanded, IsExpandedAt, IsExpansionOf};
+
+use lrpar_grammar::grammar::YaccGrammar;
+use lrpar_grammar::span::StorageIndex;
+use lrpar_table_items::closure::closed;
+use lrpar_table_items::cores::{CoreItems, are_same, copied};
+use lrpar_table_items::sets::Sets;
+use lrpar_table_items::successors::Successors;
+use std::alloc::{AllocError, Global};
+use std::collections::BTreeMap;
+
+/// A kernel, its closure, and the kernels to which it goes.
+#[derive(Drop)]
+pub struct Expansion<StorageT> {
+    pub kernel: Vec<CoreItems<StorageT>>,
+    pub successors: Successors<StorageT>,
+}
+
+/// The item sets so far, the place of each by its kernel, and what closures need.
+pub struct Expansions<StorageT: StorageIndex> {
+    pub sets: Sets,
+    pub all: Vec<Expansion<StorageT>>,
+    pub places: BTreeMap<Vec<CoreItems<StorageT>>, usize>,
+}
+
+// With its own `Drop`, a function that drops one proves one call.
+impl<StorageT: StorageIndex> Drop for Expansions<StorageT> {
+    fn drop(self) {
+        let Expansions { sets, all, places } = self;
+        drop(sets);
+        drop(all);
+        drop(places);
+    }
+}
+
+impl<StorageT: StorageIndex> Expansions<StorageT> {
+    /// No item sets.
+    pub(crate) fn new(alloc: Global, grm: &YaccGrammar<StorageT>) -> Result<Self, AllocError>
+        ensures { IfOk result (AreExpansions StorageT.index grm.now) }
+    {
+        let sets = Sets::new(alloc, grm)?;
+        Ok(Expansions {
+            sets,
+            all: Vec::new(alloc),
+            places: BTreeMap::new(alloc),
+        })
+    }
+
+    /// Makes the closure of the kernel, and the kernels to which it goes, if they weren't made before. Returns their place.
+    pub(crate) fn expand(
+        &mut self,
+        alloc: Global,
+        grm: &YaccGrammar<StorageT>,
+        kernel: &[CoreItems<StorageT>],
+    ) -> Result<usize, AllocError>
+        requires well_formed { IsWellFormed grm.now }
+        requires kernel { IsKernel grm.now (map (core_set StorageT.index) kernel.now) }
+        requires sets { AreExpansions StorageT.index grm.now self.old }
+        ensures sets { AreExpansions StorageT.index grm.now self.new }
+        ensures expanded { IfOk result (IsExpandedAt StorageT.index grm.now self.new.all.items (map (core_set StorageT.index) kernel.now)) }
+    {
+        match self.find(kernel) {
+            Some(place) => Ok(place),
+            None => self.push(alloc, grm, kernel),
+        }
+    }
+
+    /// The closure and the kernels at a place.
+    pub(crate) fn at(&self, place: usize) -> &Successors<StorageT>
+        requires { place < length self.now.all.items }
+        ensures { (g : Grammar) (kernel : List CoreSet) → IsExpandedAt StorageT.index g self.now.all.items kernel place
+            → IsExpanded StorageT.index g kernel result.now }
+    {
+        &self.all[place].successors
+    }
+
+    // The place of the kernel's item set, if it was made.
+    fn find(&self, kernel: &[CoreItems<StorageT>]) -> Option<usize>
+        ensures { IfSome result (λ place. (g : Grammar) → All (IsExpansionOf StorageT.index g) self.now.all.items
+            → IsExpandedAt StorageT.index g self.now.all.items (map (core_set StorageT.index) kernel.now) place) }
+    {
+        let place = *self.places.get(kernel)?;
+        let found = self.all.get(place)?;
+        if are_same(&found.kernel, kernel) {
+            Some(place)
+        } else {
+            None
+        }
+    }
+
+    // Makes the item set of the kernel. Returns its place.
+    fn push(
+        &mut self,
+        alloc: Global,
+        grm: &YaccGrammar<StorageT>,
+        kernel: &[CoreItems<StorageT>],
+    ) -> Result<usize, AllocError>
+        requires well_formed { IsWellFormed grm.now }
+        requires kernel { IsKernel grm.now (map (core_set StorageT.index) kernel.now) }
+        requires sets { AreExpansions StorageT.index grm.now self.old }
+        ensures sets { AreExpansions StorageT.index grm.now self.new }
+        ensures expanded { IfOk result (IsExpandedAt StorageT.index grm.now self.new.all.items (map (core_set StorageT.index) kernel.now)) }
+    {
+        let expansion = expansion_of(alloc, grm, &mut self.sets, kernel)?;
+        let key = copied(alloc, kernel)?;
+        let place = self.all.len();
+        self.all.push(expansion)?;
+        self.places.insert(key, place)?;
+        Ok(place)
+    }
+}
+
+// The item set of the kernel.
+fn expansion_of<StorageT: StorageIndex>(
+    alloc: Global,
+    grm: &YaccGrammar<StorageT>,
+    sets: &mut Sets,
+    kernel: &[CoreItems<StorageT>],
+) -> Result<Expansion<StorageT>, AllocError>
+    requires well_formed { IsWellFormed grm.now }
+    requires kernel { IsKernel grm.now (map (core_set StorageT.index) kernel.now) }
+    requires sets { AreSets grm.now sets.old }
+    ensures sets { AreSets grm.now sets.new }
+    ensures kernel { IfOk result (λ expansion. map (core_set StorageT.index) expansion.kernel.items ≡ map (core_set StorageT.index) kernel.now) }
+    ensures expanded { IfOk result (λ expansion. IsExpanded StorageT.index grm.now (map (core_set StorageT.index) kernel.now) expansion.successors) }
+{
+    let own = copied(alloc, kernel)?;
+    let copy = copied(alloc, kernel)?;
+    let items = closed(alloc, grm, sets, copy)?;
+    let successors = Successors::new(alloc, grm, items)?;
+    Ok(Expansion {
+        kernel: own,
+        successors,
+    })
+}
