@@ -1,5 +1,6 @@
 pub mod Completing
 pub mod Waiting
+pub mod Finding
 pub mod Opening
 pub mod Nearest
 pub mod Trying
