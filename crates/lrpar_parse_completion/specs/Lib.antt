@@ -4,6 +4,7 @@ pub mod Finding
 pub mod Opening
 pub mod Nearest
 pub mod Trying
+pub mod SearchView
 pub mod Answer
 pub mod Refused
 pub mod CompletionLaws
