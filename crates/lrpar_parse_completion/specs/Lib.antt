@@ -2,6 +2,7 @@ pub mod Completing
 pub mod Waiting
 pub mod Finding
 pub mod Opening
+pub mod CompleterView
 pub mod Nearest
 pub mod Trying
 pub mod SearchView
