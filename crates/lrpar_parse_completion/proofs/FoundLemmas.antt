@@ -1,10 +1,10 @@
 -- The rules that items wait for, as they are found. One more may be put at the end of the list: then it wasn't marked before, and is
 -- marked now. So the list has each rule once, and has at most as many as the grammar.
-use Rattle.std.proofs.Common.{◌≡◌, ◌<◌, ◌≤◌, ◌+◌, ◌∙◌, ◌⊎◌, inl, inr, refl, sym, ap, subst, arith, ℕ, zero, suc, Bool, true, false, cond, not, replicate, List, [], ◌∷◌, ◌++◌, length, take, get_or, slice_get, set, Option, Some, None, length-append}
+use Rattle.std.proofs.Common.{◌≡◌, ◌<◌, ◌≤◌, ◌+◌, ◌-◌, ◌∙◌, ◌⊎◌, inl, inr, refl, sym, ap, subst, arith, ℕ, zero, suc, Bool, true, false, cond, not, replicate, List, [], ◌∷◌, ◌++◌, length, take, get_or, slice_get, set, Option, Some, None, length-append}
 use Rattle.std.specs.List.{Contains}
 use Rattle.std.proofs.Math.Seq.{take-append_seam}
 use Rattle.std.proofs.lemmas.Bool.{cases_eq, cases_lt, false≢true}
-use Rattle.std.proofs.lemmas.List.{append-nil, append_assoc, get_or-replicate, get_or-set_other, get_or_past, length-replicate, length-set, map-append, take-append-le}
+use Rattle.std.proofs.lemmas.List.{append-nil, append_assoc, get_or-replicate, get_or-set_other, get_or_past, length-map, length-replicate, length-set, map-append, take-append-le}
 use Rattle.std.proofs.lemmas.List.Elements.{Contains-append_left, Contains-append_right}
 use Rattle.std.proofs.lemmas.List.Folds.{sum_by-replicate}
 use Rattle.std.proofs.lemmas.List.Sums.{sum_by-set}
@@ -18,7 +18,7 @@ use Rattle.lrpar_parse_completion.specs.Waiting.{AreCounted, AreFound, AreLinks,
 use Rattle.lrpar_parse_completion.specs.declared.waiting.Link.{Link}
 
 -- an element of a list with one more is one of the list, or it is the last one
-last_cases : {A : Type 0} (xs : List A) (y : A) (i : ℕ) (x : A) → slice_get (xs ++ y ∷ []) i ≡ Some x
+pub last_cases : {A : Type 0} (xs : List A) (y : A) (i : ℕ) (x : A) → slice_get (xs ++ y ∷ []) i ≡ Some x
     → (slice_get xs i ≡ Some x) ⊎ ((i ≡ length xs) × (y ≡ x))
 last_cases {A} [] y zero x at = inr (refl, let e : ◌≡◌ {A = Option A} (Some y) (Some x) = at in cc)
 last_cases {A} [] y (suc i) x at = let no : ◌≡◌ {A = Option A} None (Some x) = at in absurd (cc)
@@ -205,6 +205,12 @@ pub link_at : {S : Type 0} (index : S → ℕ) (links : List (Link S)) (i : ℕ)
     → slice_get (links_of index links) i ≡ Some (link_of index link)
 link_at {S} index links i link low is =
     slice_get-map (link_of index) links i ∙ ap (option_map (link_of index)) (slice_get-get_or links i link low ∙ ap (λ (x : Link S). Some x) (sym is))
+
+-- the link before a place
+pub link_before : {S : Type 0} (index : S → ℕ) (links : List (Link S)) (place : ℕ) (link : Link S) → 0 < place → place ≤ length (links_of index links)
+    → link ≡ get_or links (place - 1) link → slice_get (links_of index links) (place - 1) ≡ Some (link_of index link)
+link_before index links place link some within is =
+    link_at index links (place - 1) link (omega (arith, some, within, length-map links (link_of index))) is
 
 -- one more
 pub links_pushed : {S : Type 0} (index : S → ℕ) (links after : List (Link S)) (link : Link S) → after ≡ links ++ link ∷ []

@@ -18,6 +18,7 @@ use Rattle.lrpar_grammar_places.specs.declared.span.TIdx.{TIdx}
 use Rattle.lrpar_parse_completion.specs.Nearest.{FeedsAll, GoesOnAt, IsNearest, inserts_deletes}
 use Rattle.lrpar_parse_completion.specs.Trying.{AreTried, IsFewest, IsInserted}
 use Rattle.lrpar_parse_completion.proofs.FeedLemmas.{feeds_all_more, feeds_all_one_way, feeds_all_split}
+use Rattle.lrpar_parse_completion.proofs.FoundLemmas.{last_cases}
 
 -- the first m elements, around one of them
 take_around : (xs : List ℕ) (m i : ℕ) → i < m → i < length xs → take m xs ≡ take i xs ++ (get_or xs i 0 ∷ drop (suc i) (take m xs))
@@ -25,18 +26,6 @@ take_around [] m i below inside = absurd (omega (arith, inside))
 take_around (x ∷ xs) zero i below inside = absurd (omega (arith, below))
 take_around (x ∷ xs) (suc m) zero below inside = refl
 take_around (x ∷ xs) (suc m) (suc i) below inside = ap (λ (l : List ℕ). x ∷ l) (take_around xs m i (omega (arith, below)) (omega (arith, inside)))
-
--- an element of a list with one more
-last_cases : {A : Type 0} (xs : List A) (y : A) (i : ℕ) (x : A) → slice_get (xs ++ y ∷ []) i ≡ Some x
-    → (slice_get xs i ≡ Some x) ⊎ ((i ≡ length xs) × (y ≡ x))
-last_cases {A} [] y zero x at = inr (refl, let e : ◌≡◌ {A = Option A} (Some y) (Some x) = at in cc)
-last_cases {A} [] y (suc i) x at = let no : ◌≡◌ {A = Option A} None (Some x) = at in absurd (cc)
-last_cases (z ∷ xs) y zero x at = inl at
-last_cases (z ∷ xs) y (suc i) x at =
-    elim (last_cases xs y i x at) as (λ _. (slice_get (z ∷ xs) (suc i) ≡ Some x) ⊎ ((suc i ≡ length (z ∷ xs)) × (y ≡ x))) [
-      | inl before ↦ inl before
-      | inr last ↦ inr (omega (arith, last.0), last.1)
-    ]
 
 -- one of the stacks
 pub stack_tried : (table : Table) (stacks : List (List ℕ)) (i : ℕ) (st : List ℕ) → All (IsStack table) stacks → slice_get stacks i ≡ Some st

@@ -1,8 +1,11 @@
 pub mod Completing
 pub mod Waiting
+pub mod Finding
 pub mod Opening
+pub mod CompleterView
 pub mod Nearest
 pub mod Trying
+pub mod SearchView
 pub mod Answer
 pub mod Refused
 pub mod CompletionLaws

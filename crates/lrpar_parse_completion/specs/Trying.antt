@@ -25,6 +25,10 @@ pub record AreTried (g : Grammar) (table : Table) (st : List ℕ) (most : ℕ) (
   pub fed : (m : ℕ) (after : List ℕ) → slice_get stacks m ≡ Some after → FeedsAll g table st (take m tokens) after
   pub all : (m : ℕ) (after : List ℕ) → m ≤ length tokens → m ≤ most → FeedsAll g table st (take m tokens) after → m < length stacks
 
+-- the parse can go on at the place after no number of the tokens
+abbrev pub NeverGoesOn : {X : Type 0} → (X → ℕ) → Asked X → List ℕ → ℕ → Type 0
+NeverGoesOn token at tokens j = (m : ℕ) → m ≤ length tokens → ¬ (GoesOnAt token at tokens j m)
+
 -- the parse can go on at the place after m of the tokens, and not after fewer
 pub record IsFewest {X : Type 0} (token : X → ℕ) (at : Asked X) (tokens : List ℕ) (j m : ℕ) : Type 0 where
   pub some : m ≤ length tokens

@@ -1,9 +1,11 @@
 -- The rules that the items of a state wait for: those after their dots. Each is listed with an item that has it after its dot.
-use Rattle.std.specs.Prelude.{◌≡◌, ◌<◌, ◌+◌, ◌⊎◌, ℕ, Bool, IsTrue, false, true, List, [], ◌∷◌, ◌++◌, Some, drop, length, map, slice_get, slice_set, take}
+use Rattle.std.specs.Prelude.{◌≡◌, ◌<◌, ◌+◌, ◌⊎◌, ℕ, Bool, IsTrue, false, true, List, [], ◌∷◌, ◌++◌, Some, drop, length, map, slice_get, slice_set, take, Vec}
 use Rattle.std.specs.List.{Contains}
 use Rattle.lrpar_grammar.specs.Grammar.{Grammar, GrammarSymbol, Nonterminal, prods_len, rule_of, rules_len, start_prod, symbols_of}
 use Rattle.lrpar_table_rows.specs.Graph.{Graph, HasCore}
 use Rattle.lrpar_table_rows.specs.Table.{Table}
+use Rattle.lrpar_grammar_places.specs.declared.span.StIdx.{StIdx}
+use Rattle.lrpar_table_check.specs.Checked.{Checked}
 use Rattle.lrpar_table_sentences.specs.Reachable.{is_marked, unmarked}
 use Rattle.lrpar_parse_completion.specs.declared.waiting.Link.{Link}
 
@@ -52,6 +54,10 @@ pub record AreWaiting (g : Grammar) (graph : Graph) (table : Table) (s : ℕ) (l
   pub each : AreLinks g (IsOwnCore g graph table s) links
   pub own : (p k : ℕ) → IsOwnCore g graph table s p k → HasRuleAfter g links p k
   pub closed : (r : ℕ) → Contains (rules_in links) r → IsClosedAt g links r
+
+-- those of the code, for this state of a checked table
+abbrev pub AreWaitingIn : {S A : Type 0} → (S → ℕ) → Checked → StIdx S → Vec (Link S) A → Type 0
+AreWaitingIn index d state links = AreWaiting d.grammar d.graph d.table (index state.0) (links_of index links.items)
 
 -- the list so far, and which of the grammar's rules are marked: those of the list, each once
 pub record AreFound (g : Grammar) (own : ℕ → ℕ → Type 0) (links : List LinkOf) (marks : List Bool) : Type 0 where

@@ -1,14 +1,8 @@
 //! The completion of a stack: tokens that lead from it to a stack that accepts.
-ghost use Rattle.std.specs.Prelude.{◌≡◌, ◌≢◌, ◌<◌, ◌≤◌, ◌+◌, ◌⊎◌, ◌↔◌, IfOk, IfSome, IsSome, IsSomeAnd, IsTrue, drop, map};
-ghost use Rattle.lrpar_grammar.specs.Grammar.{prod_len, prods_len, rule_of, start_prod, symbols_of};
-ghost use Rattle.lrpar_grammar.specs.Symbols.{symbol_of};
-ghost use Rattle.lrpar_table_rows.specs.Graph.{HasCore, graph_len};
+ghost use Rattle.std.specs.Prelude.{◌<◌, ◌↔◌, IfOk, IsTrue};
+ghost use Rattle.lrpar_grammar.specs.Grammar.{prod_len, prods_len};
 ghost use Rattle.lrpar_table_sentences.specs.Choices.{AreShortest};
-ghost use Rattle.lrpar_table_sentences.specs.Texts.{HaveTrees};
-ghost use Rattle.lrpar_table_stacks.specs.Expected.{tokens_of};
-ghost use Rattle.lrpar_table_stacks.specs.Stack.{IsStack, states_of};
-ghost use Rattle.lrpar_parse_completion.specs.Completing.{IsCompletion};
-ghost use Rattle.lrpar_parse_completion.specs.Opening.{ArePushed, CanComplete, IsKernelCore, IsOpenedBy, IsWalkedTo};
+ghost use Rattle.lrpar_parse_completion.specs.Opening.{IsAfterPushed, IsRestPushed};
 
 use crate::waiting::{Link, waiting};
 use lrpar_grammar::grammar::YaccGrammar;
@@ -26,6 +20,8 @@ pub(crate) struct Completer<'a, StorageT: StorageIndex> {
 }
 
 impl<'a, StorageT: StorageIndex> Completer<'a, StorageT> {
+    ghost use Rattle.lrpar_parse_completion.specs.CompleterView.{CompletesStack, HasBegun, HasProd, HasState, IsKernelOf, IsOpening, KnowsShortest};
+
     /// The completion of the stack, bottom first: a minimal sentence of the symbols after the dot of a kernel item of the top state, and
     /// then, for each item whose rule this ends, of those after the rule in an item that waits for it, down to the start item.
     ///
@@ -35,9 +31,8 @@ impl<'a, StorageT: StorageIndex> Completer<'a, StorageT> {
         alloc: Global,
         stack: &[StIdx<StorageT>],
     ) -> Result<Option<Vec<TIdx<StorageT>>>, AllocError>
-        requires shortest { AreShortest self.now.data.now.grammar usize.MAX self.now.shortest.now }
-        ensures completion { let d = self.now.data.now in IfOk result (λ found. CanComplete d → IsStack d.table (states_of StorageT.index stack.now)
-            → IsSomeAnd found (λ tokens. IsCompletion d.grammar d.table (states_of StorageT.index stack.now) (tokens_of StorageT.index tokens.items))) }
+        requires shortest { KnowsShortest self.now }
+        ensures { IfOk result (CompletesStack StorageT.index self.now stack.now) }
     {
         let _table = self.data.stable();
         if stack.is_empty() {
@@ -79,18 +74,15 @@ impl<'a, StorageT: StorageIndex> Completer<'a, StorageT> {
 
     // Whether the state is one of the table.
     fn has_state(&self, state: StIdx<StorageT>) -> bool
-        ensures { IsTrue result ↔ (StorageT.index state.0 < graph_len self.now.data.now.graph) }
+        ensures { IsTrue result ↔ HasState StorageT.index self.now state }
     {
         usize::from(state) < self.data.sgraph().states_len()
     }
 
     // The core of the first kernel item of the state; that of the start item, if the state has none.
     fn kernel_core(&self, state: StIdx<StorageT>) -> (PIdx<StorageT>, usize)
-        requires { StorageT.index state.0 < graph_len self.now.data.now.graph }
-        ensures prod { StorageT.index result.0.0 < prods_len self.now.data.now.grammar }
-        ensures dot { result.1 ≤ prod_len self.now.data.now.grammar (StorageT.index result.0.0) }
-        ensures kernel { CanComplete self.now.data.now
-            → IsKernelCore self.now.data.now.grammar self.now.data.now.graph (StorageT.index state.0) (StorageT.index result.0.0) result.1 }
+        requires { HasState StorageT.index self.now state }
+        ensures { IsKernelOf StorageT.index self.now state result }
     {
         let _table = self.data.stable();
         let cores = self.data.sgraph().begun_cores(state);
@@ -102,7 +94,7 @@ impl<'a, StorageT: StorageIndex> Completer<'a, StorageT> {
 
     // Whether the core is that of a kernel item, or of an item of the start production.
     fn is_kernel(&self, prod: PIdx<StorageT>, dot: usize) -> bool
-        ensures { IsTrue result ↔ ((0 < dot) ⊎ (StorageT.index prod.0 ≡ start_prod self.now.data.now.grammar)) }
+        ensures { IsTrue result ↔ HasBegun StorageT.index self.now prod dot }
     {
         dot > 0 || usize::from(prod) == usize::from(self.data.grm().start_prod())
     }
@@ -118,14 +110,10 @@ impl<'a, StorageT: StorageIndex> Completer<'a, StorageT> {
         prod: PIdx<StorageT>,
         tokens: &mut Vec<TIdx<StorageT>>,
     ) -> Result<Option<(PIdx<StorageT>, usize)>, AllocError>
-        requires shortest { AreShortest self.now.data.now.grammar usize.MAX self.now.shortest.now }
-        requires state { StorageT.index state.0 < graph_len self.now.data.now.graph }
-        requires prod { StorageT.index prod.0 < prods_len self.now.data.now.grammar }
-        ensures opened { let d = self.now.data.now in IfOk result (λ found. IfSome found (λ core.
-            IsOpenedBy d.grammar d.graph d.table (StorageT.index state.0) (rule_of d.grammar (StorageT.index prod.0))
-            (tokens_of StorageT.index tokens.old.items) (tokens_of StorageT.index tokens.new.items) (StorageT.index core.0.0) core.1)) }
-        ensures some { let d = self.now.data.now in IfOk result (λ found. CanComplete d → IsWalkedTo d.table (StorageT.index state.0) → HasCore d.graph (StorageT.index state.0) (StorageT.index prod.0) 0
-            → StorageT.index prod.0 ≢ start_prod d.grammar → IsSome found) }
+        requires shortest { KnowsShortest self.now }
+        requires state { HasState StorageT.index self.now state }
+        requires prod { HasProd StorageT.index self.now prod }
+        ensures { IfOk result (IsOpening StorageT.index self.now state prod tokens.old tokens.new) }
     {
         let grm = self.data.grm();
         let _table = self.data.stable();
@@ -161,9 +149,7 @@ fn push_after<StorageT: StorageIndex>(
     requires shortest { AreShortest grm.now usize.MAX shortest.now }
     requires prod { StorageT.index link.prod.0 < prods_len grm.now }
     requires dot { link.dot < prod_len grm.now (StorageT.index link.prod.0) }
-    ensures pushed { IfOk result (λ some. IsTrue some → ArePushed grm.now (drop (link.dot + 1) (symbols_of grm.now (StorageT.index link.prod.0)))
-        (tokens_of StorageT.index tokens.old.items) (tokens_of StorageT.index tokens.new.items)) }
-    ensures some { IfOk result (λ some. HaveTrees grm.now (drop (link.dot + 1) (symbols_of grm.now (StorageT.index link.prod.0))) → IsTrue some) }
+    ensures { IfOk result (IsAfterPushed StorageT.index grm.now link tokens.old tokens.new) }
 {
     let rest = &grm.prod(link.prod)[link.dot + 1..];
     push_rest(alloc, grm, shortest, tokens, rest)
@@ -178,9 +164,7 @@ fn push_rest<StorageT: StorageIndex>(
     symbols: &[Symbol<StorageT>],
 ) -> Result<bool, AllocError>
     requires shortest { AreShortest grm.now usize.MAX shortest.now }
-    ensures pushed { IfOk result (λ some. IsTrue some → ArePushed grm.now (map (symbol_of StorageT.index) symbols.now)
-        (tokens_of StorageT.index tokens.old.items) (tokens_of StorageT.index tokens.new.items)) }
-    ensures some { IfOk result (λ some. HaveTrees grm.now (map (symbol_of StorageT.index) symbols.now) → IsTrue some) }
+    ensures { IfOk result (IsRestPushed StorageT.index grm.now symbols.now tokens.old tokens.new) }
 {
     if shortest.len_of_all(symbols).is_none() {
         return Ok(false);

@@ -1,10 +1,8 @@
 //! The recoverer that completes what is begun.
 ghost use Rattle.std.specs.Prelude.{◌≡◌, IfErr, IfOk, OnOk};
-ghost use Rattle.lrpar_table_conditions.specs.Complete.{IsComplete};
 ghost use Rattle.lrpar_table_sentences.specs.Reachable.{EachReachableHasTree};
 ghost use Rattle.lrpar_parse_lexemes.specs.Views.{token_by};
-ghost use Rattle.lrpar_parse_repair.specs.PlainSteps.{plain_sequences};
-ghost use Rattle.lrpar_parse_completion.specs.Answer.{IsCompleted};
+ghost use Rattle.lrpar_parse_completion.specs.Answer.{HasCompleteTable, IsCompleted, IsCompletedBy};
 ghost use Rattle.lrpar_parse_completion.specs.Refused.{IsNoCompletion};
 ghost use Rattle.lrpar_parse_completion.specs.declared.fault.NoCompletion.TheVariants.{Memory};
 
@@ -76,11 +74,10 @@ impl<'a, StorageT: StorageIndex> Completion<'a, StorageT> {
         checked: &'a ParserData<StorageT>,
     ) -> Result<Self, NoCompletion<StorageT>>
         ensures made { IfOk result (λ c. c ≡ record { checked = checked.now; most = 8 }) }
-        ensures complete { OnOk result (IsComplete checked.now.grammar checked.now.graph checked.now.table) }
+        ensures complete { OnOk result (HasCompleteTable checked.now) }
         ensures productive { OnOk result (EachReachableHasTree checked.now.grammar) }
-        ensures refused { IfErr result (IsNoCompletion StorageT.index checked.now.grammar checked.now.graph checked.now.table) }
-        ensures exact { IsComplete checked.now.grammar checked.now.graph checked.now.table → EachReachableHasTree checked.now.grammar
-            → IfErr result (λ fault. fault ≡ Memory) }
+        ensures refused { IfErr result (IsNoCompletion StorageT.index checked.now) }
+        ensures exact { HasCompleteTable checked.now → EachReachableHasTree checked.now.grammar → IfErr result (λ e. e ≡ Memory) }
     {
         let _table = checked.stable();
         let shortest = Shortest::new(alloc, checked.grm())?;
@@ -126,8 +123,7 @@ impl<StorageT: StorageIndex, LexemeT: Lexeme<StorageT>> Recoverer<StorageT, Lexe
         alloc: Global,
         point: &RecoveryPoint<'_, StorageT, LexemeT>,
     ) -> Result<Vec<Vec<RepairStep<StorageT>>>, AllocError>
-        ensures allowed { IfOk result (λ answer. IsCompleted (token_by StorageT.index LexemeT.parts) self.now point.now
-            (plain_sequences StorageT.index answer.items)) }
+        ensures allowed { IfOk result (IsCompletedBy StorageT.index LexemeT.parts self.now point.now) }
     {
         let mut answer = Vec::new(alloc);
         let completer = Completer {

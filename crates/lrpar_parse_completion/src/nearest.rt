@@ -1,12 +1,5 @@
 //! The nearest lexeme at which a parse can go on, after some first tokens of a completion are inserted.
-ghost use Rattle.std.specs.Prelude.{◌≡◌, ◌<◌, ◌≤◌, ◌↔◌, ℕ, IfOk, IsTrue, MatchOption, length};
-ghost use Rattle.lrpar_table_stacks.specs.Expected.{tokens_of};
-ghost use Rattle.lrpar_table_stacks.specs.Stack.{IsStack, states_of};
-ghost use Rattle.lrpar_parse_lexemes.specs.Views.{token_by};
-ghost use Rattle.lrpar_parse_repair.specs.PlainSteps.{plain_steps};
-ghost use Rattle.lrpar_parse_repair.specs.Sequences.{CanGoOn};
-ghost use Rattle.lrpar_parse_completion.specs.Nearest.{GoesOnAt, IsNearest, repair_at};
-ghost use Rattle.lrpar_parse_completion.specs.Trying.{AreTried, IsFewest, IsInserted, stacks_of};
+ghost use Rattle.std.specs.Prelude.{◌≤◌, ◌↔◌, IfOk, IsTrue, length};
 
 use lrpar_grammar::span::{StIdx, StorageIndex, TIdx};
 use lrpar_parse_lexemes::lex_api::Lexeme;
@@ -31,12 +24,11 @@ pub(crate) struct Search<'a, 'p, StorageT: StorageIndex, LexemeT: Lexeme<Storage
 }
 
 impl<'a, 'p, StorageT: StorageIndex, LexemeT: Lexeme<StorageT>> Search<'a, 'p, StorageT, LexemeT> {
+    ghost use Rattle.lrpar_parse_completion.specs.SearchView.{FindsNearest, FirstAt, FirstAtEnd, GoesOnBy, HasStack, HasSteps, InsertsToken, TriesStacks};
+
     /// The repair at the nearest place; of several, the one that inserts fewest tokens.
     pub(crate) fn nearest(&self, alloc: Global) -> Result<Option<Nearest>, AllocError>
-        ensures { let token = token_by StorageT.index LexemeT.parts in let at = self.now.point.now in let tokens = tokens_of StorageT.index self.now.tokens.now in
-            IfOk result (λ found. MatchOption found
-            ((m : ℕ) → m ≤ length tokens → ¬ (GoesOnAt token at tokens (length at.lexemes) m))
-            (λ repair. IsNearest token at self.now.most tokens repair.place repair.inserted)) }
+        ensures { IfOk result (FindsNearest StorageT.index LexemeT.parts self.now) }
     {
         let stacks = self.stacks(alloc)?;
         for place in self.point.place()..self.point.lexemes().len() {
@@ -53,8 +45,7 @@ impl<'a, 'p, StorageT: StorageIndex, LexemeT: Lexeme<StorageT>> Search<'a, 'p, S
 
     // The stacks after none, one, two, .. of the tokens, up to the number that is tried, as long as they can be fed.
     fn stacks(&self, alloc: Global) -> Result<Vec<Vec<StIdx<StorageT>>>, AllocError>
-        ensures { IfOk result (λ stacks. AreTried self.now.point.now.checked.grammar self.now.point.now.checked.table self.now.point.now.stack
-            self.now.most (tokens_of StorageT.index self.now.tokens.now) (stacks_of StorageT.index stacks.items)) }
+        ensures { IfOk result (λ stacks. TriesStacks StorageT.index self.now stacks.items) }
     {
         let tried = &self.tokens[..self.tokens.len().min(self.most)];
         let mut stack = Vec::from_slice(alloc, self.point.stack())?;
@@ -77,13 +68,9 @@ impl<'a, 'p, StorageT: StorageIndex, LexemeT: Lexeme<StorageT>> Search<'a, 'p, S
         stacks: &[Vec<StIdx<StorageT>>],
         place: usize,
     ) -> Result<Option<usize>, AllocError>
-        requires tried { AreTried self.now.point.now.checked.grammar self.now.point.now.checked.table self.now.point.now.stack
-            self.now.most (tokens_of StorageT.index self.now.tokens.now) (stacks_of StorageT.index stacks.now) }
+        requires tried { TriesStacks StorageT.index self.now stacks.now }
         requires within { place ≤ length self.now.point.now.lexemes }
-        ensures first { let token = token_by StorageT.index LexemeT.parts in let at = self.now.point.now in let tokens = tokens_of StorageT.index self.now.tokens.now in
-            IfOk result (λ found. MatchOption found
-            ((m : ℕ) → m ≤ length tokens → m ≤ self.now.most → ¬ (GoesOnAt token at tokens place m))
-            (λ m. IsFewest token at tokens place m × (m ≤ self.now.most))) }
+        ensures { IfOk result (FirstAt StorageT.index LexemeT.parts self.now place) }
     {
         for (inserted, stack) in stacks.iter().enumerate() {
             if self.goes_on(alloc, stack, place)? {
@@ -95,10 +82,7 @@ impl<'a, 'p, StorageT: StorageIndex, LexemeT: Lexeme<StorageT>> Search<'a, 'p, S
 
     // The fewest tokens after which a parse can go on at the end of the lexemes: the stack then accepts.
     fn at_end(&self, alloc: Global) -> Result<Option<usize>, AllocError>
-        ensures { let token = token_by StorageT.index LexemeT.parts in let at = self.now.point.now in let tokens = tokens_of StorageT.index self.now.tokens.now in
-            IfOk result (λ found. MatchOption found
-            ((m : ℕ) → m ≤ length tokens → ¬ (GoesOnAt token at tokens (length at.lexemes) m))
-            (IsFewest token at tokens (length at.lexemes))) }
+        ensures { IfOk result (FirstAtEnd StorageT.index LexemeT.parts self.now) }
     {
         let place = self.point.lexemes().len();
         let mut stack = Vec::from_slice(alloc, self.point.stack())?;
@@ -123,10 +107,9 @@ impl<'a, 'p, StorageT: StorageIndex, LexemeT: Lexeme<StorageT>> Search<'a, 'p, S
         stack: &mut Vec<StIdx<StorageT>>,
         token: TIdx<StorageT>,
     ) -> Result<bool, AllocError>
-        requires { IsStack self.now.point.now.checked.table (states_of StorageT.index stack.old.items) }
-        ensures fed { IfOk result (IsInserted self.now.point.now.checked.grammar self.now.point.now.checked.table (StorageT.index token.0)
-            (states_of StorageT.index stack.old.items) (states_of StorageT.index stack.new.items)) }
-        ensures stack { IsStack self.now.point.now.checked.table (states_of StorageT.index stack.new.items) }
+        requires { HasStack StorageT.index self.now stack.old.items }
+        ensures fed { IfOk result (InsertsToken StorageT.index self.now token stack.old stack.new) }
+        ensures stack { HasStack StorageT.index self.now stack.new.items }
     {
         let data = self.point.data();
         if usize::from(token) >= usize::from(data.grm().eof_token_idx()) {
@@ -142,10 +125,9 @@ impl<'a, 'p, StorageT: StorageIndex, LexemeT: Lexeme<StorageT>> Search<'a, 'p, S
         stack: &[StIdx<StorageT>],
         place: usize,
     ) -> Result<bool, AllocError>
-        requires stack { IsStack self.now.point.now.checked.table (states_of StorageT.index stack.now) }
+        requires stack { HasStack StorageT.index self.now stack.now }
         requires within { place ≤ length self.now.point.now.lexemes }
-        ensures { let at = self.now.point.now in IfOk result (λ goes_on. IsTrue goes_on ↔
-            CanGoOn (token_by StorageT.index LexemeT.parts) at.checked.grammar at.checked.table at.lexemes at.shifts (states_of StorageT.index stack.now) place) }
+        ensures { IfOk result (λ goes_on. IsTrue goes_on ↔ GoesOnBy StorageT.index LexemeT.parts self.now stack.now place) }
     {
         let engine = Engine::new(self.point.data(), self.point.lexemes(), self.point.shifts());
         let mut states = Overlay::new(alloc, stack);
@@ -160,8 +142,7 @@ impl<'a, 'p, StorageT: StorageIndex, LexemeT: Lexeme<StorageT>> Search<'a, 'p, S
     ) -> Result<Vec<RepairStep<StorageT>>, AllocError>
         requires inserted { repair.inserted ≤ length self.now.tokens.now }
         requires after { self.now.point.now.place ≤ repair.place }
-        ensures { IfOk result (λ steps. plain_steps StorageT.index steps.items
-            ≡ repair_at (tokens_of StorageT.index self.now.tokens.now) self.now.point.now.place repair.place repair.inserted) }
+        ensures { IfOk result (HasSteps StorageT.index self.now repair) }
     {
         let mut steps = Vec::new(alloc);
         let inserted = &self.tokens[..repair.inserted];

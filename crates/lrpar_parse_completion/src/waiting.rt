@@ -1,10 +1,8 @@
 //! The rules that the items of a state wait for, each with an item that has it after the dot.
-ghost use Rattle.std.specs.Prelude.{◌≡◌, ◌<◌, ◌≤◌, ℕ, [], false, IfOk, OnOk, length, replicate};
-ghost use Rattle.std.specs.List.{Contains};
-ghost use Rattle.lrpar_grammar.specs.Grammar.{IsWellFormed, prod_len, prods_len, rules_len, start_prod};
-ghost use Rattle.lrpar_table_rows.specs.Graph.{Graph, HasCore, graph_len};
-ghost use Rattle.lrpar_table_rows.specs.Table.{Table};
-ghost use Rattle.lrpar_parse_completion.specs.Waiting.{AreCounted, AreFound, AreWaiting, Grows, HasRuleAfter, IsAdded, IsClosedAt, IsOwnCore, links_of, rules_in};
+ghost use Rattle.std.specs.Prelude.{◌≡◌, ◌<◌, ◌≤◌, IfOk, OnOk, length};
+ghost use Rattle.lrpar_grammar.specs.Grammar.{IsWellFormed, prod_len, prods_len, rules_len};
+ghost use Rattle.lrpar_table_rows.specs.Graph.{graph_len};
+ghost use Rattle.lrpar_parse_completion.specs.Waiting.{AreWaitingIn};
 
 use lrpar_grammar::grammar::YaccGrammar;
 use lrpar_grammar::span::{PIdx, RIdx, StIdx, StorageIndex};
@@ -37,7 +35,7 @@ pub(crate) fn waiting<StorageT: StorageIndex>(
     state: StIdx<StorageT>,
 ) -> Result<Vec<Link<StorageT>>, AllocError>
     requires { StorageT.index state.0 < graph_len checked.now.graph }
-    ensures { IfOk result (λ links. AreWaiting checked.now.grammar checked.now.graph checked.now.table (StorageT.index state.0) (links_of StorageT.index links.items)) }
+    ensures { IfOk result (AreWaitingIn StorageT.index checked.now state) }
 {
     let _table = checked.stable();
     let grm = checked.grm();
@@ -55,10 +53,11 @@ pub(crate) fn waiting<StorageT: StorageIndex>(
 }
 
 impl<StorageT: StorageIndex> Found<StorageT> {
+    ghost use Rattle.lrpar_parse_completion.specs.Finding.{AddsItem, AddsKernel, AddsProds, AddsStart, HasNone, IsCounted};
+
     // No rule.
     fn new(alloc: Global, grm: &YaccGrammar<StorageT>) -> Result<Self, AllocError>
-        ensures links { IfOk result (λ found. links_of StorageT.index found.links.items ≡ []) }
-        ensures marks { IfOk result (λ found. found.marks.items ≡ replicate (rules_len grm.now) false) }
+        ensures { IfOk result (HasNone StorageT.index grm.now) }
     {
         let marks = vec![in alloc; false; grm.rules_len()]?;
         Ok(Found {
@@ -74,12 +73,8 @@ impl<StorageT: StorageIndex> Found<StorageT> {
         state: StIdx<StorageT>,
     ) -> Result<(), AllocError>
         requires state { StorageT.index state.0 < graph_len checked.now.graph }
-        requires counted { AreCounted checked.now.grammar (links_of StorageT.index self.old.links.items) self.old.marks.items }
-        ensures counted { OnOk result (AreCounted checked.now.grammar (links_of StorageT.index self.new.links.items) self.new.marks.items) }
-        ensures grows { let g = checked.now.grammar in let s = StorageT.index state.0 in let own = IsOwnCore g checked.now.graph checked.now.table s in
-            OnOk result (AreFound g own (links_of StorageT.index self.old.links.items) self.old.marks.items
-            → Grows g own (links_of StorageT.index self.old.links.items) (links_of StorageT.index self.new.links.items) self.new.marks.items
-            × ((p k : ℕ) → HasCore checked.now.graph s p k → 0 < k → HasRuleAfter g (links_of StorageT.index self.new.links.items) p k)) }
+        requires counted { IsCounted StorageT.index checked.now.grammar self.old }
+        ensures { OnOk result (AddsKernel StorageT.index checked.now state self.old self.new) }
     {
         let _table = checked.stable();
         let grm = checked.grm();
@@ -95,12 +90,8 @@ impl<StorageT: StorageIndex> Found<StorageT> {
         checked: &ParserData<StorageT>,
         state: StIdx<StorageT>,
     ) -> Result<(), AllocError>
-        requires counted { AreCounted checked.now.grammar (links_of StorageT.index self.old.links.items) self.old.marks.items }
-        ensures counted { OnOk result (AreCounted checked.now.grammar (links_of StorageT.index self.new.links.items) self.new.marks.items) }
-        ensures grows { let g = checked.now.grammar in let s = StorageT.index state.0 in let own = IsOwnCore g checked.now.graph checked.now.table s in
-            OnOk result (AreFound g own (links_of StorageT.index self.old.links.items) self.old.marks.items
-            → Grows g own (links_of StorageT.index self.old.links.items) (links_of StorageT.index self.new.links.items) self.new.marks.items
-            × (s ≡ checked.now.table.start → HasRuleAfter g (links_of StorageT.index self.new.links.items) (start_prod g) 0)) }
+        requires counted { IsCounted StorageT.index checked.now.grammar self.old }
+        ensures { OnOk result (AddsStart StorageT.index checked.now state self.old self.new) }
     {
         if usize::from(state) != usize::from(checked.stable().start_state()) {
             return Ok(());
@@ -118,13 +109,8 @@ impl<StorageT: StorageIndex> Found<StorageT> {
     ) -> Result<(), AllocError>
         requires formed { IsWellFormed grm.now }
         requires rule { StorageT.index rule.0 < rules_len grm.now }
-        requires counted { AreCounted grm.now (links_of StorageT.index self.old.links.items) self.old.marks.items }
-        ensures counted { OnOk result (AreCounted grm.now (links_of StorageT.index self.new.links.items) self.new.marks.items) }
-        ensures grows { OnOk result ((graph : Graph) (table : Table) (s : ℕ)
-            → AreFound grm.now (IsOwnCore grm.now graph table s) (links_of StorageT.index self.old.links.items) self.old.marks.items
-            → Contains (rules_in (links_of StorageT.index self.old.links.items)) (StorageT.index rule.0)
-            → Grows grm.now (IsOwnCore grm.now graph table s) (links_of StorageT.index self.old.links.items) (links_of StorageT.index self.new.links.items) self.new.marks.items
-            × IsClosedAt grm.now (links_of StorageT.index self.new.links.items) (StorageT.index rule.0)) }
+        requires counted { IsCounted StorageT.index grm.now self.old }
+        ensures { OnOk result (AddsProds StorageT.index grm.now rule self.old self.new) }
     {
         for prod in grm.rule_to_prods(rule) {
             self.add(grm, *prod, 0)?;
@@ -143,8 +129,7 @@ impl<StorageT: StorageIndex> Found<StorageT> {
         requires prod { StorageT.index prod.0 < prods_len grm.now }
         requires dot { dot ≤ prod_len grm.now (StorageT.index prod.0) }
         requires marks { length self.old.marks.items ≡ rules_len grm.now }
-        ensures { OnOk result (IsAdded grm.now (StorageT.index prod.0) dot (links_of StorageT.index self.old.links.items) self.old.marks.items
-            (links_of StorageT.index self.new.links.items) self.new.marks.items) }
+        ensures { OnOk result (AddsItem StorageT.index grm.now prod dot self.old self.new) }
     {
         let Some((rule, _)) = rule_after(grm, prod, dot) else {
             return Ok(());

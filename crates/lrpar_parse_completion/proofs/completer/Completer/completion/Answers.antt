@@ -15,10 +15,8 @@ returns-then-is_empty g c =
     let index = g.StorageT.StorageIndex.index in
     let stack = c.args.stack.now in
     let none : length stack ≡ 0 = eqb-true (length stack) 0 (sym c.is_empty.ensures ∙ c.if-is_empty.true) in
-    record {
-      completion = λ can is.
-          absurd (no_stack c.args.self.now.data.now.table (states_of index stack) (length-map stack (λ x. index x.0) ∙ none) is);
-    }
+    λ can is.
+    absurd (no_stack c.args.self.now.data.now.table (states_of index stack) (length-map stack (λ x. index x.0) ∙ none) is)
 
 pub returns-then-not-has_state : goal.returns-then-not-has_state
 returns-then-not-has_state g c =
@@ -28,11 +26,9 @@ returns-then-not-has_state g c =
     let top = c.index-stack-place.result in
     let some = eqb-false (length stack) 0 (sym c.is_empty.ensures ∙ c.if-is_empty.false) in
     let at = state_at index stack (length stack - 1) top (omega arith) c.index-stack-place.is in
-    record {
-      completion = λ can is.
-          let yes = c.has_state.ensures.1 (state_known d c.stable-table.ensures.checked (states_of index stack) is (length stack - 1) (index top.0) at) in
-          absurd (cc);
-    }
+    λ can is.
+    let yes = c.has_state.ensures.1 (state_known d c.stable-table.ensures.checked (states_of index stack) is (length stack - 1) (index top.0) at) in
+    absurd (cc)
 
 pub returns-then-not-branch : goal.returns-then-not-branch
 returns-then-not-branch g c =
@@ -48,13 +44,11 @@ returns-then-not-branch g c =
     let k = c.kernel_core-dot.result.1 in
     let symbols : map (symbol_of index) c.prod.result.now ≡ symbols_of d.grammar p = rw c.grm-grm.ensures at c.prod.ensures in
     let rest = rest_of (symbol_of index) k c.prod.result.now (symbols_of d.grammar p) symbols in
-    record {
-      completion = λ can is.
-          let walked = stack_walked d c.stable-table.ensures.checked st is (length stack - 1) s at in
-          let trees = core_trees d c.stable-table.ensures.checked can s p k (c.has_state.ensures.0 c.if-not-has_state.false) walked (c.kernel_core-dot.ensures.kernel can).core in
-          let some = (rw c.grm-grm.ensures at c.in_ok-push_rest.ensures.some) (subst (HaveTrees d.grammar) (sym rest) trees) in
-          absurd (cc);
-    }
+    λ can is.
+    let walked = stack_walked d c.stable-table.ensures.checked st is (length stack - 1) s at in
+    let trees = core_trees d c.stable-table.ensures.checked can s p k (c.has_state.ensures.0 c.if-not-has_state.false) walked (c.kernel_core-dot.ensures.kernel can).core in
+    let some = (rw c.grm-grm.ensures at c.in_ok-push_rest.ensures.some) (subst (HaveTrees d.grammar) (sym rest) trees) in
+    absurd (cc)
 
 pub items-init : goal.items-init
 items-init g c =
@@ -89,13 +83,11 @@ returns-then-dot-eq0 g c =
     let l = c.items in
     let p = index l.prod.0 in
     let other : p ≢ start_prod d.grammar = λ is. c.items-test.true (c.from.ensures ∙ is ∙ sym (c.from-start.ensures ∙ rw c.grm.ensures at c.start_prod.ensures.number)) in
-    record {
-      completion = λ can is.
-          elim (l.invariant.completing can is).kernel.begun as (λ _. ⊥) [
-            | inl past ↦ omega (arith, past, c.if-dot-eq0.true)
-            | inr start ↦ other start
-          ];
-    }
+    λ can is.
+    elim (l.invariant.completing can is).kernel.begun as (λ _. ⊥) [
+      | inl past ↦ omega (arith, past, c.if-dot-eq0.true)
+      | inr start ↦ other start
+    ]
 
 pub returns-then-place-dot : goal.returns-then-place-dot
 returns-then-place-dot g c =
@@ -105,11 +97,9 @@ returns-then-place-dot g c =
     let l = c.items in
     let p = index l.prod.0 in
     let tokens = tokens_of index l.tokens.items in
-    record {
-      completion = λ can is.
-          let deep = completing_deep d c.stable-table.ensures.checked st is l.place p l.dot tokens (l.invariant.completing can is) in
-          absurd (omega (arith, deep, c.if-place-dot.true));
-    }
+    λ can is.
+    let deep = completing_deep d c.stable-table.ensures.checked st is l.place p l.dot tokens (l.invariant.completing can is) in
+    absurd (omega (arith, deep, c.if-place-dot.true))
 
 pub returns-then-not-has_state-2 : goal.returns-then-not-has_state-2
 returns-then-not-has_state-2 g c =
@@ -122,11 +112,9 @@ returns-then-not-has_state-2 g c =
     let inside = l.invariant.within in
     let n = l.place - l.dot in
     let at = state_at index stack n base (omega (arith, inside, length-map stack (λ x. index x.0))) c.index-stack-place-in-items.is in
-    record {
-      completion = λ can is.
-          let yes = c.has_state-in-items.ensures.1 (state_known d c.stable-table.ensures.checked st is n (index base.0) at) in
-          absurd (cc);
-    }
+    λ can is.
+    let yes = c.has_state-in-items.ensures.1 (state_known d c.stable-table.ensures.checked st is n (index base.0) at) in
+    absurd (cc)
 
 pub returns-in_default : goal.returns-in_default
 returns-in_default g c =
@@ -141,13 +129,11 @@ returns-in_default g c =
     let n = l.place - l.dot in
     let at = state_at index stack n base (omega (arith, inside, length-map stack (λ x. index x.0))) c.index-stack-place-in-items.is in
     let other : p ≢ start_prod d.grammar = λ is. c.items-test.true (c.from.ensures ∙ is ∙ sym (c.from-start.ensures ∙ rw c.grm.ensures at c.start_prod.ensures.number)) in
-    record {
-      completion = λ can is.
-          let core = completing_base d c.stable-table.ensures.checked st is l.place p l.dot (tokens_of index l.tokens.items) (l.invariant.completing can is) (index base.0) at in
-          let walked = stack_walked d c.stable-table.ensures.checked st is n (index base.0) at in
-          let none = (rw c.in_default.is at c.in_ok-next.ensures.some) can walked core other in
-          absurd (cc);
-    }
+    λ can is.
+    let core = completing_base d c.stable-table.ensures.checked st is l.place p l.dot (tokens_of index l.tokens.items) (l.invariant.completing can is) (index base.0) at in
+    let walked = stack_walked d c.stable-table.ensures.checked st is n (index base.0) at in
+    let none = (rw c.in_default.is at c.in_ok-next.ensures.some) (record { can = can; walked = walked; core = core; other = other }) in
+    absurd (cc)
 
 pub items-preserved : goal.items-preserved
 items-preserved g c =
@@ -183,10 +169,8 @@ returns g c =
     let l = c.items in
     let p = index l.prod.0 in
     let is_start : p ≡ start_prod d.grammar = sym c.from.ensures ∙ c.items-test.false ∙ c.from-start.ensures ∙ rw c.grm.ensures at c.start_prod.ensures.number in
-    record {
-      completion = λ can is.
-          completing_done d c.stable-table.ensures.checked st is l.place p l.dot (tokens_of index l.tokens.items) (l.invariant.completing can is) is_start;
-    }
+    λ can is.
+    completing_done d c.stable-table.ensures.checked st is l.place p l.dot (tokens_of index l.tokens.items) (l.invariant.completing can is) is_start
 
 pub offset_bounds-stack-place-in-items : goal.offset_bounds-stack-place-in-items
 offset_bounds-stack-place-in-items g c =

@@ -5,7 +5,7 @@ use Rattle.lrpar_grammar.specs.Grammar.{Nonterminal, prod_len, rule_of, symbols_
 use Rattle.lrpar_table_stacks.specs.Expected.{tokens_of}
 use Rattle.lrpar_parse_completion.specs.Waiting.{IsOwnCore, LinkOf, link_of, links_of, rules_in}
 use Rattle.lrpar_parse_completion.proofs.CompletesLemmas.{length_at}
-use Rattle.lrpar_parse_completion.proofs.FoundLemmas.{link_at}
+use Rattle.lrpar_parse_completion.proofs.FoundLemmas.{link_before}
 use Rattle.lrpar_parse_completion.proofs.OpenLemmas.{Climbs, climbs_none, climbs_on, climbs_out, later_link, link_trees, links_to, none_listed, not_last, opened_waits, own_begun, own_link}
 use Rattle.lrpar_parse_completion.proofs.completer.Completer.opened.Goals as goal
 
@@ -25,8 +25,8 @@ links-init g c =
     record {
       within = omega (arith, many);
       climbs = subst (λ (r : ℕ). Climbs grm d.graph d.table (rule_of grm p) r old old) (sym wanted) (climbs_none grm d.graph d.table (rule_of grm p) old);
-      listed = λ can walked core other.
-          let has = opened_waits d c.stable-table.ensures.checked can s p links c.requires.state c.in_ok-links.ensures core other in
+      listed = λ must.
+          let has = opened_waits d c.stable-table.ensures.checked must.can s p links c.requires.state c.in_ok-links.ensures must.core must.other in
           subst (λ (xs : List LinkOf). Contains (rules_in xs) w) (sym (take_all c.len-place.result links (omega (arith, many))))
           (subst (Contains (rules_in links)) (sym wanted) has);
     }
@@ -45,8 +45,7 @@ push_after-requires-clause-prod g c =
     let within = c.links.invariant.within in
     let link = c.index-link.result.now in
     let n = c.links.place - 1 in
-    let low : n < length found.items = omega (arith, within, length-map found.items (link_of index)) in
-    let at = link_at index found.items n link low c.index-link.ensures in
+    let at = link_before index found.items c.links.place link c.links-test.true within c.index-link.ensures in
     rw c.grm-grm.ensures (c.in_ok-links.ensures.each n (link_of index link) at).known
 
 pub returns-then-not-branch : goal.returns-then-not-branch
@@ -59,13 +58,12 @@ returns-then-not-branch g c =
     let within = c.links.invariant.within in
     let link = c.index-link.result.now in
     let n = c.links.place - 1 in
-    let low : n < length found.items = omega (arith, within, length-map found.items (link_of index)) in
-    let at = link_at index found.items n link low c.index-link.ensures in
+    let at = link_before index found.items c.links.place link c.links-test.true within c.index-link.ensures in
     let q = index link.prod.0 in
     record {
       opened = tt;
-      some = λ can walked core other.
-          let trees = link_trees d c.stable-table.ensures.checked can s (links_of index found.items) c.requires.state walked c.in_ok-links.ensures n (link_of index link) at in
+      some = λ must.
+          let trees = link_trees d c.stable-table.ensures.checked must.can s (links_of index found.items) c.requires.state must.walked c.in_ok-links.ensures n (link_of index link) at in
           let some = (rw c.grm-grm.ensures at c.in_ok-push_after.ensures.some) trees in
           absurd (cc);
     }
@@ -83,8 +81,7 @@ returns-then-is_kernel g c =
     let within = l.invariant.within in
     let link = c.index-link.result.now in
     let n = l.place - 1 in
-    let low : n < length found.items = omega (arith, within, length-map found.items (link_of index)) in
-    let at = link_at index found.items n link low c.index-link.ensures in
+    let at = link_before index found.items c.links.place link c.links-test.true within c.index-link.ensures in
     let is = c.in_ok-links.ensures.each n (link_of index link) at in
     let q = index link.prod.0 in
     let j = link.dot in
@@ -99,7 +96,7 @@ returns-then-is_kernel g c =
     let dot : j ≤ prod_len grm q = omega (arith, length_at (symbols_of grm q) j (Nonterminal (index link.rule.0)) is.rest is.waits) in
     record {
       opened = climbs_out grm d.graph d.table (rule_of grm p) (index link.rule.0) q j is.rest old mid new is.waits climbs pushed s is.known dot own;
-      some = λ can walked core other. refl;
+      some = λ must. refl;
     }
 
 pub links-preserved : goal.links-preserved
@@ -115,8 +112,7 @@ links-preserved g c =
     let within = l.invariant.within in
     let link = c.index-link.result.now in
     let n = l.place - 1 in
-    let low : n < length found.items = omega (arith, within, length-map found.items (link_of index)) in
-    let at = link_at index found.items n link low c.index-link.ensures in
+    let at = link_before index found.items c.links.place link c.links-test.true within c.index-link.ensures in
     let is = c.in_ok-links.ensures.each n (link_of index link) at in
     let q = index link.prod.0 in
     let j = link.dot in
@@ -133,7 +129,7 @@ links-preserved g c =
       within = omega (arith, within);
       climbs = subst (λ (r : ℕ). Climbs grm d.graph d.table (rule_of grm p) r old new) (sym next)
           (climbs_on grm d.graph d.table (rule_of grm p) (index link.rule.0) q j is.rest old mid new is.waits climbs pushed is.known later.0);
-      listed = λ can walked core other. subst (Contains (rules_in (take n links))) (sym next) later.1;
+      listed = λ must. subst (Contains (rules_in (take n links))) (sym next) later.1;
     }
 
 pub links-preserved-then-from : goal.links-preserved-then-from
@@ -145,8 +141,7 @@ links-preserved-then-from g c =
     let within = l.invariant.within in
     let link = c.index-link.result.now in
     let n = l.place - 1 in
-    let low : n < length found.items = omega (arith, within, length-map found.items (link_of index)) in
-    let at = link_at index found.items n link low c.index-link.ensures in
+    let at = link_before index found.items c.links.place link c.links-test.true within c.index-link.ensures in
     let w = index l.wanted.0 in
     let next : n + 1 ≡ l.place = omega (arith, c.links-test.true) in
     let whole : take l.place links ≡ take n links ++ link_of index link ∷ [] =
@@ -154,8 +149,8 @@ links-preserved-then-from g c =
     record {
       within = omega (arith, within);
       climbs = l.invariant.climbs;
-      listed = λ can walked core other.
-          not_last (take n links) (link_of index link) w (subst (λ (xs : List LinkOf). Contains (rules_in xs) w) whole (l.invariant.listed can walked core other))
+      listed = λ must.
+          not_last (take n links) (link_of index link) w (subst (λ (xs : List LinkOf). Contains (rules_in xs) w) whole (l.invariant.listed must))
           (λ same. c.if-from.true (c.from.ensures ∙ same ∙ sym c.from-in-links.ensures));
     }
 
@@ -166,7 +161,7 @@ returns g c =
     let l = c.links in
     record {
       opened = tt;
-      some = λ can walked core other. absurd (none_listed links l.place (index l.wanted.0) (omega (arith, c.links-test.false)) (l.invariant.listed can walked core other));
+      some = λ must. absurd (none_listed links l.place (index l.wanted.0) (omega (arith, c.links-test.false)) (l.invariant.listed must));
     }
 
 pub prod_to_rule-wanted-requires-in-links : goal.prod_to_rule-wanted-requires-in-links
@@ -177,8 +172,7 @@ prod_to_rule-wanted-requires-in-links g c =
     let within = c.links.invariant.within in
     let link = c.index-link.result.now in
     let n = c.links.place - 1 in
-    let low : n < length found.items = omega (arith, within, length-map found.items (link_of index)) in
-    let at = link_at index found.items n link low c.index-link.ensures in
+    let at = link_before index found.items c.links.place link c.links-test.true within c.index-link.ensures in
     rw c.grm-grm.ensures (c.in_ok-links.ensures.each n (link_of index link) at).known
 
 pub push_after-requires-clause-shortest : goal.push_after-requires-clause-shortest
@@ -193,8 +187,7 @@ push_after-requires-clause-dot g c =
     let within = c.links.invariant.within in
     let link = c.index-link.result.now in
     let n = c.links.place - 1 in
-    let low : n < length found.items = omega (arith, within, length-map found.items (link_of index)) in
-    let at = link_at index found.items n link low c.index-link.ensures in
+    let at = link_before index found.items c.links.place link c.links-test.true within c.index-link.ensures in
     let is = c.in_ok-links.ensures.each n (link_of index link) at in
     let q = index link.prod.0 in
     let dot : link.dot < prod_len grm q = omega (arith, length_at (symbols_of grm q) link.dot (Nonterminal (index link.rule.0)) is.rest is.waits) in

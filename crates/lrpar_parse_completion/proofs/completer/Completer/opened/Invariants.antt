@@ -1,9 +1,8 @@
-use Rattle.std.proofs.Common.{◌≢◌, ◌≤◌, length, take}
+use Rattle.std.proofs.Common.{◌≤◌, length, take}
 use Rattle.std.specs.List.{Contains}
-use Rattle.lrpar_grammar.specs.Grammar.{rule_of, start_prod}
-use Rattle.lrpar_table_rows.specs.Graph.{HasCore}
+use Rattle.lrpar_grammar.specs.Grammar.{rule_of}
 use Rattle.lrpar_table_stacks.specs.Expected.{tokens_of}
-use Rattle.lrpar_parse_completion.specs.Opening.{CanComplete, IsWalkedTo}
+use Rattle.lrpar_parse_completion.specs.Opening.{MustOpen}
 use Rattle.lrpar_parse_completion.specs.Waiting.{links_of, rules_in}
 use Rattle.lrpar_parse_completion.proofs.OpenLemmas.{Climbs}
 use Rattle.lrpar_parse_completion.proofs.completer.Completer.opened.Given as goal
@@ -18,8 +17,7 @@ invariant-links g l =
       within : l.place ≤ length links;
       climbs : Climbs d.grammar d.graph d.table (rule_of d.grammar (index l.fn.prod.0)) (index l.wanted.0)
           (tokens_of index l.fn.tokens.items) (tokens_of index l.tokens.items);
-      listed : CanComplete d → IsWalkedTo d.table (index l.fn.state.0) → HasCore d.graph (index l.fn.state.0) (index l.fn.prod.0) 0 → index l.fn.prod.0 ≢ start_prod d.grammar
-          → Contains (rules_in (take l.place links)) (index l.wanted.0);
+      listed : MustOpen d (index l.fn.state.0) (index l.fn.prod.0) → Contains (rules_in (take l.place links)) (index l.wanted.0);
     }
 
 abbrev pub decreases-links : goal.decreases-links

@@ -21,7 +21,7 @@ returns-in_default g c =
     let st = states_of index c.stack.result.now in
     let ready = subst (λ (o : Completer). IsReady MAX o.checked inside.shortest) c.self.view_is c.self.invariant in
     let same = ap (λ (o : Completer). o.checked) c.self.view_is in
-    let says = rw c.in_default.is at c.in_ok-tokens.ensures.completion in
+    let says = rw c.in_default.is at c.in_ok-tokens.ensures in
     let never = never_none token own MAX inside.shortest ready at stop inside.data.now st same c.stack.ensures.stack says in
     record { allowed = rw c.new-answer.ensures.items (completed_none token own MAX inside.shortest ready at stop never) }
 
@@ -37,7 +37,7 @@ returns-in_default-2 g c =
     let ready = subst (λ (o : Completer). IsReady MAX o.checked inside.shortest) c.self.view_is c.self.invariant in
     let same = ap (λ (o : Completer). o.checked) c.self.view_is in
     let tokens = tokens_of index c.in-Some.tokens.items in
-    let says = rw c.in-Some.is at c.in_ok-tokens.ensures.completion in
+    let says = rw c.in-Some.is at c.in_ok-tokens.ensures in
     let completion = completion_there token own MAX inside.shortest ready at stop inside.data.now st same c.stack.ensures.stack tokens says in
     let none = rw (c.in_default-2.is, c.deref.ensures.value) at c.in_ok-repair.ensures in
     record {
@@ -64,7 +64,7 @@ returns g c =
     let ready = subst (λ (o : Completer). IsReady MAX o.checked inside.shortest) c.self.view_is c.self.invariant in
     let same = ap (λ (o : Completer). o.checked) c.self.view_is in
     let tokens = tokens_of index c.in-Some.tokens.items in
-    let says = rw c.in-Some.is at c.in_ok-tokens.ensures.completion in
+    let says = rw c.in-Some.is at c.in_ok-tokens.ensures in
     let completion = completion_there token own MAX inside.shortest ready at stop inside.data.now st same c.stack.ensures.stack tokens says in
     let repair = c.in-Some-2.repair in
     let found = rw (c.in-Some-2.is, c.deref.ensures.value) at c.in_ok-repair.ensures in

@@ -53,12 +53,7 @@ returns-then-branch g c =
     let count = length-map stacks (λ v. states_of index v.items) in
     let some : l.inserted ≤ length tokens = omega (arith, count, c.requires.tried.some, c.loop-inserted-test.true) in
     let few : l.inserted ≤ c.args.self.now.most = omega (arith, count, c.requires.tried.few, c.loop-inserted-test.true) in
-    record {
-      first = (
-        fewest_here token at tokens c.args.place l.inserted states some fed (says.0 c.if-branch.true) l.invariant,
-        few,
-      );
-    }
+    (fewest_here token at tokens c.args.place l.inserted states some fed (says.0 c.if-branch.true) l.invariant, few)
 
 pub returns : goal.returns
 returns g c =
@@ -70,6 +65,4 @@ returns g c =
     let l = c.loop-inserted in
     let count : l.inserted ≡ length (stacks_of index stacks) = omega (arith, length-map stacks (λ v. states_of index v.items), c.loop-inserted-test.false) in
     let Before = NotBefore token at tokens c.args.place in
-    record {
-      first = none_goes_on token at tokens c.args.self.now.most c.args.place (stacks_of index stacks) c.requires.tried (subst Before count l.invariant);
-    }
+    none_goes_on token at tokens c.args.self.now.most c.args.place (stacks_of index stacks) c.requires.tried (subst Before count l.invariant)

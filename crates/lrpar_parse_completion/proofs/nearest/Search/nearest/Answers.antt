@@ -17,7 +17,7 @@ loop-place-preserved g c =
     let at = c.args.self.now.point.now in
     let tokens = tokens_of index c.args.self.now.tokens.now in
     let none = rw c.in_default.is at c.in_ok-inserted.ensures in
-    none_nearer_more token at tokens c.args.self.now.most c.loop-place.place c.loop-place.invariant none.first
+    none_nearer_more token at tokens c.args.self.now.most c.loop-place.place c.loop-place.invariant none
 
 pub returns-in-Some : goal.returns-in-Some
 returns-in-Some g c =
@@ -29,7 +29,7 @@ returns-in-Some g c =
     let found = rw c.in-Some.is at c.in_ok-inserted.ensures in
     let after : at.place ≤ j = omega arith in
     let low : j < length at.lexemes = rw (sym c.lexemes-place-end.ensures.lexemes) c.loop-place-test.true in
-    nearest_before token at tokens c.args.self.now.most j c.in-Some.inserted after low c.loop-place.invariant found.first.0 found.first.1
+    nearest_before token at tokens c.args.self.now.most j c.in-Some.inserted after low c.loop-place.invariant found.0 found.1
 
 pub returns-in_default-2 : goal.returns-in_default-2
 returns-in_default-2 g c = rw c.in_default-2.is at c.in_ok-inserted-2.ensures
