@@ -1,13 +1,10 @@
 //! Whether a table is complete: the conditions, each tested at one state.
-ghost use Rattle.std.specs.Prelude.{◌≡◌, ◌<◌, ◌≤◌, ◌+◌, ◌↔◌, ℕ, IfErr, IsTrue, MatchOption, OnOk, All, length};
-ghost use Rattle.lrpar_grammar.specs.Grammar.{IsWellFormed, prod_len, prods_len, tokens_len};
-ghost use Rattle.lrpar_table_first.specs.FirstRows.{rows_of};
-ghost use Rattle.lrpar_table_rows.specs.Graph.{HasCore};
+ghost use Rattle.std.specs.Prelude.{◌≡◌, ◌↔◌, IfErr, IsTrue, OnOk};
+ghost use Rattle.lrpar_grammar.specs.Grammar.{IsWellFormed};
 ghost use Rattle.lrpar_table_rows.specs.Safe.{HasShape};
-ghost use Rattle.lrpar_table_rows.specs.Table.{states_len};
-ghost use Rattle.lrpar_table_conditions.specs.Complete.{ClosesItem, EachItem, FailsFirstAt, HasStartItem, IsComplete, IsCompleteAt, IsCompleteFault, IsFirstFault};
-ghost use Rattle.lrpar_table_conditions.specs.Itemwise.{AreReady, ClosesAmong, EachOfCore, HaveRoomFor, IsKnown, ItemHolds};
+ghost use Rattle.lrpar_table_conditions.specs.Complete.{IsComplete, IsCompleteFault};
 ghost use Rattle.lrpar_table_conditions.specs.declared.completeness_fault.CompleteFault.TheVariants.{Memory};
+ghost use Rattle.lrpar_table_conditions.specs.Tested.{ClosesItems, ClosesItemsBy, CoreHolds, HasCoreIn, HasRoomIn, IsCompleteIn, IsFirstFaultIn, IsFirstIncomplete, IsReadyWith, IsStateIn, IsTestable, ItemsHold, StartsRight};
 
 mod cores;
 mod sets;
@@ -15,7 +12,7 @@ mod sets;
 use crate::completeness::CompletenessCondition;
 use crate::completeness_fault::CompleteFault;
 use lrpar_grammar::grammar::YaccGrammar;
-use lrpar_grammar::span::{PIdx, StIdx, StorageIndex, TIdx};
+use lrpar_grammar::span::{PIdx, StIdx, StorageIndex};
 use lrpar_grammar::token_set::TokenSet;
 use lrpar_table_first::first::first_sets;
 use lrpar_table_rows::table::{StateGraph, StateTable};
@@ -78,11 +75,9 @@ impl<'a, StorageT: StorageIndex> Completeness<'a, StorageT> {
 
     /// The first condition that fails, and the lowest state at which it fails. `sets` is scratch space.
     pub(crate) fn first_fault(&self, sets: &mut WorkSets) -> Option<(CompletenessCondition, usize)>
-        requires known { IsKnown self.now.grm.now self.now.sgraph.now self.now.stable.now (rows_of self.now.firsts.now) }
-        requires ready { AreReady self.now.grm.now sets.old }
-        ensures { let g = self.now.grm.now in let graph = self.now.sgraph.now in let table = self.now.stable.now in MatchOption result
-            (IsComplete g graph table)
-            (λ found. IsFirstFault g graph table found.0 found.1) }
+        requires known { IsTestable self.now }
+        requires ready { IsReadyWith self.now sets.old }
+        ensures { IsFirstFaultIn self.now result }
     {
         for condition in CompletenessCondition::ALL {
             if let Some(state) = self.first_incomplete(condition, sets) {
@@ -98,12 +93,10 @@ impl<'a, StorageT: StorageIndex> Completeness<'a, StorageT> {
         condition: CompletenessCondition,
         sets: &mut WorkSets,
     ) -> Option<usize>
-        requires known { IsKnown self.now.grm.now self.now.sgraph.now self.now.stable.now (rows_of self.now.firsts.now) }
-        requires ready { AreReady self.now.grm.now sets.old }
-        ensures ready { AreReady self.now.grm.now sets.new }
-        ensures found { let g = self.now.grm.now in let graph = self.now.sgraph.now in let table = self.now.stable.now in MatchOption result
-            ((s : ℕ) → s < states_len table → IsCompleteAt g graph table condition s)
-            (λ s. FailsFirstAt g graph table condition s) }
+        requires known { IsTestable self.now }
+        requires ready { IsReadyWith self.now sets.old }
+        ensures ready { IsReadyWith self.now sets.new }
+        ensures found { IsFirstIncomplete self.now condition result }
     {
         for s in 0..self.stable.states_len() {
             let state = StIdx(StorageT::from_index(s).unwrap());
@@ -121,11 +114,11 @@ impl<'a, StorageT: StorageIndex> Completeness<'a, StorageT> {
         s: StIdx<StorageT>,
         sets: &mut WorkSets,
     ) -> bool
-        requires known { IsKnown self.now.grm.now self.now.sgraph.now self.now.stable.now (rows_of self.now.firsts.now) }
-        requires state { StorageT.index s.0 < states_len self.now.stable.now }
-        requires ready { AreReady self.now.grm.now sets.old }
-        ensures ready { AreReady self.now.grm.now sets.new }
-        ensures test { IsTrue result ↔ IsCompleteAt self.now.grm.now self.now.sgraph.now self.now.stable.now condition (StorageT.index s.0) }
+        requires known { IsTestable self.now }
+        requires state { IsStateIn StorageT.index self.now s }
+        requires ready { IsReadyWith self.now sets.old }
+        ensures ready { IsReadyWith self.now sets.new }
+        ensures test { IsTrue result ↔ IsCompleteIn StorageT.index self.now condition s }
     {
         match condition {
             CompletenessCondition::C1 => self.has_start_item(s),
@@ -136,7 +129,7 @@ impl<'a, StorageT: StorageIndex> Completeness<'a, StorageT> {
 
     // C1: if the state is the start state, it has the start item `^: . S {end}`.
     fn has_start_item(&self, s: StIdx<StorageT>) -> bool
-        ensures { IsTrue result ↔ HasStartItem self.now.grm.now self.now.sgraph.now self.now.stable.now (StorageT.index s.0) }
+        ensures { IsTrue result ↔ StartsRight StorageT.index self.now s }
     {
         usize::from(s) != usize::from(self.stable.start_state())
             || self
@@ -147,12 +140,11 @@ impl<'a, StorageT: StorageIndex> Completeness<'a, StorageT> {
     // C2, closure: for each item of the state. The sets of items with dot 0 are empty before and after, so a state costs time for its
     // own items alone.
     fn closes_items(&self, s: StIdx<StorageT>, sets: &mut WorkSets) -> bool
-        requires known { IsKnown self.now.grm.now self.now.sgraph.now self.now.stable.now (rows_of self.now.firsts.now) }
-        requires state { StorageT.index s.0 < states_len self.now.stable.now }
-        requires ready { AreReady self.now.grm.now sets.old }
-        ensures ready { AreReady self.now.grm.now sets.new }
-        ensures test { IsTrue result ↔ EachItem self.now.sgraph.now (StorageT.index s.0)
-            (ClosesItem self.now.grm.now self.now.sgraph.now (StorageT.index s.0)) }
+        requires known { IsTestable self.now }
+        requires state { IsStateIn StorageT.index self.now s }
+        requires ready { IsReadyWith self.now sets.old }
+        ensures ready { IsReadyWith self.now sets.new }
+        ensures test { IsTrue result ↔ ClosesItems StorageT.index self.now s }
     {
         self.put_starts(s, &mut sets.starts);
         let closed = self.closes_each(s, sets);
@@ -163,13 +155,12 @@ impl<'a, StorageT: StorageIndex> Completeness<'a, StorageT> {
     // C2, closure: for each item of the state. The items with dot 0 are in `starts`, as the lookaheads of each production. The items of
     // one core are tested together.
     fn closes_each(&self, s: StIdx<StorageT>, sets: &mut WorkSets) -> bool
-        requires known { IsKnown self.now.grm.now self.now.sgraph.now self.now.stable.now (rows_of self.now.firsts.now) }
-        requires state { StorageT.index s.0 < states_len self.now.stable.now }
-        requires room { HaveRoomFor self.now.grm.now sets.old }
-        ensures room { HaveRoomFor self.now.grm.now sets.new }
+        requires known { IsTestable self.now }
+        requires state { IsStateIn StorageT.index self.now s }
+        requires room { HasRoomIn self.now sets.old }
+        ensures room { HasRoomIn self.now sets.new }
         ensures kept { sets.new.starts.items ≡ sets.old.starts.items }
-        ensures test { IsTrue result ↔ EachItem self.now.sgraph.now (StorageT.index s.0)
-            (ClosesAmong self.now.grm.now (rows_of sets.old.starts.items)) }
+        ensures test { IsTrue result ↔ ClosesItemsBy StorageT.index self.now s sets.old.starts.items }
     {
         for (pidx, dot) in self.sgraph.cores(s) {
             if !self.closes_core(s, *pidx, *dot, sets) {
@@ -181,10 +172,9 @@ impl<'a, StorageT: StorageIndex> Completeness<'a, StorageT> {
 
     // C3, C4 and C5: for each item of the state.
     fn items_hold(&self, condition: CompletenessCondition, s: StIdx<StorageT>) -> bool
-        requires known { IsKnown self.now.grm.now self.now.sgraph.now self.now.stable.now (rows_of self.now.firsts.now) }
-        requires state { StorageT.index s.0 < states_len self.now.stable.now }
-        ensures { IsTrue result ↔ EachItem self.now.sgraph.now (StorageT.index s.0)
-            (ItemHolds self.now.grm.now self.now.sgraph.now self.now.stable.now condition (StorageT.index s.0)) }
+        requires known { IsTestable self.now }
+        requires state { IsStateIn StorageT.index self.now s }
+        ensures { IsTrue result ↔ ItemsHold StorageT.index self.now condition s }
     {
         for (pidx, dot) in self.sgraph.cores(s) {
             if !self.core_holds(condition, s, *pidx, *dot) {
@@ -202,11 +192,10 @@ impl<'a, StorageT: StorageIndex> Completeness<'a, StorageT> {
         pidx: PIdx<StorageT>,
         dot: usize,
     ) -> bool
-        requires known { IsKnown self.now.grm.now self.now.sgraph.now self.now.stable.now (rows_of self.now.firsts.now) }
-        requires state { StorageT.index s.0 < states_len self.now.stable.now }
-        requires core { HasCore self.now.sgraph.now (StorageT.index s.0) (StorageT.index pidx.0) dot }
-        ensures { let g = self.now.grm.now in let graph = self.now.sgraph.now in let table = self.now.stable.now in IsTrue result
-            ↔ EachOfCore graph (StorageT.index s.0) (StorageT.index pidx.0) dot (ItemHolds g graph table condition (StorageT.index s.0)) }
+        requires known { IsTestable self.now }
+        requires state { IsStateIn StorageT.index self.now s }
+        requires core { HasCoreIn StorageT.index self.now s pidx dot }
+        ensures { IsTrue result ↔ CoreHolds StorageT.index self.now condition s pidx dot }
     {
         match condition {
             CompletenessCondition::C1 | CompletenessCondition::C2 => true,

@@ -1,11 +1,10 @@
 //! The conditions that are tested entry by entry: of each action and each goto that a state stores.
-ghost use Rattle.std.specs.Prelude.{◌≡◌, ◌<◌, ◌↔◌, ℕ, IsTrue, Some};
-ghost use Rattle.lrpar_grammar.specs.Grammar.{GrammarSymbol, end_token, prods_len, start_prod};
-ghost use Rattle.lrpar_table_rows.specs.Graph.{HasCore};
+ghost use Rattle.std.specs.Prelude.{◌↔◌, IsTrue};
 ghost use Rattle.lrpar_table_rows.specs.PlainRows.{plain_action};
-ghost use Rattle.lrpar_table_rows.specs.Table.{IsActionWithin, TableAction, action_of, goto_of, states_len};
-ghost use Rattle.lrpar_table_rows.specs.Safe.{AcceptsOnlyAtEnd, GoesBy, HasShape, NeverShiftsEnd, ReducesComplete, StepsFromCores};
-ghost use Rattle.lrpar_table_conditions.specs.Entrywise.{AcceptHolds, ActionHolds, GotoHolds, IsInRange, ReduceHolds, ShiftHolds};
+ghost use Rattle.lrpar_table_rows.specs.Table.{IsActionWithin, states_len};
+ghost use Rattle.lrpar_table_rows.specs.Safe.{AcceptsOnlyAtEnd, NeverShiftsEnd, ReducesComplete, StepsFromCores};
+ghost use Rattle.lrpar_table_conditions.specs.Entrywise.{IsInRange};
+ghost use Rattle.lrpar_table_conditions.specs.Checked.{ActionsHold, GoesNeverBack, GotosHold, HasStartComplete, HoldsAt, IsEndToken, IsProdOf, IsShaped, IsStateOf, OneAcceptHolds, OneActionHolds, OneGotoHolds, OneReductionHolds, OneShiftHolds};
 
 use crate::checkable::Checkable;
 use lrpar_grammar::span::{PIdx, RIdx, StIdx, StorageIndex, Symbol, TIdx};
@@ -15,8 +14,8 @@ use lrpar_table_rows::table::Action;
 impl<'a, StorageT: StorageIndex> Checkable<'a, StorageT> {
     /// S3: the state doesn't shift the end token.
     pub fn never_shifts_end(&self, s: StIdx<StorageT>) -> bool
-        requires shape { HasShape self.now.grm.now self.now.sgraph.now self.now.stable.now }
-        requires state { StorageT.index s.0 < states_len self.now.stable.now }
+        requires shape { IsShaped self.now }
+        requires state { IsStateOf StorageT.index self.now s }
         ensures { IsTrue result ↔ NeverShiftsEnd self.now.grm.now self.now.stable.now (StorageT.index s.0) }
     {
         self.actions_hold(SafetyCondition::S3, s)
@@ -24,46 +23,45 @@ impl<'a, StorageT: StorageIndex> Checkable<'a, StorageT> {
 
     /// S4: the cores of kernel items of each state to which the state goes come from its own cores.
     pub fn steps_from_cores(&self, s: StIdx<StorageT>) -> bool
-        requires shape { HasShape self.now.grm.now self.now.sgraph.now self.now.stable.now }
-        requires state { StorageT.index s.0 < states_len self.now.stable.now }
-        ensures { IsTrue result ↔ StepsFromCores self.now.grm.now self.now.sgraph.now self.now.stable.now (StorageT.index s.0) }
+        requires shape { IsShaped self.now }
+        requires state { IsStateOf StorageT.index self.now s }
+        ensures { IsTrue result ↔ HoldsAt StorageT.index StepsFromCores self.now s }
     {
         self.actions_hold(SafetyCondition::S4, s) && self.gotos_hold(SafetyCondition::S4, s)
     }
 
     /// S5: the state reduces by complete cores alone, and not by the start production.
     pub fn reduces_complete(&self, s: StIdx<StorageT>) -> bool
-        requires shape { HasShape self.now.grm.now self.now.sgraph.now self.now.stable.now }
-        requires state { StorageT.index s.0 < states_len self.now.stable.now }
-        ensures { IsTrue result ↔ ReducesComplete self.now.grm.now self.now.sgraph.now self.now.stable.now (StorageT.index s.0) }
+        requires shape { IsShaped self.now }
+        requires state { IsStateOf StorageT.index self.now s }
+        ensures { IsTrue result ↔ HoldsAt StorageT.index ReducesComplete self.now s }
     {
         self.actions_hold(SafetyCondition::S5, s)
     }
 
     /// S7: the state accepts at the end token alone, and only if it has the start production's complete core.
     pub fn accepts_only_at_end(&self, s: StIdx<StorageT>) -> bool
-        requires shape { HasShape self.now.grm.now self.now.sgraph.now self.now.stable.now }
-        requires state { StorageT.index s.0 < states_len self.now.stable.now }
-        ensures { IsTrue result ↔ AcceptsOnlyAtEnd self.now.grm.now self.now.sgraph.now self.now.stable.now (StorageT.index s.0) }
+        requires shape { IsShaped self.now }
+        requires state { IsStateOf StorageT.index self.now s }
+        ensures { IsTrue result ↔ HoldsAt StorageT.index AcceptsOnlyAtEnd self.now s }
     {
         self.actions_hold(SafetyCondition::S7, s)
     }
 
     // Whether the state has no transition to the start state.
     pub(crate) fn goes_never_back(&self, s: StIdx<StorageT>) -> bool
-        requires shape { HasShape self.now.grm.now self.now.sgraph.now self.now.stable.now }
-        requires state { StorageT.index s.0 < states_len self.now.stable.now }
-        ensures { IsTrue result ↔ ((x : GrammarSymbol) → ¬ (GoesBy self.now.stable.now (StorageT.index s.0) x self.now.stable.now.start)) }
+        requires shape { IsShaped self.now }
+        requires state { IsStateOf StorageT.index self.now s }
+        ensures { IsTrue result ↔ GoesNeverBack StorageT.index self.now s }
     {
         self.actions_hold(SafetyCondition::S8, s) && self.gotos_hold(SafetyCondition::S8, s)
     }
 
     // Whether the condition holds of each action that the state stores.
     fn actions_hold(&self, condition: SafetyCondition, s: StIdx<StorageT>) -> bool
-        requires shape { HasShape self.now.grm.now self.now.sgraph.now self.now.stable.now }
-        requires state { StorageT.index s.0 < states_len self.now.stable.now }
-        ensures { let g = self.now.grm.now in let graph = self.now.sgraph.now in let table = self.now.stable.now in IsTrue result
-            ↔ ((t : ℕ) (action : TableAction) → action_of table (StorageT.index s.0) t ≡ action → ActionHolds g graph table condition (StorageT.index s.0) t action) }
+        requires shape { IsShaped self.now }
+        requires state { IsStateOf StorageT.index self.now s }
+        ensures { IsTrue result ↔ ActionsHold StorageT.index self.now condition s }
     {
         let (tokens, actions) = self.stable.actions_of(s);
         for (place, token) in tokens.iter().enumerate() {
@@ -82,12 +80,11 @@ impl<'a, StorageT: StorageIndex> Checkable<'a, StorageT> {
         token: TIdx<StorageT>,
         action: Action<StorageT>,
     ) -> bool
-        requires shape { HasShape self.now.grm.now self.now.sgraph.now self.now.stable.now }
-        requires state { StorageT.index s.0 < states_len self.now.stable.now }
+        requires shape { IsShaped self.now }
+        requires state { IsStateOf StorageT.index self.now s }
         requires within { IsActionWithin (states_len self.now.stable.now) (plain_action StorageT.index action) }
         requires named { IsInRange self.now.grm.now (plain_action StorageT.index action) }
-        ensures { IsTrue result ↔ ActionHolds self.now.grm.now self.now.sgraph.now self.now.stable.now condition (StorageT.index s.0)
-            (StorageT.index token.0) (plain_action StorageT.index action) }
+        ensures { IsTrue result ↔ OneActionHolds StorageT.index self.now condition s token action }
     {
         match action {
             Action::Shift(next) => self.shift_holds(condition, s, token, next),
@@ -105,11 +102,10 @@ impl<'a, StorageT: StorageIndex> Checkable<'a, StorageT> {
         token: TIdx<StorageT>,
         next: StIdx<StorageT>,
     ) -> bool
-        requires shape { HasShape self.now.grm.now self.now.sgraph.now self.now.stable.now }
-        requires state { StorageT.index s.0 < states_len self.now.stable.now }
-        requires next { StorageT.index next.0 < states_len self.now.stable.now }
-        ensures { IsTrue result ↔ ShiftHolds self.now.grm.now self.now.sgraph.now self.now.stable.now condition (StorageT.index s.0)
-            (StorageT.index token.0) (StorageT.index next.0) }
+        requires shape { IsShaped self.now }
+        requires state { IsStateOf StorageT.index self.now s }
+        requires next { IsStateOf StorageT.index self.now next }
+        ensures { IsTrue result ↔ OneShiftHolds StorageT.index self.now condition s token next }
     {
         match condition {
             SafetyCondition::S3 => !self.is_end(token),
@@ -126,10 +122,10 @@ impl<'a, StorageT: StorageIndex> Checkable<'a, StorageT> {
         s: StIdx<StorageT>,
         pidx: PIdx<StorageT>,
     ) -> bool
-        requires shape { HasShape self.now.grm.now self.now.sgraph.now self.now.stable.now }
-        requires state { StorageT.index s.0 < states_len self.now.stable.now }
-        requires prod { StorageT.index pidx.0 < prods_len self.now.grm.now }
-        ensures { IsTrue result ↔ ReduceHolds self.now.grm.now self.now.sgraph.now condition (StorageT.index s.0) (StorageT.index pidx.0) }
+        requires shape { IsShaped self.now }
+        requires state { IsStateOf StorageT.index self.now s }
+        requires prod { IsProdOf StorageT.index self.now pidx }
+        ensures { IsTrue result ↔ OneReductionHolds StorageT.index self.now condition s pidx }
     {
         match condition {
             SafetyCondition::S5 => self.is_complete(s, pidx),
@@ -144,9 +140,9 @@ impl<'a, StorageT: StorageIndex> Checkable<'a, StorageT> {
         s: StIdx<StorageT>,
         token: TIdx<StorageT>,
     ) -> bool
-        requires shape { HasShape self.now.grm.now self.now.sgraph.now self.now.stable.now }
-        requires state { StorageT.index s.0 < states_len self.now.stable.now }
-        ensures { IsTrue result ↔ AcceptHolds self.now.grm.now self.now.sgraph.now condition (StorageT.index s.0) (StorageT.index token.0) }
+        requires shape { IsShaped self.now }
+        requires state { IsStateOf StorageT.index self.now s }
+        ensures { IsTrue result ↔ OneAcceptHolds StorageT.index self.now condition s token }
     {
         match condition {
             SafetyCondition::S7 => self.accepts_complete(s, token),
@@ -156,20 +152,18 @@ impl<'a, StorageT: StorageIndex> Checkable<'a, StorageT> {
 
     // Whether the token is the end token, and the state has the start production's complete core.
     fn accepts_complete(&self, s: StIdx<StorageT>, token: TIdx<StorageT>) -> bool
-        requires shape { HasShape self.now.grm.now self.now.sgraph.now self.now.stable.now }
-        requires state { StorageT.index s.0 < states_len self.now.stable.now }
-        ensures { IsTrue result ↔ ((StorageT.index token.0 ≡ end_token self.now.grm.now)
-            × HasCore self.now.sgraph.now (StorageT.index s.0) (start_prod self.now.grm.now) 1) }
+        requires shape { IsShaped self.now }
+        requires state { IsStateOf StorageT.index self.now s }
+        ensures { IsTrue result ↔ HasStartComplete StorageT.index self.now s token }
     {
         self.is_end(token) && self.sgraph.has_core(s, self.grm.start_prod(), 1)
     }
 
     // Whether the condition holds of each goto that the state stores.
     fn gotos_hold(&self, condition: SafetyCondition, s: StIdx<StorageT>) -> bool
-        requires shape { HasShape self.now.grm.now self.now.sgraph.now self.now.stable.now }
-        requires state { StorageT.index s.0 < states_len self.now.stable.now }
-        ensures { let g = self.now.grm.now in let graph = self.now.sgraph.now in let table = self.now.stable.now in IsTrue result
-            ↔ ((r next : ℕ) → goto_of table (StorageT.index s.0) r ≡ Some next → GotoHolds g graph table condition (StorageT.index s.0) r next) }
+        requires shape { IsShaped self.now }
+        requires state { IsStateOf StorageT.index self.now s }
+        ensures { IsTrue result ↔ GotosHold StorageT.index self.now condition s }
     {
         let (rules, states) = self.stable.gotos_of(s);
         for (place, rule) in rules.iter().enumerate() {
@@ -188,11 +182,10 @@ impl<'a, StorageT: StorageIndex> Checkable<'a, StorageT> {
         rule: RIdx<StorageT>,
         next: StIdx<StorageT>,
     ) -> bool
-        requires shape { HasShape self.now.grm.now self.now.sgraph.now self.now.stable.now }
-        requires state { StorageT.index s.0 < states_len self.now.stable.now }
-        requires next { StorageT.index next.0 < states_len self.now.stable.now }
-        ensures { IsTrue result ↔ GotoHolds self.now.grm.now self.now.sgraph.now self.now.stable.now condition (StorageT.index s.0)
-            (StorageT.index rule.0) (StorageT.index next.0) }
+        requires shape { IsShaped self.now }
+        requires state { IsStateOf StorageT.index self.now s }
+        requires next { IsStateOf StorageT.index self.now next }
+        ensures { IsTrue result ↔ OneGotoHolds StorageT.index self.now condition s rule next }
     {
         match condition {
             SafetyCondition::S4 => self.cores_follow(s, Symbol::Rule(rule), next),
@@ -203,7 +196,7 @@ impl<'a, StorageT: StorageIndex> Checkable<'a, StorageT> {
 
     // Whether the token is the end token.
     fn is_end(&self, token: TIdx<StorageT>) -> bool
-        ensures { IsTrue result ↔ (StorageT.index token.0 ≡ end_token self.now.grm.now) }
+        ensures { IsTrue result ↔ IsEndToken StorageT.index self.now token }
     {
         usize::from(token) == usize::from(self.grm.eof_token_idx())
     }

@@ -1,11 +1,10 @@
 //! S1: the shape of a table, and the items of its states.
-ghost use Rattle.std.specs.Prelude.{◌≡◌, ◌<◌, ◌↔◌, ℕ, IsTrue};
-ghost use Rattle.lrpar_grammar.specs.Grammar.{prods_len};
-ghost use Rattle.lrpar_table_rows.specs.Graph.{HasItem, graph_len};
+ghost use Rattle.std.specs.Prelude.{◌<◌, ◌↔◌, IsTrue};
+ghost use Rattle.lrpar_table_rows.specs.Graph.{graph_len};
 ghost use Rattle.lrpar_table_rows.specs.PlainRows.{plain_action};
-ghost use Rattle.lrpar_table_rows.specs.Table.{ReduceBy, action_of, states_len};
-ghost use Rattle.lrpar_table_rows.specs.Safe.{HasShape, IsItem};
+ghost use Rattle.lrpar_table_rows.specs.Safe.{IsItem};
 ghost use Rattle.lrpar_table_conditions.specs.Entrywise.{IsInRange};
+ghost use Rattle.lrpar_table_conditions.specs.Checked.{IsShaped, IsStateOf, ItemsAreInRange, ItemsAreInRangeAt, ItemsAreInRangeOf, ReductionsAreInRange, ReductionsAreInRangeAt};
 
 use crate::checkable::Checkable;
 use lrpar_grammar::span::{PIdx, StIdx, StorageIndex, TIdx};
@@ -14,7 +13,7 @@ use lrpar_table_rows::table::Action;
 impl<'a, StorageT: StorageIndex> Checkable<'a, StorageT> {
     /// S1: the shape.
     pub fn has_shape(&self) -> bool
-        ensures { IsTrue result ↔ HasShape self.now.grm.now self.now.sgraph.now self.now.stable.now }
+        ensures { IsTrue result ↔ IsShaped self.now }
     {
         self.sgraph.states_len() == self.stable.states_len()
             && self.stable.tokens_len() == self.grm.tokens_len()
@@ -25,7 +24,7 @@ impl<'a, StorageT: StorageIndex> Checkable<'a, StorageT> {
 
     // Whether each reduction is by a production of the grammar.
     fn reduces_are_in_range(&self) -> bool
-        ensures { IsTrue result ↔ ((s t p : ℕ) → action_of self.now.stable.now s t ≡ ReduceBy p → p < prods_len self.now.grm.now) }
+        ensures { IsTrue result ↔ ReductionsAreInRange self.now }
     {
         for s in 0..self.stable.states_len() {
             let state = StIdx(StorageT::from_index(s).unwrap());
@@ -38,8 +37,8 @@ impl<'a, StorageT: StorageIndex> Checkable<'a, StorageT> {
 
     // Whether each reduction of the state is by a production of the grammar.
     fn reduces_of_are_in_range(&self, s: StIdx<StorageT>) -> bool
-        requires { StorageT.index s.0 < states_len self.now.stable.now }
-        ensures { IsTrue result ↔ ((t p : ℕ) → action_of self.now.stable.now (StorageT.index s.0) t ≡ ReduceBy p → p < prods_len self.now.grm.now) }
+        requires { IsStateOf StorageT.index self.now s }
+        ensures { IsTrue result ↔ ReductionsAreInRangeAt StorageT.index self.now s }
     {
         let (tokens, actions) = self.stable.actions_of(s);
         for (place, _) in tokens.iter().enumerate() {
@@ -62,7 +61,7 @@ impl<'a, StorageT: StorageIndex> Checkable<'a, StorageT> {
 
     // Whether each item is of the grammar.
     fn items_are_in_range(&self) -> bool
-        ensures { IsTrue result ↔ ((s p k t : ℕ) → HasItem self.now.sgraph.now s p k t → IsItem self.now.grm.now p k t) }
+        ensures { IsTrue result ↔ ItemsAreInRange self.now }
     {
         for s in 0..self.sgraph.states_len() {
             let state = StIdx(StorageT::from_index(s).unwrap());
@@ -76,7 +75,7 @@ impl<'a, StorageT: StorageIndex> Checkable<'a, StorageT> {
     // Whether each item of the state is of the grammar.
     fn items_of_are_in_range(&self, s: StIdx<StorageT>) -> bool
         requires { StorageT.index s.0 < graph_len self.now.sgraph.now }
-        ensures { IsTrue result ↔ ((p k t : ℕ) → HasItem self.now.sgraph.now (StorageT.index s.0) p k t → IsItem self.now.grm.now p k t) }
+        ensures { IsTrue result ↔ ItemsAreInRangeAt StorageT.index self.now s }
     {
         for (pidx, dot) in self.sgraph.cores(s) {
             if !self.items_with_are_in_range(s, *pidx, *dot) {
@@ -88,8 +87,7 @@ impl<'a, StorageT: StorageIndex> Checkable<'a, StorageT> {
 
     // Whether each item of the state with the core is of the grammar.
     fn items_with_are_in_range(&self, s: StIdx<StorageT>, pidx: PIdx<StorageT>, dot: usize) -> bool
-        ensures { IsTrue result ↔ ((t : ℕ) → HasItem self.now.sgraph.now (StorageT.index s.0) (StorageT.index pidx.0) dot t
-            → IsItem self.now.grm.now (StorageT.index pidx.0) dot t) }
+        ensures { IsTrue result ↔ ItemsAreInRangeOf StorageT.index self.now s pidx dot }
     {
         for tidx in self.sgraph.lookaheads(s, pidx, dot) {
             if !self.is_item(pidx, dot, *tidx) {

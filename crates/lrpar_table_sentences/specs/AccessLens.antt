@@ -1,13 +1,22 @@
 -- Access strings as they are worked out: the steps of a table with the lengths of their symbols, and what is kept of states.
-use Rattle.std.specs.Prelude.{◌≡◌, ◌≢◌, ◌<◌, ◌≤◌, ◌↔◌, ℕ, Contains, List, [], ◌∷◌, ◌++◌, Option, Some, None, count_by, length, map, option_map}
+use Rattle.std.specs.Prelude.{◌≡◌, ◌≢◌, ◌<◌, ◌≤◌, ◌↔◌, ℕ, Contains, List, [], ◌∷◌, ◌++◌, All, MatchOption, Option, Some, None, count_by, length, map, option_map}
 use Rattle.std.specs.List.{flat_map, range_with_len}
 use Rattle.std.specs.Option.{is_none}
+use Rattle.std.specs.declared.vec.Vec.{Vec}
+use Rattle.std.below.core.specs.declared.int.usize.TheConstants.{MAX}
+use Rattle.lrpar_grammar_places.specs.declared.span.StIdx.{StIdx}
+use Rattle.lrpar_grammar_places.specs.declared.span.Symbol.{Symbol}
+use Rattle.lrpar_grammar_places.specs.declared.span.TIdx.{TIdx}
 use Rattle.lrpar_grammar.specs.Grammar.{GrammarSymbol, Nonterminal, Terminal}
+use Rattle.lrpar_grammar.specs.Symbols.{symbol_of}
+use Rattle.lrpar_table_rows.specs.PlainRows.{plain_action}
 use Rattle.lrpar_table_rows.specs.Safe.{GoesBy}
 use Rattle.lrpar_table_rows.specs.Table.{Table, TableAction, ShiftTo, ReduceBy, Accepts, Fails, action_of, actions_at, goto_of, gotos_at, states_len}
 use Rattle.lrpar_table_sentences.specs.Choices.{ChoiceOf}
 use Rattle.lrpar_table_sentences.specs.Lens.{added, len_at, total_len}
-use Rattle.lrpar_table_sentences.specs.AccessStrings.{GoBack, StepOf, AccessOf, step_of, symbols_in, access_at}
+use Rattle.lrpar_table_rows.specs.declared.rows.Action.{Action}
+use Rattle.lrpar_table_sentences.specs.AccessStrings.{GoBack, StepOf, AccessOf, step_of, symbols_in, access_at, accesses_of}
+use Rattle.lrpar_table_sentences.specs.declared.transitions.Access.{Access}
 use Rattle.lrpar_table_sentences.specs.declared.transitions.Edge.{Edge}
 
 -- a step, the state that it leads to, and the length of its symbol
@@ -49,10 +58,17 @@ pub record AreEdges (table : Table) (choices : List (Option ChoiceOf)) (edges : 
   pub all : (s next len : ℕ) (x : GrammarSymbol) → s < states_len table → GoesBy table s x next → len_at choices x ≡ Some len
       → Contains edges (record { step = record { from = s; symbol = x }; next = next; len = len })
 
--- the entries that are stored for state s are its actions and gotos
+-- the actions that are stored for state s are its own, and so are the gotos
+abbrev pub StoresActions : Table → ℕ → Type 0
+StoresActions table s = (t : ℕ) (action : TableAction) → Contains (actions_at table s) (t, action) ↔ ((action_of table s t ≡ action) × (action ≢ Fails))
+
+abbrev pub StoresGotos : Table → ℕ → Type 0
+StoresGotos table s = (r next : ℕ) → Contains (gotos_at table s) (r, next) ↔ (goto_of table s r ≡ Some next)
+
+-- and so are both
 pub record IsStoredAt (table : Table) (s : ℕ) : Type 0 where
-  pub actions : (t : ℕ) (action : TableAction) → Contains (actions_at table s) (t, action) ↔ ((action_of table s t ≡ action) × (action ≢ Fails))
-  pub gotos : (r next : ℕ) → Contains (gotos_at table s) (r, next) ↔ (goto_of table s r ≡ Some next)
+  pub actions : StoresActions table s
+  pub gotos : StoresGotos table s
 
 -- all steps of the states below n, state by state
 abbrev pub edges_at : Table → List (Option ChoiceOf) → ℕ → List EdgeOf
@@ -112,3 +128,70 @@ NoWalkIsBelow table most choices accesses len =
 -- how many states have nothing kept
 abbrev pub open_accesses : List (Option AccessOf) → ℕ
 open_accesses accesses = count_by is_none accesses
+
+-- these are appended to the code's steps: all of state s, its shifts, the step of one action at a token, its gotos, and one step if
+-- its symbol has a length
+abbrev pub AppendsSteps : {S A : Type 0} → (S → ℕ) → Table → List (Option ChoiceOf) → StIdx S → Vec (Edge S) A → Vec (Edge S) A → Type 0
+AppendsSteps index table choices s old new = edges_of index new.items ≡ edges_of index old.items ++ edges_at table choices (index s.0)
+
+abbrev pub AppendsShifts : {S A : Type 0} → (S → ℕ) → Table → List (Option ChoiceOf) → StIdx S → Vec (Edge S) A → Vec (Edge S) A → Type 0
+AppendsShifts index table choices s old new =
+    edges_of index new.items ≡ edges_of index old.items ++ shift_edges choices (index s.0) (actions_at table (index s.0))
+
+abbrev pub AppendsShift : {S A : Type 0} → (S → ℕ) → List (Option ChoiceOf) → StIdx S → TIdx S → Action S → Vec (Edge S) A → Vec (Edge S) A → Type 0
+AppendsShift index choices s token action old new =
+    edges_of index new.items ≡ edges_of index old.items ++ shift_edge choices (index s.0) (index token.0) (plain_action index action)
+
+abbrev pub AppendsGotos : {S A : Type 0} → (S → ℕ) → Table → List (Option ChoiceOf) → StIdx S → Vec (Edge S) A → Vec (Edge S) A → Type 0
+AppendsGotos index table choices s old new =
+    edges_of index new.items ≡ edges_of index old.items ++ goto_edges choices (index s.0) (gotos_at table (index s.0))
+
+abbrev pub AppendsStep : {S A : Type 0} → (S → ℕ) → List (Option ChoiceOf) → StIdx S → Symbol S → StIdx S → Vec (Edge S) A → Vec (Edge S) A → Type 0
+AppendsStep index choices from symbol next old new =
+    edges_of index new.items
+    ≡ edges_of index old.items ++ edge_if (len_at choices (symbol_of index symbol)) (index from.0) (symbol_of index symbol) (index next.0)
+
+-- the code's steps are those of the table
+abbrev pub AreSteps : {S : Type 0} → (S → ℕ) → Table → List (Option ChoiceOf) → List (Edge S) → Type 0
+AreSteps index table choices edges = AreEdges table choices (edges_of index edges)
+
+-- each leads to a state of which the code can keep something
+abbrev pub LeadWithin : {S : Type 0} → (S → ℕ) → List (Edge S) → List (Option (Access S)) → Type 0
+LeadWithin index edges accesses = All (λ edge. index edge.next.0 < length accesses) edges
+
+-- what the code keeps of states is right as far as it goes, with numbers of tokens capped at `usize::MAX`
+abbrev pub AccessesAreRight : {S : Type 0} → (S → ℕ) → Table → List (Option ChoiceOf) → List (Option (Access S)) → Type 0
+AccessesAreRight index table choices accesses = AreRightAccesses table MAX choices (accesses_of index accesses)
+
+-- an access string without a step is kept of the start state, and nothing of all others
+pub record OnlyStartIsKept {S : Type 0} (index : S → ℕ) (table : Table) (accesses : List (Option (Access S))) : Type 0 where
+  pub states : length accesses ≡ states_len table
+  pub start : access_at (accesses_of index accesses) table.start ≡ Some (record { len = 0; last = None })
+  pub others : (s : ℕ) → s ≢ table.start → access_at (accesses_of index accesses) s ≡ None
+
+-- the length of the access string by a step of the code, if it is open
+abbrev pub open_step_len : {S : Type 0} → (S → ℕ) → List (Option (Access S)) → Edge S → Option ℕ
+open_step_len index accesses edge = open_by MAX (accesses_of index accesses) (edge_of index edge)
+
+-- no step of the code is open
+abbrev pub AllAreSettled : {S : Type 0} → (S → ℕ) → List (Option (Access S)) → List (Edge S) → Type 0
+AllAreSettled index accesses edges = NoStepIsOpen MAX (accesses_of index accesses) (edges_of index edges)
+
+-- the least length of an open step, if there is one
+abbrev pub IsLeastOpenStep : {S : Type 0} → (S → ℕ) → List (Option (Access S)) → List (Edge S) → Option ℕ → Type 0
+IsLeastOpenStep index accesses edges least =
+    MatchOption least (AllAreSettled index accesses edges)
+    (λ len. HasOpenStep MAX (accesses_of index accesses) (edges_of index edges) len
+    × NoStepIsLess MAX (accesses_of index accesses) (edges_of index edges) len)
+
+-- if what is kept is right, and no walk to an open state has fewer tokens than `len`, then it stays right
+abbrev pub StayRight : {S : Type 0} → (S → ℕ) → List (Edge S) → List (Option (Access S)) → List (Option (Access S)) → ℕ → Type 0
+StayRight index edges old new len =
+    (table : Table) (choices : List (Option ChoiceOf)) → AreSteps index table choices edges → AccessesAreRight index table choices old
+    → NoWalkIsBelow table MAX choices (accesses_of index old) len → AccessesAreRight index table choices new
+
+-- if some open step has the length, fewer states have nothing kept than before
+abbrev pub FewerAreOpen : {S : Type 0} → (S → ℕ) → List (Edge S) → List (Option (Access S)) → List (Option (Access S)) → ℕ → Type 0
+FewerAreOpen index edges old new len =
+    HasOpenStep MAX (accesses_of index old) (edges_of index edges) len
+    → open_accesses (accesses_of index new) < open_accesses (accesses_of index old)

@@ -1,5 +1,8 @@
 -- Access strings of the states of a built table: paths of symbols from the start, with trees that fit the symbols.
-use Rattle.std.specs.Prelude.{◌≡◌, ◌<◌, ◌≤◌, ℕ, List, [], ◌∷◌, Option, Some, None, length, map, min, option_map, reverse, slice_index_or}
+use Rattle.std.specs.Prelude.{◌≡◌, ◌<◌, ◌≤◌, ℕ, List, [], ◌∷◌, ◌++◌, Option, Some, None, length, map, min, option_map, reverse, slice_index_or}
+use Rattle.std.specs.declared.vec.Vec.{Vec}
+use Rattle.std.below.core.specs.declared.int.usize.TheConstants.{MAX}
+use Rattle.lrpar_grammar_places.specs.declared.span.StIdx.{StIdx}
 use Rattle.lrpar_grammar.specs.Grammar.{Grammar, GrammarSymbol}
 use Rattle.lrpar_grammar.specs.Symbols.{symbol_of}
 use Rattle.lrpar_grammar.specs.Tree.{Forest}
@@ -88,3 +91,39 @@ pub record AreAccessStrings (g : Grammar) (graph : Graph) (table : Table) (most 
   pub lens : (s : ℕ) → s < graph_len graph → IsShortestAccessIfAny g graph most s (option_map (λ access. access.len) (access_at accesses s))
   pub paths : (s : ℕ) (access : AccessOf) → access_at accesses s ≡ Some access
       → (back : List StepOf) × GoBack accesses s back × IsShortestPath g graph table most s (reverse back)
+
+-- in each built table whose access strings these are, this is the least number of tokens that lead to the state, if any do
+abbrev pub IsLenTo : {S : Type 0} → (S → ℕ) → List (Option AccessOf) → StIdx S → Option ℕ → Type 0
+IsLenTo index accesses s len =
+    (g : Grammar) (graph : Graph) (table : Table) → AreAccessStrings g graph table MAX accesses
+    → index s.0 < graph_len graph → IsShortestAccessIfAny g graph MAX (index s.0) len
+
+-- and the steps of a path to the state are appended, if there is one
+abbrev pub AppendsPath : {S A : Type 0} → (S → ℕ) → List (Option AccessOf) → StIdx S → Vec (Step S) A → Vec (Step S) A → Type 0
+AppendsPath index accesses s old new =
+    (g : Grammar) (graph : Graph) (table : Table) → AreAccessStrings g graph table MAX accesses
+    → (access : AccessOf) → access_at accesses (index s.0) ≡ Some access
+    → (steps : List StepOf) × IsShortestPath g graph table MAX (index s.0) steps
+    × (steps_of index new.items ≡ steps_of index old.items ++ steps)
+
+-- what the code keeps of states are access strings, with numbers of tokens capped at `usize::MAX`
+abbrev pub AreAccesses : {S : Type 0} → (S → ℕ) → Grammar → Graph → Table → List (Option (Access S)) → Type 0
+AreAccesses index g graph table accesses = AreAccessStrings g graph table MAX (accesses_of index accesses)
+
+-- this is what the code keeps of the state; out of range, nothing
+abbrev pub IsAccessTo : {S : Type 0} → (S → ℕ) → List (Option (Access S)) → StIdx S → Option (Access S) → Type 0
+IsAccessTo index accesses s found = option_map (access_of index) found ≡ access_at (accesses_of index accesses) (index s.0)
+
+-- this is the last step that the code keeps of the state, if there is one
+abbrev pub IsLastStepTo : {S : Type 0} → (S → ℕ) → List (Option (Access S)) → StIdx S → Option (Step S) → Type 0
+IsLastStepTo index accesses s step = option_map (step_of index) step ≡ last_of (access_at (accesses_of index accesses) (index s.0))
+
+-- the steps that lead back from the state are appended
+abbrev pub AppendsBack : {S A : Type 0} → (S → ℕ) → List (Option (Access S)) → StIdx S → Vec (Step S) A → Vec (Step S) A → Type 0
+AppendsBack index accesses s old new =
+    (back : List StepOf) → GoBack (accesses_of index accesses) (index s.0) back
+    → steps_of index new.items ≡ steps_of index old.items ++ back
+
+-- the code keeps nothing of any state
+abbrev pub NoAccessIsKept : {S : Type 0} → (S → ℕ) → List (Option (Access S)) → Type 0
+NoAccessIsKept index accesses = (s : ℕ) → access_at (accesses_of index accesses) s ≡ None

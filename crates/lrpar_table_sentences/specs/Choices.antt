@@ -1,8 +1,10 @@
 -- What is kept of each productive rule: the length of its minimal sentences, and the production that the tree of one begins with.
 use Rattle.std.specs.Prelude.{◌≡◌, ◌<◌, ◌≤◌, ℕ, List, [], ◌∷◌, Option, Some, None, length, map, min, option_map, slice_index_or}
+use Rattle.std.below.core.specs.declared.int.usize.TheConstants.{MAX}
+use Rattle.lrpar_grammar_places.specs.declared.span.RIdx.{RIdx}
 use Rattle.lrpar_grammar.specs.Grammar.{Grammar, GrammarSymbol, Nonterminal, Terminal, prods_len, rule_of, rules_len, symbols_of}
 use Rattle.lrpar_grammar.specs.Tree.{Tree, Forest, Leaf, Branch, Nil, Cons}
-use Rattle.lrpar_table_sentences.specs.Texts.{IsTreeOf, width}
+use Rattle.lrpar_table_sentences.specs.Texts.{IsShortestIfAny, IsTreeOf, width}
 use Rattle.lrpar_table_sentences.specs.declared.settle.Choice.{Choice}
 
 -- a number of tokens, and a production
@@ -52,3 +54,23 @@ pub record AreRight (g : Grammar) (most : ℕ) (choices : List (Option ChoiceOf)
 pub record AreShortest (g : Grammar) (most : ℕ) (choices : List (Option ChoiceOf)) : Type 0 where
   pub right : AreRight g most choices
   pub all : (r : ℕ) → choice_at choices r ≡ None → (tree : Tree ℕ) → ¬ (IsTreeOf g (Nonterminal r) tree)
+
+-- in each grammar of which it is kept, this is the length of the symbols' minimal sentences, if there are any
+abbrev pub IsMinimalLen : List (Option ChoiceOf) → List GrammarSymbol → Option ℕ → Type 0
+IsMinimalLen choices symbols len = (g : Grammar) → AreShortest g MAX choices → IsShortestIfAny g MAX symbols len
+
+-- what the code keeps of rules is right as far as it goes, with numbers of tokens capped at `usize::MAX`
+abbrev pub RightSoFar : {S : Type 0} → (S → ℕ) → Grammar → List (Option (Choice S)) → Type 0
+RightSoFar index g choices = AreRight g MAX (choices_of index choices)
+
+-- and something is kept of each rule that has a tree
+abbrev pub AreShortestChoices : {S : Type 0} → (S → ℕ) → Grammar → List (Option (Choice S)) → Type 0
+AreShortestChoices index g choices = AreShortest g MAX (choices_of index choices)
+
+-- this is what the code keeps of the rule; out of range, nothing
+abbrev pub IsChoiceFor : {S : Type 0} → (S → ℕ) → List (Option (Choice S)) → RIdx S → Option (Choice S) → Type 0
+IsChoiceFor index choices rule found = option_map (choice_of index) found ≡ choice_at (choices_of index choices) (index rule.0)
+
+-- the code keeps nothing of any rule
+abbrev pub NoChoiceIsKept : {S : Type 0} → (S → ℕ) → List (Option (Choice S)) → Type 0
+NoChoiceIsKept index choices = (r : ℕ) → choice_at (choices_of index choices) r ≡ None

@@ -1,9 +1,14 @@
 -- Trees whose moves are still to be made: for each frame the rest of a production's symbols, and then its node; the innermost first.
-use Rattle.std.specs.Prelude.{◌≡◌, ◌<◌, ℕ, Bool, IsTrue, List, [], ◌∷◌, ◌++◌, Option, drop, map, reverse}
+use Rattle.std.specs.Prelude.{◌≡◌, ◌<◌, ◌+◌, ℕ, All, Bool, IsTrue, List, [], ◌∷◌, ◌++◌, MatchOption, Option, drop, map, reverse, vec_len}
+use Rattle.std.specs.declared.vec.Vec.{Vec}
+use Rattle.lrpar_grammar_places.specs.declared.span.Symbol.{Symbol}
 use Rattle.lrpar_grammar.specs.Grammar.{Grammar, GrammarSymbol, prods_len, symbols_of}
+use Rattle.lrpar_grammar.specs.Symbols.{symbol_of}
 use Rattle.lrpar_grammar.specs.Tree.{Tree, Forest}
-use Rattle.lrpar_table_sentences.specs.Choices.{ChoiceOf, Follows, ForestFollows}
-use Rattle.lrpar_table_sentences.specs.Moves.{MoveOf, Makes, forest_moves, moves_of}
+use Rattle.lrpar_table_sentences.specs.Choices.{RightSoFar, ChoiceOf, Follows, ForestFollows, choices_of}
+use Rattle.lrpar_table_sentences.specs.Moves.{MoveOf, Makes, forest_moves, moves_in, moves_of}
+use Rattle.lrpar_table_sentences.specs.declared.moves.Move.{Move}
+use Rattle.lrpar_table_sentences.specs.declared.settle.Choice.{Choice}
 use Rattle.lrpar_table_sentences.specs.declared.unfold.Frame.{Frame}
 
 -- a production, and how many of its symbols were done
@@ -23,6 +28,16 @@ frames_of index frames = reverse (map (frame_of index) frames)
 abbrev pub IsFrameOf : {S : Type 0} → (S → ℕ) → Grammar → Frame S → Type 0
 IsFrameOf index g x = index x.prod.0 < prods_len g
 
+-- and so is that of each frame
+abbrev pub AreFramesOf : {S A : Type 0} → (S → ℕ) → Grammar → Vec (Frame S) A → Type 0
+AreFramesOf index g frames = All (IsFrameOf index g) frames.items
+
+-- this is the symbol after the frame's dot, if there is one
+abbrev pub IsAfterDot : {S : Type 0} → (S → ℕ) → Grammar → Frame S → Option (Symbol S) → Type 0
+IsAfterDot index g frame symbol =
+    MatchOption symbol (drop frame.dot (symbols_of g (index frame.prod.0)) ≡ [])
+    (λ x. drop frame.dot (symbols_of g (index frame.prod.0)) ≡ symbol_of index x ∷ drop (frame.dot + 1) (symbols_of g (index frame.prod.0)))
+
 -- the moves of the frames: for each frame those of trees that follow the choices and fit the rest of its symbols, and then its
 -- node
 abbrev pub Unfold : Grammar → List (Option ChoiceOf) → List FrameOf → List MoveOf → Type 0
@@ -37,3 +52,36 @@ abbrev pub Begins : Grammar → List (Option ChoiceOf) → GrammarSymbol → Lis
 Begins g choices symbol old new before after derives =
     (tree : Tree ℕ) (rest : List MoveOf) → Follows g choices tree symbol → Unfold g choices old rest
     → IsTrue derives × ((todo : List MoveOf) × Unfold g choices new todo × (after ++ todo ≡ before ++ (moves_of tree ++ rest)))
+
+-- the same of the code's frames and moves, in each grammar
+abbrev pub BeginsSymbol : {S A B : Type 0} → (S → ℕ) → List (Option (Choice S)) → Symbol S → Vec (Frame S) A → Vec (Frame S) A
+    → Vec (Move S) B → Vec (Move S) B → Bool → Type 0
+BeginsSymbol index choices symbol old new before after = λ derives.
+    (g : Grammar) → Begins g (choices_of index choices) (symbol_of index symbol) (frames_of index old.items) (frames_of index new.items)
+    (moves_in index before.items) (moves_in index after.items) derives
+
+-- if the symbol derives something, one frame or one move is new
+abbrev pub OneIsNew : {S A B : Type 0} → Vec (Frame S) A → Vec (Frame S) A → Vec (Move S) B → Vec (Move S) B → Bool → Type 0
+OneIsNew old new before after = λ derives. IsTrue derives → vec_len after + vec_len new ≡ vec_len before + vec_len old + 1
+
+-- if what the code keeps is right, frames of a grammar stay such
+abbrev pub StayFrames : {S A : Type 0} → (S → ℕ) → List (Option (Choice S)) → Vec (Frame S) A → Vec (Frame S) A → Type 0
+StayFrames index choices old new = (g : Grammar) → RightSoFar index g choices → AreFramesOf index g old → AreFramesOf index g new
+
+-- the moves of the frames are appended
+abbrev pub AppendsFrames : {S A B : Type 0} → (S → ℕ) → Grammar → List (Option (Choice S)) → Vec (Frame S) A → Vec (Move S) B → Vec (Move S) B → Type 0
+AppendsFrames index g choices frames old new =
+    (moves : List MoveOf) → Unfold g (choices_of index choices) (frames_of index frames.items) moves
+    → moves_in index new.items ≡ moves_in index old.items ++ moves
+
+-- the moves of the tree that follows the choices and fits the symbol are appended
+abbrev pub AppendsTree : {S B : Type 0} → (S → ℕ) → Grammar → List (Option (Choice S)) → Symbol S → Vec (Move S) B → Vec (Move S) B → Type 0
+AppendsTree index g choices symbol old new =
+    (tree : Tree ℕ) → Follows g (choices_of index choices) tree (symbol_of index symbol)
+    → moves_in index new.items ≡ moves_in index old.items ++ moves_of tree
+
+-- and those of the trees that fit symbols
+abbrev pub AppendsTrees : {S B : Type 0} → (S → ℕ) → Grammar → List (Option (Choice S)) → List (Symbol S) → Vec (Move S) B → Vec (Move S) B → Type 0
+AppendsTrees index g choices symbols old new =
+    (trees : Forest ℕ) → ForestFollows g (choices_of index choices) trees (map (symbol_of index) symbols)
+    → moves_in index new.items ≡ moves_in index old.items ++ forest_moves trees

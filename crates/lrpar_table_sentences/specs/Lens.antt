@@ -1,10 +1,15 @@
 -- Lengths as they are worked out: sums that stop at a number, and the least one that is open.
-use Rattle.std.specs.Prelude.{◌≡◌, ◌<◌, ◌≤◌, ◌+◌, ℕ, List, [], ◌∷◌, Option, Some, None, count_by, min, option_map}
+use Rattle.std.specs.Prelude.{◌≡◌, ◌<◌, ◌≤◌, ◌+◌, ℕ, List, [], ◌∷◌, MatchOption, Option, Some, None, count_by, map, min, option_map}
 use Rattle.std.specs.Option.{is_none}
+use Rattle.std.below.core.specs.declared.int.usize.TheConstants.{MAX}
+use Rattle.lrpar_grammar_places.specs.declared.span.PIdx.{PIdx}
+use Rattle.lrpar_grammar_places.specs.declared.span.Symbol.{Symbol}
 use Rattle.lrpar_grammar.specs.Grammar.{Grammar, GrammarSymbol, Nonterminal, Terminal, prods_len, rule_of, symbols_of}
+use Rattle.lrpar_grammar.specs.Symbols.{symbol_of}
 use Rattle.lrpar_grammar.specs.Tree.{Tree}
-use Rattle.lrpar_table_sentences.specs.Choices.{ChoiceOf, choice_at}
+use Rattle.lrpar_table_sentences.specs.Choices.{ChoiceOf, choice_at, choices_of}
 use Rattle.lrpar_table_sentences.specs.Texts.{IsTreeOf, width}
+use Rattle.lrpar_table_sentences.specs.declared.settle.Choice.{Choice}
 
 -- the sum of two numbers, capped at `most`, if there are both
 abbrev pub added : ℕ → Option ℕ → Option ℕ → Option ℕ
@@ -56,3 +61,23 @@ NoneIsBelow g choices len = (r : ℕ) (tree : Tree ℕ) → choice_at choices r 
 -- how many rules have nothing kept
 abbrev pub open_in : List (Option ChoiceOf) → ℕ
 open_in choices = count_by is_none choices
+
+-- the length of a symbol, of symbols, and of a production that is open, by what the code keeps, capped at `usize::MAX`
+abbrev pub symbol_len : {S : Type 0} → (S → ℕ) → List (Option (Choice S)) → Symbol S → Option ℕ
+symbol_len index choices symbol = len_at (choices_of index choices) (symbol_of index symbol)
+
+abbrev pub symbols_len : {S : Type 0} → (S → ℕ) → List (Option (Choice S)) → List (Symbol S) → Option ℕ
+symbols_len index choices symbols = total_len MAX (choices_of index choices) (map (symbol_of index) symbols)
+
+abbrev pub open_prod_len : {S : Type 0} → (S → ℕ) → Grammar → List (Option (Choice S)) → PIdx S → Option ℕ
+open_prod_len index g choices prod = open_len g MAX (choices_of index choices) (index prod.0)
+
+-- the least length of an open production, if there is one
+abbrev pub IsLeastOpen : {S : Type 0} → (S → ℕ) → Grammar → List (Option (Choice S)) → Option ℕ → Type 0
+IsLeastOpen index g choices least =
+    MatchOption least (NoneIsOpen g MAX (choices_of index choices))
+    (λ len. HasOpen g MAX (choices_of index choices) len × NoneIsLess g MAX (choices_of index choices) len)
+
+-- if some open production has the length, fewer rules have nothing kept than before
+abbrev pub LeavesFewerOpen : {S : Type 0} → (S → ℕ) → Grammar → List (Option (Choice S)) → List (Option (Choice S)) → ℕ → Type 0
+LeavesFewerOpen index g old new len = HasOpen g MAX (choices_of index old) len → open_in (choices_of index new) < open_in (choices_of index old)

@@ -1,5 +1,6 @@
 pub mod Moves
 pub mod Texts
+pub mod Appended
 pub mod Choices
 pub mod Lens
 pub mod Frames

@@ -1,6 +1,9 @@
 -- The reachable rules of a grammar, and the unproductive ones among them.
-use Rattle.std.specs.Prelude.{◌≡◌, ◌<◌, ◌↔◌, ℕ, Bool, Contains, IsTrue, List, count_by, false, length, not, slice_index_or}
+use Rattle.std.specs.Prelude.{◌≡◌, ◌<◌, ◌↔◌, ℕ, Bool, Contains, IsTrue, List, MatchOption, Option, count_by, false, length, not, slice_index_or}
+use Rattle.lrpar_grammar_places.specs.declared.span.RIdx.{RIdx}
+use Rattle.lrpar_grammar_places.specs.declared.span.Symbol.{Symbol}
 use Rattle.lrpar_grammar.specs.Grammar.{Grammar, GrammarSymbol, Nonterminal, Terminal, prods_len, rule_of, rules_len, symbols_of}
+use Rattle.lrpar_grammar.specs.Symbols.{symbol_of}
 use Rattle.lrpar_grammar.specs.Tree.{Tree}
 use Rattle.lrpar_table_sentences.specs.Texts.{IsTreeOf}
 
@@ -32,6 +35,10 @@ pub record IsFirstUnproductive (g : Grammar) (r : ℕ) : Type 0 where
   pub unproductive : IsUnproductive g r
   pub first : (other : ℕ) → other < r → IsReachableRule g other → HasTree g other
 
+-- this is the first reachable rule that is unproductive; none if each one is productive
+abbrev pub IsFirstUnproductiveIfAny : {S : Type 0} → (S → ℕ) → Grammar → Option (RIdx S) → Type 0
+IsFirstUnproductiveIfAny index g found = MatchOption found (EachReachableHasTree g) (λ rule. IsFirstUnproductive g (index rule.0))
+
 -- whether rule r is marked; out of range, it isn't
 abbrev pub is_marked : List Bool → ℕ → Bool
 is_marked marks r = slice_index_or marks r false
@@ -59,3 +66,19 @@ pub record AreAllMarked (g : Grammar) (marks : List Bool) : Type 0 where
 -- how many rules aren't marked
 abbrev pub unmarked : List Bool → ℕ
 unmarked marks = count_by not marks
+
+-- fewer rules aren't marked than before
+abbrev pub MarksMore : List Bool → List Bool → Type 0
+MarksMore old new = unmarked new < unmarked old
+
+-- if the rule of a production is marked, so is each one on its right side: of each production
+abbrev pub AreClosedMarks : Grammar → List Bool → Type 0
+AreClosedMarks g marks = (p : ℕ) → p < prods_len g → MarksOn g marks p
+
+-- if the symbol is a rule, there is a mark for it
+abbrev pub HasMarkFor : {S : Type 0} → (S → ℕ) → List Bool → Symbol S → Type 0
+HasMarkFor index marks symbol = (r : ℕ) → symbol_of index symbol ≡ Nonterminal r → r < length marks
+
+-- in each grammar in which the symbol is reachable, the marks stay right
+abbrev pub StayMarks : {S : Type 0} → (S → ℕ) → Symbol S → List Bool → List Bool → Type 0
+StayMarks index symbol old new = (g : Grammar) → AreMarked g old → IsReachableSymbol g (symbol_of index symbol) → AreMarked g new

@@ -1,14 +1,23 @@
 -- How rules can begin with a token: of each that can, a production and the place in it at which the token comes.
 use Rattle.std.specs.Prelude.{◌≡◌, ◌<◌, ◌==◌, ◌+◌, ℕ, zero, suc, Bool, false, if◌then◌else◌, List, [], ◌∷◌, ◌++◌, Option, Some, None, count_by, length, map, option_map, slice_index_or}
 use Rattle.std.specs.Option.{is_none, is_some}
+use Rattle.std.specs.declared.vec.Vec.{Vec}
+use Rattle.std.below.core.specs.declared.int.usize.TheConstants.{MAX}
+use Rattle.lrpar_grammar_places.specs.declared.span.PIdx.{PIdx}
+use Rattle.lrpar_grammar_places.specs.declared.span.Symbol.{Symbol}
+use Rattle.lrpar_grammar_places.specs.declared.span.TIdx.{TIdx}
 use Rattle.lrpar_grammar.specs.Grammar.{Grammar, GrammarSymbol, Nonterminal, Terminal, prods_len, rule_of, rules_len, symbols_of}
+use Rattle.lrpar_grammar.specs.Symbols.{symbol_of}
 use Rattle.lrpar_grammar.specs.Tree.{Tree, Forest, Leaf, Branch, Nil, Cons}
-use Rattle.lrpar_table_sentences.specs.Choices.{ChoiceOf, Follows, ForestFollows}
-use Rattle.lrpar_table_sentences.specs.Frames.{FrameOf, Unfold}
+use Rattle.lrpar_table_sentences.specs.Choices.{RightSoFar, ChoiceOf, Follows, ForestFollows, choices_of}
+use Rattle.lrpar_table_sentences.specs.Frames.{FrameOf, Unfold, frames_of}
 use Rattle.lrpar_table_sentences.specs.Lens.{len_at, total_len}
-use Rattle.lrpar_table_sentences.specs.Moves.{MoveOf, moves_of}
+use Rattle.lrpar_table_sentences.specs.Moves.{MoveOf, forest_moves, moves_in, moves_of}
 use Rattle.lrpar_table_sentences.specs.Texts.{width}
 use Rattle.lrpar_table_sentences.specs.declared.begins.Start.{Start}
+use Rattle.lrpar_table_sentences.specs.declared.moves.Move.{Move}
+use Rattle.lrpar_table_sentences.specs.declared.settle.Choice.{Choice}
+use Rattle.lrpar_table_sentences.specs.declared.unfold.Frame.{Frame}
 
 -- a production, and a place in it
 pub record StartOf : Type 0 where
@@ -86,6 +95,42 @@ CanStart g most choices first starts p =
     (len place : ℕ) → total_len most choices (symbols_of g p) ≡ Some len → place_of choices starts first (symbols_of g p) ≡ Some place
     → (x : StartOf) × (start_at starts (rule_of g p) ≡ Some x)
 
+-- what the code keeps of rules is right, and so is how they can begin with the token
+pub record AreRightStarts {S : Type 0} (index : S → ℕ) (g : Grammar) (choices : List (Option (Choice S))) (first : TIdx S) (stored : List (Option (Start S))) : Type 0 where
+  pub right : RightSoFar index g choices
+  pub starts : AreStarts g (choices_of index choices) (index first.0) (starts_of index stored)
+
+-- if a production has a length and a place, its rule can begin
+abbrev pub CanStartBy : {S : Type 0} → (S → ℕ) → Grammar → List (Option (Choice S)) → TIdx S → List (Option (Start S)) → PIdx S → Type 0
+CanStartBy index g choices first starts prod = CanStart g MAX (choices_of index choices) (index first.0) (starts_of index starts) (index prod.0)
+
+-- that is so of each production
+abbrev pub AreAllStarts : {S : Type 0} → (S → ℕ) → Grammar → List (Option (Choice S)) → TIdx S → List (Option (Start S)) → Type 0
+AreAllStarts index g choices first starts = (p : ℕ) → p < prods_len g → CanStart g MAX (choices_of index choices) (index first.0) (starts_of index starts) p
+
+-- no rule can begin
+abbrev pub NoStartIsKept : {S : Type 0} → (S → ℕ) → List (Option (Start S)) → Type 0
+NoStartIsKept index starts = (r : ℕ) → start_at (starts_of index starts) r ≡ None
+
+-- this is how a symbol can begin, if it is a rule that can
+abbrev pub IsStartFor : {S : Type 0} → (S → ℕ) → List (Option (Start S)) → Symbol S → Option (Start S) → Type 0
+IsStartFor index starts symbol found = option_map (start_of index) found ≡ start_by (starts_of index starts) (symbol_of index symbol)
+
+-- whether a symbol of the code is the token, or a rule that can begin with it
+abbrev pub begins_with : {S : Type 0} → (S → ℕ) → List (Option (Start S)) → TIdx S → Symbol S → Bool
+begins_with index starts first symbol = begins (starts_of index starts) (index first.0) (symbol_of index symbol)
+
+-- the first place in symbols of the code that can begin with the token, if the symbols before it are nullable
+abbrev pub place_in_symbols : {S : Type 0} → (S → ℕ) → List (Option (Choice S)) → List (Option (Start S)) → TIdx S → List (Symbol S) → Option ℕ
+place_in_symbols index choices starts first symbols =
+    place_of (choices_of index choices) (starts_of index starts) (index first.0) (map (symbol_of index) symbols)
+
+-- that of a production, if its symbols are productive
+abbrev pub place_in_prod : {S : Type 0} → (S → ℕ) → Grammar → List (Option (Choice S)) → List (Option (Start S)) → TIdx S → PIdx S → Option ℕ
+place_in_prod index g choices starts first prod =
+    place_if (total_len MAX (choices_of index choices) (symbols_of g (index prod.0)))
+    (place_of (choices_of index choices) (starts_of index starts) (index first.0) (symbols_of g (index prod.0)))
+
 -- how many rules can't begin yet
 abbrev pub starts_open : List (Option StartOf) → ℕ
 starts_open starts = count_by is_none starts
@@ -95,3 +140,29 @@ abbrev pub Descends : Grammar → List (Option ChoiceOf) → List (Option StartO
 Descends g choices starts first s old new before after =
     (tree : Tree ℕ) (rest : List MoveOf) → Starts g choices starts first tree s → Unfold g choices old rest
     → (todo : List MoveOf) × Unfold g choices new todo × (after ++ todo ≡ before ++ (moves_of tree ++ rest))
+
+-- more rules can begin than before
+abbrev pub HasMoreStarts : {S : Type 0} → (S → ℕ) → List (Option (Start S)) → List (Option (Start S)) → Type 0
+HasMoreStarts index old new = starts_open (starts_of index new) < starts_open (starts_of index old)
+
+-- the moves of a tree of the symbol that begins with the token by the starts are appended
+abbrev pub AppendsStart : {S B : Type 0} → (S → ℕ) → Grammar → List (Option (Choice S)) → List (Option (Start S)) → TIdx S → Symbol S
+    → Vec (Move S) B → Vec (Move S) B → Type 0
+AppendsStart index g choices starts first symbol old new =
+    (tree : Tree ℕ) → Starts g (choices_of index choices) (starts_of index starts) (index first.0) tree (symbol_of index symbol)
+    → moves_in index new.items ≡ moves_in index old.items ++ moves_of tree
+
+-- and those of trees of symbols, if they have a place at which the token can come
+abbrev pub AppendsStarts : {S B : Type 0} → (S → ℕ) → Grammar → List (Option (Choice S)) → List (Option (Start S)) → TIdx S → List (Symbol S)
+    → Vec (Move S) B → Vec (Move S) B → Type 0
+AppendsStarts index g choices starts first symbols old new =
+    (k : ℕ) (trees : Forest ℕ) → place_in_symbols index choices starts first symbols ≡ Some k
+    → ForestStarts g (choices_of index choices) (starts_of index starts) (index first.0) k trees (map (symbol_of index) symbols)
+    → moves_in index new.items ≡ moves_in index old.items ++ forest_moves trees
+
+-- what is left of a tree, once its moves down to the first token are appended, is put into the frames
+abbrev pub DescendsTo : {S A B : Type 0} → (S → ℕ) → Grammar → List (Option (Choice S)) → List (Option (Start S)) → TIdx S → Symbol S
+    → Vec (Frame S) A → Vec (Frame S) A → Vec (Move S) B → Vec (Move S) B → Type 0
+DescendsTo index g choices starts first symbol old new before after =
+    Descends g (choices_of index choices) (starts_of index starts) (index first.0) (symbol_of index symbol) (frames_of index old.items)
+    (frames_of index new.items) (moves_in index before.items) (moves_in index after.items)

@@ -1,11 +1,8 @@
 //! Minimal access strings of the states of a built table.
-ghost use Rattle.std.specs.Prelude.{◌≡◌, ◌<◌, ◌++◌, List, IfOk, OnOk, option_map};
-ghost use Rattle.lrpar_grammar.specs.Grammar.{Grammar};
-ghost use Rattle.lrpar_table_rows.specs.Graph.{Graph, graph_len};
-ghost use Rattle.lrpar_table_rows.specs.Table.{Table};
+ghost use Rattle.std.specs.Prelude.{◌≡◌, List, IfOk, OnOk, option_map};
 ghost use Rattle.lrpar_table_build.specs.Built.{IsBuilt};
 ghost use Rattle.lrpar_table_sentences.specs.Choices.{AreShortest};
-ghost use Rattle.lrpar_table_sentences.specs.AccessStrings.{AreAccessStrings, IsShortestPath, IsShortestAccessIfAny, StepOf, AccessOf, steps_of, access_at};
+ghost use Rattle.lrpar_table_sentences.specs.AccessStrings.{AccessOf, AppendsPath, AreAccessStrings, IsLenTo, access_at};
 
 use crate::back::{access_to, push_back, reverse_from};
 use crate::settle_access::settled_accesses;
@@ -65,8 +62,7 @@ impl<StorageT: StorageIndex> AccessStrings<StorageT> {
     /// has an unproductive symbol.
     pub fn len_to(&self, s: StIdx<StorageT>) -> Option<usize>
         ensures len { result ≡ option_map (λ access. access.len) (access_at self.now (StorageT.index s.0)) }
-        ensures shortest { (g : Grammar) (graph : Graph) (table : Table) → AreAccessStrings g graph table usize.MAX self.now
-            → StorageT.index s.0 < graph_len graph → IsShortestAccessIfAny g graph usize.MAX (StorageT.index s.0) result }
+        ensures shortest { IsLenTo StorageT.index self.now s result }
     {
         match access_to(&self.accesses, s) {
             Some(access) => Some(access.len),
@@ -84,10 +80,7 @@ impl<StorageT: StorageIndex> AccessStrings<StorageT> {
         out: &mut Vec<Step<StorageT>>,
         s: StIdx<StorageT>,
     ) -> Result<(), AllocError>
-        ensures { OnOk result ((g : Grammar) (graph : Graph) (table : Table) → AreAccessStrings g graph table usize.MAX self.now
-            → (access : AccessOf) → access_at self.now (StorageT.index s.0) ≡ Some access
-            → (steps : List StepOf) × IsShortestPath g graph table usize.MAX (StorageT.index s.0) steps
-            × (steps_of StorageT.index out.new.items ≡ steps_of StorageT.index out.old.items ++ steps)) }
+        ensures { OnOk result (AppendsPath StorageT.index self.now s out.old out.new) }
     {
         let from = out.len();
         push_back(&self.accesses, out, s)?;

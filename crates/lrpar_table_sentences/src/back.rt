@@ -1,6 +1,6 @@
 //! The steps of an access string, back from its end.
-ghost use Rattle.std.specs.Prelude.{◌≡◌, ◌≤◌, ◌++◌, List, OnOk, drop, length, option_map, reverse, take, vec_len};
-ghost use Rattle.lrpar_table_sentences.specs.AccessStrings.{GoBack, StepOf, last_of, step_of, steps_of, access_at, access_of, accesses_of};
+ghost use Rattle.std.specs.Prelude.{◌≡◌, ◌≤◌, ◌++◌, OnOk, drop, length, reverse, take, vec_len};
+ghost use Rattle.lrpar_table_sentences.specs.AccessStrings.{AppendsBack, IsAccessTo, IsLastStepTo};
 
 use crate::transitions::{Access, Step};
 use lrpar_grammar::span::{StIdx, StorageIndex};
@@ -12,8 +12,7 @@ pub(crate) fn push_back<StorageT: StorageIndex>(
     out: &mut Vec<Step<StorageT>>,
     s: StIdx<StorageT>,
 ) -> Result<(), AllocError>
-    ensures steps { OnOk result ((back : List StepOf) → GoBack (accesses_of StorageT.index accesses.now) (StorageT.index s.0) back
-        → steps_of StorageT.index out.new.items ≡ steps_of StorageT.index out.old.items ++ back) }
+    ensures steps { OnOk result (AppendsBack StorageT.index accesses.now s out.old out.new) }
     ensures longer { vec_len out.old ≤ vec_len out.new }
 {
     let mut state = s;
@@ -37,7 +36,7 @@ fn last_step<StorageT: StorageIndex>(
     accesses: &[Option<Access<StorageT>>],
     s: StIdx<StorageT>,
 ) -> Option<Step<StorageT>>
-    ensures { option_map (step_of StorageT.index) result ≡ last_of (access_at (accesses_of StorageT.index accesses.now) (StorageT.index s.0)) }
+    ensures { IsLastStepTo StorageT.index accesses.now s result }
 {
     match access_to(accesses, s) {
         Some(access) => access.last,
@@ -50,7 +49,7 @@ pub(crate) fn access_to<StorageT: StorageIndex>(
     accesses: &[Option<Access<StorageT>>],
     s: StIdx<StorageT>,
 ) -> Option<Access<StorageT>>
-    ensures { option_map (access_of StorageT.index) result ≡ access_at (accesses_of StorageT.index accesses.now) (StorageT.index s.0) }
+    ensures { IsAccessTo StorageT.index accesses.now s result }
 {
     match accesses.get(usize::from(s)) {
         Some(access) => *access,

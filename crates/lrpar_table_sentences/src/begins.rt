@@ -1,11 +1,9 @@
 //! Trees of symbols that begin with a token.
-ghost use Rattle.std.specs.Prelude.{◌≡◌, ◌<◌, ℕ, IfOk, None, Some, length, map, option_map, slice_set};
+ghost use Rattle.std.specs.Prelude.{◌≡◌, ◌<◌, IfOk, Some, length, slice_set};
 ghost use Rattle.std.specs.Bool.{OnFalse, OnTrue};
-ghost use Rattle.lrpar_grammar.specs.Grammar.{prods_len, symbols_of};
-ghost use Rattle.lrpar_grammar.specs.Symbols.{symbol_of};
-ghost use Rattle.lrpar_table_sentences.specs.Choices.{AreRight, choices_of};
-ghost use Rattle.lrpar_table_sentences.specs.Lens.{total_len};
-ghost use Rattle.lrpar_table_sentences.specs.Starts.{AreStarts, CanStart, begins, place_if, place_of, start_at, start_by, start_of, starts_of, starts_open};
+ghost use Rattle.lrpar_grammar.specs.Grammar.{prods_len};
+ghost use Rattle.lrpar_table_sentences.specs.Choices.{RightSoFar};
+ghost use Rattle.lrpar_table_sentences.specs.Starts.{AreAllStarts, AreRightStarts, CanStartBy, HasMoreStarts, IsStartFor, NoStartIsKept, begins_with, place_in_prod, place_in_symbols};
 
 use crate::settle::{Choice, len_of, total_len};
 use lrpar_grammar::grammar::YaccGrammar;
@@ -26,10 +24,9 @@ pub(crate) fn starts<StorageT: StorageIndex>(
     choices: &[Option<Choice<StorageT>>],
     first: TIdx<StorageT>,
 ) -> Result<Vec<Option<Start<StorageT>>>, AllocError>
-    requires right { AreRight grm.now usize.MAX (choices_of StorageT.index choices.now) }
-    ensures right { IfOk result (λ starts. AreStarts grm.now (choices_of StorageT.index choices.now) (StorageT.index first.0) (starts_of StorageT.index starts.items)) }
-    ensures closed { IfOk result (λ starts. (p : ℕ) → p < prods_len grm.now
-        → CanStart grm.now usize.MAX (choices_of StorageT.index choices.now) (StorageT.index first.0) (starts_of StorageT.index starts.items) p) }
+    requires { RightSoFar StorageT.index grm.now choices.now }
+    ensures kept { IfOk result (λ starts. AreRightStarts StorageT.index grm.now choices.now first starts.items) }
+    ensures closed { IfOk result (λ starts. AreAllStarts StorageT.index grm.now choices.now first starts.items) }
 {
     let mut starts = no_starts(alloc, grm.rules_len())?;
     'passes: while grow_all(grm, choices, &mut starts, first) {}
@@ -42,7 +39,7 @@ fn no_starts<StorageT: StorageIndex>(
     rules: usize,
 ) -> Result<Vec<Option<Start<StorageT>>>, AllocError>
     ensures len { IfOk result (λ starts. length starts.items ≡ rules) }
-    ensures none { IfOk result (λ starts. (r : ℕ) → start_at (starts_of StorageT.index starts.items) r ≡ None) }
+    ensures none { IfOk result (λ starts. NoStartIsKept StorageT.index starts.items) }
 {
     let mut starts = Vec::with_capacity(alloc, rules)?;
     for _ in 0..rules {
@@ -58,12 +55,10 @@ fn grow_all<StorageT: StorageIndex>(
     starts: &mut [Option<Start<StorageT>>],
     first: TIdx<StorageT>,
 ) -> bool
-    requires right { AreRight grm.now usize.MAX (choices_of StorageT.index choices.now) }
-    requires starts { AreStarts grm.now (choices_of StorageT.index choices.now) (StorageT.index first.0) (starts_of StorageT.index starts.old) }
-    ensures starts { AreStarts grm.now (choices_of StorageT.index choices.now) (StorageT.index first.0) (starts_of StorageT.index starts.new) }
-    ensures grown { OnTrue result (starts_open (starts_of StorageT.index starts.new) < starts_open (starts_of StorageT.index starts.old)) }
-    ensures closed { OnFalse result ((p : ℕ) → p < prods_len grm.now
-        → CanStart grm.now usize.MAX (choices_of StorageT.index choices.now) (StorageT.index first.0) (starts_of StorageT.index starts.new) p) }
+    requires kept { AreRightStarts StorageT.index grm.now choices.now first starts.old }
+    ensures kept { AreRightStarts StorageT.index grm.now choices.now first starts.new }
+    ensures grown { OnTrue result (HasMoreStarts StorageT.index starts.old starts.new) }
+    ensures closed { OnFalse result (AreAllStarts StorageT.index grm.now choices.now first starts.new) }
 {
     let mut grown = false;
     for prod in 0..grm.prods_len() {
@@ -84,13 +79,11 @@ fn grow<StorageT: StorageIndex>(
     pidx: PIdx<StorageT>,
 ) -> bool
     requires prod { StorageT.index pidx.0 < prods_len grm.now }
-    requires right { AreRight grm.now usize.MAX (choices_of StorageT.index choices.now) }
-    requires starts { AreStarts grm.now (choices_of StorageT.index choices.now) (StorageT.index first.0) (starts_of StorageT.index starts.old) }
-    ensures starts { AreStarts grm.now (choices_of StorageT.index choices.now) (StorageT.index first.0) (starts_of StorageT.index starts.new) }
-    ensures grown { OnTrue result (starts_open (starts_of StorageT.index starts.new) < starts_open (starts_of StorageT.index starts.old)) }
+    requires kept { AreRightStarts StorageT.index grm.now choices.now first starts.old }
+    ensures kept { AreRightStarts StorageT.index grm.now choices.now first starts.new }
+    ensures grown { OnTrue result (HasMoreStarts StorageT.index starts.old starts.new) }
     ensures same { OnFalse result (starts.new ≡ starts.old) }
-    ensures closed { OnFalse result (CanStart grm.now usize.MAX (choices_of StorageT.index choices.now) (StorageT.index first.0)
-        (starts_of StorageT.index starts.new) (StorageT.index pidx.0)) }
+    ensures closed { OnFalse result (CanStartBy StorageT.index grm.now choices.now first starts.new pidx) }
 {
     let rule = grm.prod_to_rule(pidx);
     if begins_by(starts, Symbol::Rule(rule), first) {
@@ -126,8 +119,7 @@ fn start_place<StorageT: StorageIndex>(
     pidx: PIdx<StorageT>,
 ) -> Option<usize>
     requires { StorageT.index pidx.0 < prods_len grm.now }
-    ensures { result ≡ place_if (total_len usize.MAX (choices_of StorageT.index choices.now) (symbols_of grm.now (StorageT.index pidx.0)))
-        (place_of (choices_of StorageT.index choices.now) (starts_of StorageT.index starts.now) (StorageT.index first.0) (symbols_of grm.now (StorageT.index pidx.0))) }
+    ensures { result ≡ place_in_prod StorageT.index grm.now choices.now starts.now first pidx }
 {
     match total_len(choices, grm.prod(pidx)) {
         Some(_) => place_of(choices, starts, grm.prod(pidx), first),
@@ -142,8 +134,7 @@ pub(crate) fn place_of<StorageT: StorageIndex>(
     symbols: &[Symbol<StorageT>],
     first: TIdx<StorageT>,
 ) -> Option<usize>
-    ensures { result ≡ place_of (choices_of StorageT.index choices.now) (starts_of StorageT.index starts.now) (StorageT.index first.0)
-        (map (symbol_of StorageT.index) symbols.now) }
+    ensures { result ≡ place_in_symbols StorageT.index choices.now starts.now first symbols.now }
 {
     for (place, symbol) in symbols.iter().enumerate() {
         if begins_by(starts, *symbol, first) {
@@ -162,7 +153,7 @@ fn begins_by<StorageT: StorageIndex>(
     symbol: Symbol<StorageT>,
     first: TIdx<StorageT>,
 ) -> bool
-    ensures { result ≡ begins (starts_of StorageT.index starts.now) (StorageT.index first.0) (symbol_of StorageT.index symbol) }
+    ensures { result ≡ begins_with StorageT.index starts.now first symbol }
 {
     match symbol {
         Symbol::Token(token) => usize::from(token) == usize::from(first),
@@ -175,7 +166,7 @@ pub(crate) fn start_of<StorageT: StorageIndex>(
     starts: &[Option<Start<StorageT>>],
     symbol: Symbol<StorageT>,
 ) -> Option<Start<StorageT>>
-    ensures { option_map (start_of StorageT.index) result ≡ start_by (starts_of StorageT.index starts.now) (symbol_of StorageT.index symbol) }
+    ensures { IsStartFor StorageT.index starts.now symbol result }
 {
     match symbol {
         Symbol::Token(_) => None,

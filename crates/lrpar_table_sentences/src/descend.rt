@@ -1,12 +1,9 @@
 //! The moves of trees that begin with a token.
-ghost use Rattle.std.specs.Prelude.{◌≡◌, ◌<◌, ◌∷◌, ◌++◌, ℕ, All, IfOk, IfSome, IsSome, OnOk, Some, drop, length, map, take};
-ghost use Rattle.lrpar_grammar.specs.Symbols.{symbol_of};
-ghost use Rattle.lrpar_grammar.specs.Tree.{Forest, Tree};
-ghost use Rattle.lrpar_table_sentences.specs.Choices.{AreRight, AreShortest, choices_of};
-ghost use Rattle.lrpar_table_sentences.specs.Frames.{IsFrameOf, frames_of};
-ghost use Rattle.lrpar_table_sentences.specs.Moves.{forest_moves, moves_in, moves_of};
-ghost use Rattle.lrpar_table_sentences.specs.Starts.{AreStarts, Descends, ForestStarts, Starts, place_of, starts_of};
-ghost use Rattle.lrpar_table_sentences.specs.Texts.{BeginWith, CanBeginWith};
+ghost use Rattle.std.specs.Prelude.{◌≡◌, ◌<◌, ◌∷◌, IfSome, IsSome, OnOk, drop, length, take};
+ghost use Rattle.lrpar_table_sentences.specs.Appended.{AppendsTreesWith, CanStartWith};
+ghost use Rattle.lrpar_table_sentences.specs.Choices.{AreShortestChoices};
+ghost use Rattle.lrpar_table_sentences.specs.Frames.{AreFramesOf};
+ghost use Rattle.lrpar_table_sentences.specs.Starts.{AppendsStart, AppendsStarts, AreRightStarts, DescendsTo};
 
 use crate::begins::{Start, place_of, start_of, starts};
 use crate::moves::Move;
@@ -25,10 +22,9 @@ pub(crate) fn push_beginning<StorageT: StorageIndex>(
     symbols: &[Symbol<StorageT>],
     first: TIdx<StorageT>,
 ) -> Result<(), AllocError>
-    requires shortest { AreShortest grm.now usize.MAX (choices_of StorageT.index choices.now) }
-    requires some { CanBeginWith grm.now (map (symbol_of StorageT.index) symbols.now) (StorageT.index first.0) }
-    ensures { OnOk result ((trees : Forest ℕ) × BeginWith grm.now (map (symbol_of StorageT.index) symbols.now) (StorageT.index first.0) trees
-        × (moves_in StorageT.index out.new.items ≡ moves_in StorageT.index out.old.items ++ forest_moves trees)) }
+    requires shortest { AreShortestChoices StorageT.index grm.now choices.now }
+    requires some { CanStartWith StorageT.index grm.now symbols.now first }
+    ensures { OnOk result (AppendsTreesWith StorageT.index grm.now symbols.now first out.old out.new) }
 {
     let starts = starts(alloc, grm, choices, first)?;
     push_by(alloc, grm, choices, &starts, out, symbols, first)
@@ -44,13 +40,8 @@ fn push_by<StorageT: StorageIndex>(
     symbols: &[Symbol<StorageT>],
     first: TIdx<StorageT>,
 ) -> Result<(), AllocError>
-    requires right { AreRight grm.now usize.MAX (choices_of StorageT.index choices.now) }
-    requires starts { AreStarts grm.now (choices_of StorageT.index choices.now) (StorageT.index first.0) (starts_of StorageT.index starts.now) }
-    ensures { OnOk result ((k : ℕ) (trees : Forest ℕ)
-        → place_of (choices_of StorageT.index choices.now) (starts_of StorageT.index starts.now) (StorageT.index first.0) (map (symbol_of StorageT.index) symbols.now) ≡ Some k
-        → ForestStarts grm.now (choices_of StorageT.index choices.now) (starts_of StorageT.index starts.now) (StorageT.index first.0) k trees
-        (map (symbol_of StorageT.index) symbols.now)
-        → moves_in StorageT.index out.new.items ≡ moves_in StorageT.index out.old.items ++ forest_moves trees) }
+    requires { AreRightStarts StorageT.index grm.now choices.now first starts.now }
+    ensures { OnOk result (AppendsStarts StorageT.index grm.now choices.now starts.now first symbols.now out.old out.new) }
 {
     let Some(place) = place_of(choices, starts, symbols, first) else {
         return Ok(());
@@ -73,11 +64,8 @@ fn push_start<StorageT: StorageIndex>(
     symbol: Symbol<StorageT>,
     first: TIdx<StorageT>,
 ) -> Result<(), AllocError>
-    requires right { AreRight grm.now usize.MAX (choices_of StorageT.index choices.now) }
-    requires starts { AreStarts grm.now (choices_of StorageT.index choices.now) (StorageT.index first.0) (starts_of StorageT.index starts.now) }
-    ensures { OnOk result ((tree : Tree ℕ)
-        → Starts grm.now (choices_of StorageT.index choices.now) (starts_of StorageT.index starts.now) (StorageT.index first.0) tree (symbol_of StorageT.index symbol)
-        → moves_in StorageT.index out.new.items ≡ moves_in StorageT.index out.old.items ++ moves_of tree) }
+    requires { AreRightStarts StorageT.index grm.now choices.now first starts.now }
+    ensures { OnOk result (AppendsStart StorageT.index grm.now choices.now starts.now first symbol out.old out.new) }
 {
     let mut frames = Vec::new(alloc);
     descend(alloc, grm, choices, starts, &mut frames, out, symbol, first)?;
@@ -96,13 +84,10 @@ fn descend<StorageT: StorageIndex>(
     symbol: Symbol<StorageT>,
     first: TIdx<StorageT>,
 ) -> Result<(), AllocError>
-    requires right { AreRight grm.now usize.MAX (choices_of StorageT.index choices.now) }
-    requires starts { AreStarts grm.now (choices_of StorageT.index choices.now) (StorageT.index first.0) (starts_of StorageT.index starts.now) }
-    requires frames { All (IsFrameOf StorageT.index grm.now) frames.old.items }
-    ensures frames { IfOk result (λ _. All (IsFrameOf StorageT.index grm.now) frames.new.items) }
-    ensures descends { OnOk result (Descends grm.now (choices_of StorageT.index choices.now) (starts_of StorageT.index starts.now) (StorageT.index first.0)
-        (symbol_of StorageT.index symbol) (frames_of StorageT.index frames.old.items) (frames_of StorageT.index frames.new.items)
-        (moves_in StorageT.index out.old.items) (moves_in StorageT.index out.new.items)) }
+    requires kept { AreRightStarts StorageT.index grm.now choices.now first starts.now }
+    requires frames { AreFramesOf StorageT.index grm.now frames.old }
+    ensures frames { OnOk result (AreFramesOf StorageT.index grm.now frames.new) }
+    ensures descends { OnOk result (DescendsTo StorageT.index grm.now choices.now starts.now first symbol frames.old frames.new out.old out.new) }
 {
     let mut symbol = symbol;
     'down: while let Some(start) = start_of(starts, symbol) {
@@ -132,7 +117,8 @@ fn around<'a, StorageT: StorageIndex>(
     ),
 >
     ensures some { place < length symbols.now → IsSome result }
-    ensures parts { IfSome result (λ parts. (parts.0.now ≡ take place symbols.now) × (drop place symbols.now ≡ parts.1 ∷ parts.2.now)) }
+    ensures before { IfSome result (λ parts. parts.0.now ≡ take place symbols.now) }
+    ensures after { IfSome result (λ parts. drop place symbols.now ≡ parts.1 ∷ parts.2.now) }
     ensures room { IfSome result (λ _. place < usize.MAX) }
 {
     if place >= symbols.len() {

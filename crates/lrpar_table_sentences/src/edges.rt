@@ -1,10 +1,7 @@
 //! The steps of a table, with the lengths of their symbols.
-ghost use Rattle.std.specs.Prelude.{◌≡◌, ◌≢◌, ◌<◌, ◌++◌, ◌↔◌, ℕ, Contains, IfOk, Some};
-ghost use Rattle.lrpar_grammar.specs.Symbols.{symbol_of};
-ghost use Rattle.lrpar_table_rows.specs.PlainRows.{plain_action};
-ghost use Rattle.lrpar_table_rows.specs.Table.{TableAction, Fails, action_of, actions_at, goto_of, gotos_at, states_len};
-ghost use Rattle.lrpar_table_sentences.specs.Lens.{len_at};
-ghost use Rattle.lrpar_table_sentences.specs.AccessLens.{AreEdges, IsStoredAt, edge_if, edges_at, edges_of, goto_edges, shift_edge, shift_edges};
+ghost use Rattle.std.specs.Prelude.{◌<◌, IfOk, OnOk};
+ghost use Rattle.lrpar_table_rows.specs.Table.{states_len};
+ghost use Rattle.lrpar_table_sentences.specs.AccessLens.{AppendsGotos, AppendsShift, AppendsShifts, AppendsStep, AppendsSteps, AreSteps, IsStoredAt, StoresActions, StoresGotos};
 
 use crate::shortest::Shortest;
 use crate::transitions::{Edge, Step};
@@ -18,7 +15,7 @@ pub(crate) fn edges<StorageT: StorageIndex>(
     stable: &StateTable<StorageT>,
     shortest: &Shortest<StorageT>,
 ) -> Result<Vec<Edge<StorageT>>, AllocError>
-    ensures { IfOk result (λ edges. AreEdges stable.now shortest.now (edges_of StorageT.index edges.items)) }
+    ensures { IfOk result (λ edges. AreSteps StorageT.index stable.now shortest.now edges.items) }
 {
     let mut edges = Vec::new(alloc);
     for state in 0..stable.states_len() {
@@ -36,9 +33,8 @@ fn push_edges<StorageT: StorageIndex>(
     s: StIdx<StorageT>,
 ) -> Result<(), AllocError>
     requires { StorageT.index s.0 < states_len stable.now }
-    ensures edges { IfOk result (λ _. edges_of StorageT.index edges.new.items
-        ≡ edges_of StorageT.index edges.old.items ++ edges_at stable.now shortest.now (StorageT.index s.0)) }
-    ensures stored { IfOk result (λ _. IsStoredAt stable.now (StorageT.index s.0)) }
+    ensures edges { OnOk result (AppendsSteps StorageT.index stable.now shortest.now s edges.old edges.new) }
+    ensures stored { OnOk result (IsStoredAt stable.now (StorageT.index s.0)) }
 {
     push_shifts(edges, stable, shortest, s)?;
     push_gotos(edges, stable, shortest, s)
@@ -52,10 +48,8 @@ fn push_shifts<StorageT: StorageIndex>(
     s: StIdx<StorageT>,
 ) -> Result<(), AllocError>
     requires { StorageT.index s.0 < states_len stable.now }
-    ensures edges { IfOk result (λ _. edges_of StorageT.index edges.new.items
-        ≡ edges_of StorageT.index edges.old.items ++ shift_edges shortest.now (StorageT.index s.0) (actions_at stable.now (StorageT.index s.0))) }
-    ensures stored { IfOk result (λ _. (t : ℕ) (action : TableAction) → Contains (actions_at stable.now (StorageT.index s.0)) (t, action)
-        ↔ ((action_of stable.now (StorageT.index s.0) t ≡ action) × (action ≢ Fails))) }
+    ensures edges { OnOk result (AppendsShifts StorageT.index stable.now shortest.now s edges.old edges.new) }
+    ensures stored { OnOk result (StoresActions stable.now (StorageT.index s.0)) }
 {
     let (tokens, actions) = stable.actions_of(s);
     for (place, token) in tokens.iter().enumerate() {
@@ -72,8 +66,7 @@ fn push_shift<StorageT: StorageIndex>(
     token: TIdx<StorageT>,
     action: Action<StorageT>,
 ) -> Result<(), AllocError>
-    ensures { IfOk result (λ _. edges_of StorageT.index edges.new.items
-        ≡ edges_of StorageT.index edges.old.items ++ shift_edge shortest.now (StorageT.index s.0) (StorageT.index token.0) (plain_action StorageT.index action)) }
+    ensures { OnOk result (AppendsShift StorageT.index shortest.now s token action edges.old edges.new) }
 {
     match action {
         Action::Shift(next) => push_edge(edges, shortest, s, Symbol::Token(token), next),
@@ -89,10 +82,8 @@ fn push_gotos<StorageT: StorageIndex>(
     s: StIdx<StorageT>,
 ) -> Result<(), AllocError>
     requires { StorageT.index s.0 < states_len stable.now }
-    ensures edges { IfOk result (λ _. edges_of StorageT.index edges.new.items
-        ≡ edges_of StorageT.index edges.old.items ++ goto_edges shortest.now (StorageT.index s.0) (gotos_at stable.now (StorageT.index s.0))) }
-    ensures stored { IfOk result (λ _. (r next : ℕ) → Contains (gotos_at stable.now (StorageT.index s.0)) (r, next)
-        ↔ (goto_of stable.now (StorageT.index s.0) r ≡ Some next)) }
+    ensures edges { OnOk result (AppendsGotos StorageT.index stable.now shortest.now s edges.old edges.new) }
+    ensures stored { OnOk result (StoresGotos stable.now (StorageT.index s.0)) }
 {
     let (rules, states) = stable.gotos_of(s);
     for (place, rule) in rules.iter().enumerate() {
@@ -109,8 +100,7 @@ fn push_edge<StorageT: StorageIndex>(
     symbol: Symbol<StorageT>,
     next: StIdx<StorageT>,
 ) -> Result<(), AllocError>
-    ensures { IfOk result (λ _. let x = symbol_of StorageT.index symbol in edges_of StorageT.index edges.new.items
-        ≡ edges_of StorageT.index edges.old.items ++ edge_if (len_at shortest.now x) (StorageT.index from.0) x (StorageT.index next.0)) }
+    ensures { OnOk result (AppendsStep StorageT.index shortest.now from symbol next edges.old edges.new) }
 {
     if let Some(len) = shortest.len_of(symbol) {
         edges.push(Edge {

@@ -1,10 +1,10 @@
 //! The reachable rules of a grammar, and which of them are unproductive.
-ghost use Rattle.std.specs.Prelude.{◌≡◌, ◌<◌, ◌↔◌, ℕ, IfOk, IsTrue, MatchOption, length};
+ghost use Rattle.std.specs.Prelude.{◌≡◌, ◌<◌, ◌↔◌, IfOk, IsTrue};
 ghost use Rattle.std.specs.Bool.{OnFalse, OnTrue};
-ghost use Rattle.lrpar_grammar.specs.Grammar.{Grammar, Nonterminal, prods_len};
+ghost use Rattle.lrpar_grammar.specs.Grammar.{Grammar, prods_len};
 ghost use Rattle.lrpar_grammar.specs.Symbols.{symbol_of};
-ghost use Rattle.lrpar_table_sentences.specs.Choices.{AreShortest, choices_of};
-ghost use Rattle.lrpar_table_sentences.specs.Reachable.{AreAllMarked, AreMarked, EachReachableHasTree, IsFirstUnproductive, IsMarkedSymbol, IsReachableRule, IsReachableSymbol, MarksOn, is_marked, unmarked};
+ghost use Rattle.lrpar_table_sentences.specs.Reachable.{AreAllMarked, AreClosedMarks, AreMarked, HasMarkFor, IsFirstUnproductiveIfAny, IsMarkedSymbol, IsReachableRule, MarksMore, MarksOn, StayMarks, is_marked};
+ghost use Rattle.lrpar_table_sentences.specs.Choices.{AreShortestChoices};
 
 use crate::settle::{Choice, choice_of};
 use lrpar_grammar::grammar::YaccGrammar;
@@ -60,8 +60,8 @@ pub(crate) fn unproductive<StorageT: StorageIndex>(
     grm: &YaccGrammar<StorageT>,
     choices: &[Option<Choice<StorageT>>],
 ) -> Result<Option<RIdx<StorageT>>, AllocError>
-    requires shortest { AreShortest grm.now usize.MAX (choices_of StorageT.index choices.now) }
-    ensures { IfOk result (λ found. MatchOption found (EachReachableHasTree grm.now) (λ rule. IsFirstUnproductive grm.now (StorageT.index rule.0))) }
+    requires shortest { AreShortestChoices StorageT.index grm.now choices.now }
+    ensures { IfOk result (IsFirstUnproductiveIfAny StorageT.index grm.now) }
 {
     let marks = reachable_rules(alloc, grm)?;
     Ok(first_unproductive(grm, choices, &marks))
@@ -73,9 +73,9 @@ fn first_unproductive<StorageT: StorageIndex>(
     choices: &[Option<Choice<StorageT>>],
     marks: &[bool],
 ) -> Option<RIdx<StorageT>>
-    requires shortest { AreShortest grm.now usize.MAX (choices_of StorageT.index choices.now) }
+    requires shortest { AreShortestChoices StorageT.index grm.now choices.now }
     requires marks { AreAllMarked grm.now marks.now }
-    ensures { MatchOption result (EachReachableHasTree grm.now) (λ rule. IsFirstUnproductive grm.now (StorageT.index rule.0)) }
+    ensures { IsFirstUnproductiveIfAny StorageT.index grm.now result }
 {
     for rule in 0..grm.rules_len() {
         let ridx = RIdx(StorageT::from_index(rule).unwrap());
@@ -115,8 +115,8 @@ fn added_rule<StorageT: StorageIndex>(
 fn mark_all<StorageT: StorageIndex>(grm: &YaccGrammar<StorageT>, marks: &mut [bool]) -> bool
     requires marks { AreMarked grm.now marks.old }
     ensures marks { AreMarked grm.now marks.new }
-    ensures grown { OnTrue result (unmarked marks.new < unmarked marks.old) }
-    ensures closed { OnFalse result ((p : ℕ) → p < prods_len grm.now → MarksOn grm.now marks.new p) }
+    ensures grown { OnTrue result (MarksMore marks.old marks.new) }
+    ensures closed { OnFalse result (AreClosedMarks grm.now marks.new) }
 {
     let mut grown = false;
     for prod in 0..grm.prods_len() {
@@ -137,7 +137,7 @@ fn mark_after<StorageT: StorageIndex>(
     requires prod { StorageT.index pidx.0 < prods_len grm.now }
     requires marks { AreMarked grm.now marks.old }
     ensures marks { AreMarked grm.now marks.new }
-    ensures grown { OnTrue result (unmarked marks.new < unmarked marks.old) }
+    ensures grown { OnTrue result (MarksMore marks.old marks.new) }
     ensures same { OnFalse result (marks.new ≡ marks.old) }
     ensures closed { OnFalse result (MarksOn grm.now marks.new (StorageT.index pidx.0)) }
 {
@@ -157,9 +157,9 @@ fn mark_after<StorageT: StorageIndex>(
 
 // Marks the symbol, if it is a rule, and returns whether it was new.
 fn mark<StorageT: StorageIndex>(marks: &mut [bool], symbol: Symbol<StorageT>) -> bool
-    requires { (r : ℕ) → symbol_of StorageT.index symbol ≡ Nonterminal r → r < length marks.old }
-    ensures marks { (g : Grammar) → AreMarked g marks.old → IsReachableSymbol g (symbol_of StorageT.index symbol) → AreMarked g marks.new }
-    ensures grown { OnTrue result (unmarked marks.new < unmarked marks.old) }
+    requires { HasMarkFor StorageT.index marks.old symbol }
+    ensures marks { StayMarks StorageT.index symbol marks.old marks.new }
+    ensures grown { OnTrue result (MarksMore marks.old marks.new) }
     ensures same { OnFalse result (marks.new ≡ marks.old) }
     ensures closed { OnFalse result (IsMarkedSymbol marks.new (symbol_of StorageT.index symbol)) }
 {

@@ -1,10 +1,9 @@
 //! The minimal sentences of rules, settled in the order of their lengths, as in Knuth, 'A Generalization of Dijkstra's
 //! Algorithm'.
-ghost use Rattle.std.specs.Prelude.{◌≡◌, ◌<◌, ℕ, IfOk, MatchOption, length, map, option_map};
+ghost use Rattle.std.specs.Prelude.{◌≡◌, ◌<◌, IfOk, length};
 ghost use Rattle.lrpar_grammar.specs.Grammar.{prods_len, rules_len};
-ghost use Rattle.lrpar_grammar.specs.Symbols.{symbol_of};
-ghost use Rattle.lrpar_table_sentences.specs.Choices.{AreRight, AreShortest, choice_at, choice_of, choices_of};
-ghost use Rattle.lrpar_table_sentences.specs.Lens.{HasOpen, NoneIsBelow, NoneIsLess, NoneIsOpen, len_at, lesser_of, open_in, open_len, total_len};
+ghost use Rattle.lrpar_table_sentences.specs.Choices.{RightSoFar, AreShortestChoices, IsChoiceFor, NoChoiceIsKept, choices_of};
+ghost use Rattle.lrpar_table_sentences.specs.Lens.{IsLeastOpen, LeavesFewerOpen, NoneIsBelow, lesser_of, open_prod_len, symbol_len, symbols_len};
 
 use lrpar_grammar::grammar::YaccGrammar;
 use lrpar_grammar::span::{PIdx, RIdx, StorageIndex, Symbol};
@@ -22,7 +21,7 @@ pub(crate) fn settled<StorageT: StorageIndex>(
     alloc: Global,
     grm: &YaccGrammar<StorageT>,
 ) -> Result<Vec<Option<Choice<StorageT>>>, AllocError>
-    ensures { IfOk result (λ choices. AreShortest grm.now usize.MAX (choices_of StorageT.index choices.items)) }
+    ensures { IfOk result (λ choices. AreShortestChoices StorageT.index grm.now choices.items) }
 {
     let _start = grm.start_prod();
     let mut choices = nothing_kept(alloc, grm.rules_len())?;
@@ -38,7 +37,7 @@ fn nothing_kept<StorageT: StorageIndex>(
     rules: usize,
 ) -> Result<Vec<Option<Choice<StorageT>>>, AllocError>
     ensures len { IfOk result (λ choices. length choices.items ≡ rules) }
-    ensures none { IfOk result (λ choices. (r : ℕ) → choice_at (choices_of StorageT.index choices.items) r ≡ None) }
+    ensures none { IfOk result (λ choices. NoChoiceIsKept StorageT.index choices.items) }
 {
     let mut choices = Vec::with_capacity(alloc, rules)?;
     for _ in 0..rules {
@@ -53,9 +52,7 @@ fn least_open<StorageT: StorageIndex>(
     choices: &[Option<Choice<StorageT>>],
 ) -> Option<usize>
     requires rules { length choices.now ≡ rules_len grm.now }
-    ensures { MatchOption result (NoneIsOpen grm.now usize.MAX (choices_of StorageT.index choices.now))
-        (λ len. HasOpen grm.now usize.MAX (choices_of StorageT.index choices.now) len
-        × NoneIsLess grm.now usize.MAX (choices_of StorageT.index choices.now) len) }
+    ensures { IsLeastOpen StorageT.index grm.now choices.now result }
 {
     let mut least = None;
     for prod in 0..grm.prods_len() {
@@ -84,7 +81,7 @@ fn open_len<StorageT: StorageIndex>(
 ) -> Option<usize>
     requires prod { StorageT.index pidx.0 < prods_len grm.now }
     requires rules { length choices.now ≡ rules_len grm.now }
-    ensures { result ≡ open_len grm.now usize.MAX (choices_of StorageT.index choices.now) (StorageT.index pidx.0) }
+    ensures { result ≡ open_prod_len StorageT.index grm.now choices.now pidx }
 {
     let rule = usize::from(grm.prod_to_rule(pidx));
     match choices[rule] {
@@ -99,11 +96,10 @@ fn settle_all<StorageT: StorageIndex>(
     choices: &mut [Option<Choice<StorageT>>],
     len: usize,
 )
-    requires right { AreRight grm.now usize.MAX (choices_of StorageT.index choices.old) }
+    requires right { RightSoFar StorageT.index grm.now choices.old }
     requires least { NoneIsBelow grm.now (choices_of StorageT.index choices.old) len }
-    ensures right { AreRight grm.now usize.MAX (choices_of StorageT.index choices.new) }
-    ensures fewer { HasOpen grm.now usize.MAX (choices_of StorageT.index choices.old) len
-        → open_in (choices_of StorageT.index choices.new) < open_in (choices_of StorageT.index choices.old) }
+    ensures right { RightSoFar StorageT.index grm.now choices.new }
+    ensures fewer { LeavesFewerOpen StorageT.index grm.now choices.old choices.new len }
 {
     for prod in 0..grm.prods_len() {
         let pidx = PIdx(StorageT::from_index(prod).unwrap());
@@ -119,7 +115,7 @@ pub(crate) fn len_of<StorageT: StorageIndex>(
     choices: &[Option<Choice<StorageT>>],
     symbol: Symbol<StorageT>,
 ) -> Option<usize>
-    ensures { result ≡ len_at (choices_of StorageT.index choices.now) (symbol_of StorageT.index symbol) }
+    ensures { result ≡ symbol_len StorageT.index choices.now symbol }
 {
     match symbol {
         Symbol::Token(_) => Some(1),
@@ -135,7 +131,7 @@ pub(crate) fn choice_of<StorageT: StorageIndex>(
     choices: &[Option<Choice<StorageT>>],
     rule: RIdx<StorageT>,
 ) -> Option<Choice<StorageT>>
-    ensures { option_map (choice_of StorageT.index) result ≡ choice_at (choices_of StorageT.index choices.now) (StorageT.index rule.0) }
+    ensures { IsChoiceFor StorageT.index choices.now rule result }
 {
     match choices.get(usize::from(rule)) {
         Some(choice) => *choice,
@@ -148,7 +144,7 @@ pub(crate) fn total_len<StorageT: StorageIndex>(
     choices: &[Option<Choice<StorageT>>],
     symbols: &[Symbol<StorageT>],
 ) -> Option<usize>
-    ensures { result ≡ total_len usize.MAX (choices_of StorageT.index choices.now) (map (symbol_of StorageT.index) symbols.now) }
+    ensures { result ≡ symbols_len StorageT.index choices.now symbols.now }
 {
     let mut len: usize = 0;
     for symbol in symbols {

@@ -1,10 +1,9 @@
 //! Minimal access strings of the states of a table, settled in the order of their lengths.
-ghost use Rattle.std.specs.Prelude.{◌≡◌, ◌≢◌, ◌<◌, ℕ, All, IfOk, List, MatchOption, None, Option, Some, length, slice_set};
-ghost use Rattle.lrpar_table_rows.specs.Table.{Table, states_len};
+ghost use Rattle.std.specs.Prelude.{◌≡◌, ◌<◌, IfOk, Some, length, slice_set};
 ghost use Rattle.lrpar_table_build.specs.Built.{IsBuilt};
-ghost use Rattle.lrpar_table_sentences.specs.Choices.{AreShortest, ChoiceOf};
-ghost use Rattle.lrpar_table_sentences.specs.AccessLens.{AreEdges, AreRightAccesses, HasOpenStep, NoStepIsLess, NoStepIsOpen, NoWalkIsBelow, edge_of, edges_of, open_by, open_accesses};
-ghost use Rattle.lrpar_table_sentences.specs.AccessStrings.{AreAccessStrings, access_at, accesses_of};
+ghost use Rattle.lrpar_table_sentences.specs.Choices.{AreShortest};
+ghost use Rattle.lrpar_table_sentences.specs.AccessLens.{AccessesAreRight, AllAreSettled, AreSteps, FewerAreOpen, IsLeastOpenStep, LeadWithin, OnlyStartIsKept, StayRight, open_step_len};
+ghost use Rattle.lrpar_table_sentences.specs.AccessStrings.{AreAccesses, NoAccessIsKept};
 
 use crate::back::access_to;
 use crate::edges::edges;
@@ -26,7 +25,7 @@ pub(crate) fn settled_accesses<StorageT: StorageIndex>(
 ) -> Result<Vec<Option<Access<StorageT>>>, AllocError>
     requires built { IsBuilt grm.now sgraph.now stable.now }
     requires shortest { AreShortest grm.now usize.MAX shortest.now }
-    ensures { IfOk result (λ accesses. AreAccessStrings grm.now sgraph.now stable.now usize.MAX (accesses_of StorageT.index accesses.items)) }
+    ensures { IfOk result (λ accesses. AreAccesses StorageT.index grm.now sgraph.now stable.now accesses.items) }
 {
     let _start = grm.start_prod();
     let _states = stable.states_len();
@@ -41,9 +40,9 @@ fn settled_by<StorageT: StorageIndex>(
     shortest: &Shortest<StorageT>,
     edges: &[Edge<StorageT>],
 ) -> Result<Vec<Option<Access<StorageT>>>, AllocError>
-    requires edges { AreEdges stable.now shortest.now (edges_of StorageT.index edges.now) }
-    ensures right { IfOk result (λ accesses. AreRightAccesses stable.now usize.MAX shortest.now (accesses_of StorageT.index accesses.items)) }
-    ensures done { IfOk result (λ accesses. NoStepIsOpen usize.MAX (accesses_of StorageT.index accesses.items) (edges_of StorageT.index edges.now)) }
+    requires edges { AreSteps StorageT.index stable.now shortest.now edges.now }
+    ensures right { IfOk result (λ accesses. AccessesAreRight StorageT.index stable.now shortest.now accesses.items) }
+    ensures done { IfOk result (λ accesses. AllAreSettled StorageT.index accesses.items edges.now) }
 {
     let _states = stable.states_len();
     let mut accesses = start_kept(alloc, stable)?;
@@ -58,9 +57,7 @@ fn start_kept<StorageT: StorageIndex>(
     alloc: Global,
     stable: &StateTable<StorageT>,
 ) -> Result<Vec<Option<Access<StorageT>>>, AllocError>
-    ensures states { IfOk result (λ accesses. length accesses.items ≡ states_len stable.now) }
-    ensures start { IfOk result (λ accesses. access_at (accesses_of StorageT.index accesses.items) (stable.now).start ≡ Some (record { len = 0; last = None })) }
-    ensures others { IfOk result (λ accesses. (s : ℕ) → s ≢ (stable.now).start → access_at (accesses_of StorageT.index accesses.items) s ≡ None) }
+    ensures { IfOk result (λ accesses. OnlyStartIsKept StorageT.index stable.now accesses.items) }
 {
     let states = stable.states_len();
     let mut accesses = nothing_kept(alloc, states)?;
@@ -74,7 +71,7 @@ fn nothing_kept<StorageT: StorageIndex>(
     states: usize,
 ) -> Result<Vec<Option<Access<StorageT>>>, AllocError>
     ensures len { IfOk result (λ accesses. length accesses.items ≡ states) }
-    ensures none { IfOk result (λ accesses. (s : ℕ) → access_at (accesses_of StorageT.index accesses.items) s ≡ None) }
+    ensures none { IfOk result (λ accesses. NoAccessIsKept StorageT.index accesses.items) }
 {
     let mut accesses = Vec::with_capacity(alloc, states)?;
     for _ in 0..states {
@@ -88,9 +85,7 @@ fn least_open<StorageT: StorageIndex>(
     edges: &[Edge<StorageT>],
     accesses: &[Option<Access<StorageT>>],
 ) -> Option<usize>
-    ensures { MatchOption result (NoStepIsOpen usize.MAX (accesses_of StorageT.index accesses.now) (edges_of StorageT.index edges.now))
-        (λ len. HasOpenStep usize.MAX (accesses_of StorageT.index accesses.now) (edges_of StorageT.index edges.now) len
-        × NoStepIsLess usize.MAX (accesses_of StorageT.index accesses.now) (edges_of StorageT.index edges.now) len) }
+    ensures { IsLeastOpenStep StorageT.index accesses.now edges.now result }
 {
     let mut least = None;
     for edge in edges {
@@ -104,7 +99,7 @@ fn open_len<StorageT: StorageIndex>(
     accesses: &[Option<Access<StorageT>>],
     edge: &Edge<StorageT>,
 ) -> Option<usize>
-    ensures { result ≡ open_by usize.MAX (accesses_of StorageT.index accesses.now) (edge_of StorageT.index edge.now) }
+    ensures { result ≡ open_step_len StorageT.index accesses.now edge.now }
 {
     match access_to(accesses, edge.next) {
         Some(_) => None,
@@ -121,13 +116,9 @@ fn settle_all<StorageT: StorageIndex>(
     accesses: &mut [Option<Access<StorageT>>],
     len: usize,
 )
-    requires within { All (λ edge. StorageT.index edge.next.0 < length accesses.old) edges.now }
-    ensures right { (table : Table) (choices : List (Option ChoiceOf)) → AreEdges table choices (edges_of StorageT.index edges.now)
-        → AreRightAccesses table usize.MAX choices (accesses_of StorageT.index accesses.old)
-        → NoWalkIsBelow table usize.MAX choices (accesses_of StorageT.index accesses.old) len
-        → AreRightAccesses table usize.MAX choices (accesses_of StorageT.index accesses.new) }
-    ensures fewer { HasOpenStep usize.MAX (accesses_of StorageT.index accesses.old) (edges_of StorageT.index edges.now) len
-        → open_accesses (accesses_of StorageT.index accesses.new) < open_accesses (accesses_of StorageT.index accesses.old) }
+    requires within { LeadWithin StorageT.index edges.now accesses.old }
+    ensures right { StayRight StorageT.index edges.now accesses.old accesses.new len }
+    ensures fewer { FewerAreOpen StorageT.index edges.now accesses.old accesses.new len }
 {
     for edge in edges {
         if open_len(accesses, edge) == Some(len) {

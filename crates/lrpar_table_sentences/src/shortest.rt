@@ -1,14 +1,13 @@
 //! Minimal sentences of rules and symbols, and their trees.
-ghost use Rattle.std.specs.Prelude.{◌≡◌, ◌↔◌, ◌∷◌, ◌++◌, ℕ, [], IfOk, IsTrue, MatchOption, OnOk, map};
+ghost use Rattle.std.specs.Prelude.{◌≡◌, ◌↔◌, ◌∷◌, [], IfOk, IsTrue, OnOk, map};
 ghost use Rattle.std.specs.Option.{is_some};
 ghost use Rattle.lrpar_grammar.specs.Grammar.{Grammar};
 ghost use Rattle.lrpar_grammar.specs.Symbols.{symbol_of};
-ghost use Rattle.lrpar_grammar.specs.Tree.{Tree, Forest};
-ghost use Rattle.lrpar_table_sentences.specs.Choices.{AreShortest, choice_at};
+ghost use Rattle.lrpar_table_sentences.specs.Choices.{AreShortest, IsMinimalLen, choice_at};
 ghost use Rattle.lrpar_table_sentences.specs.Lens.{len_at, total_len};
-ghost use Rattle.lrpar_table_sentences.specs.Moves.{forest_moves, moves_in, moves_of};
-ghost use Rattle.lrpar_table_sentences.specs.Reachable.{EachReachableHasTree, HasTree, IsFirstUnproductive};
-ghost use Rattle.lrpar_table_sentences.specs.Texts.{AreShortestTrees, BeginWith, CanBeginWith, HaveTrees, IsShortestIfAny, IsShortestTree};
+ghost use Rattle.lrpar_table_sentences.specs.Reachable.{HasTree, IsFirstUnproductiveIfAny};
+ghost use Rattle.lrpar_table_sentences.specs.Texts.{HaveTrees};
+ghost use Rattle.lrpar_table_sentences.specs.Appended.{AppendsShortestTree, AppendsShortestTrees, AppendsTreesWith, CanStartWith};
 
 use crate::descend::push_beginning;
 use crate::moves::Move;
@@ -59,7 +58,7 @@ impl<StorageT: StorageIndex> Shortest<StorageT> {
     /// The number of tokens of a minimal sentence of the symbol, capped at `usize::MAX`; `None` if the symbol is unproductive.
     pub fn len_of(&self, symbol: Symbol<StorageT>) -> Option<usize>
         ensures len { result ≡ len_at self.now (symbol_of StorageT.index symbol) }
-        ensures shortest { (g : Grammar) → AreShortest g usize.MAX self.now → IsShortestIfAny g usize.MAX (symbol_of StorageT.index symbol ∷ []) result }
+        ensures shortest { IsMinimalLen self.now (symbol_of StorageT.index symbol ∷ []) result }
     {
         len_of(&self.choices, symbol)
     }
@@ -76,7 +75,7 @@ impl<StorageT: StorageIndex> Shortest<StorageT> {
     /// unproductive.
     pub fn len_of_all(&self, symbols: &[Symbol<StorageT>]) -> Option<usize>
         ensures len { result ≡ total_len usize.MAX self.now (map (symbol_of StorageT.index) symbols.now) }
-        ensures shortest { (g : Grammar) → AreShortest g usize.MAX self.now → IsShortestIfAny g usize.MAX (map (symbol_of StorageT.index) symbols.now) result }
+        ensures shortest { IsMinimalLen self.now (map (symbol_of StorageT.index) symbols.now) result }
     {
         total_len(&self.choices, symbols)
     }
@@ -94,8 +93,7 @@ impl<StorageT: StorageIndex> Shortest<StorageT> {
     ) -> Result<(), AllocError>
         requires shortest { AreShortest grm.now usize.MAX self.now }
         requires some { HaveTrees grm.now (symbol_of StorageT.index symbol ∷ []) }
-        ensures { OnOk result ((tree : Tree ℕ) × IsShortestTree grm.now (symbol_of StorageT.index symbol) tree
-            × (moves_in StorageT.index out.new.items ≡ moves_in StorageT.index out.old.items ++ moves_of tree)) }
+        ensures { OnOk result (AppendsShortestTree StorageT.index grm.now symbol out.old out.new) }
     {
         push_symbol(alloc, grm, &self.choices, out, symbol)
     }
@@ -112,8 +110,7 @@ impl<StorageT: StorageIndex> Shortest<StorageT> {
     ) -> Result<(), AllocError>
         requires shortest { AreShortest grm.now usize.MAX self.now }
         requires some { HaveTrees grm.now (map (symbol_of StorageT.index) symbols.now) }
-        ensures { OnOk result ((trees : Forest ℕ) × AreShortestTrees grm.now (map (symbol_of StorageT.index) symbols.now) trees
-            × (moves_in StorageT.index out.new.items ≡ moves_in StorageT.index out.old.items ++ forest_moves trees)) }
+        ensures { OnOk result (AppendsShortestTrees StorageT.index grm.now symbols.now out.old out.new) }
     {
         push_symbols(alloc, grm, &self.choices, out, symbols)
     }
@@ -131,9 +128,8 @@ impl<StorageT: StorageIndex> Shortest<StorageT> {
         first: TIdx<StorageT>,
     ) -> Result<(), AllocError>
         requires shortest { AreShortest grm.now usize.MAX self.now }
-        requires some { CanBeginWith grm.now (map (symbol_of StorageT.index) symbols.now) (StorageT.index first.0) }
-        ensures { OnOk result ((trees : Forest ℕ) × BeginWith grm.now (map (symbol_of StorageT.index) symbols.now) (StorageT.index first.0) trees
-            × (moves_in StorageT.index out.new.items ≡ moves_in StorageT.index out.old.items ++ forest_moves trees)) }
+        requires some { CanStartWith StorageT.index grm.now symbols.now first }
+        ensures { OnOk result (AppendsTreesWith StorageT.index grm.now symbols.now first out.old out.new) }
     {
         push_beginning(alloc, grm, &self.choices, out, symbols, first)
     }
@@ -148,7 +144,7 @@ impl<StorageT: StorageIndex> Shortest<StorageT> {
         grm: &YaccGrammar<StorageT>,
     ) -> Result<Option<RIdx<StorageT>>, AllocError>
         requires shortest { AreShortest grm.now usize.MAX self.now }
-        ensures { IfOk result (λ found. MatchOption found (EachReachableHasTree grm.now) (λ rule. IsFirstUnproductive grm.now (StorageT.index rule.0))) }
+        ensures { IfOk result (IsFirstUnproductiveIfAny StorageT.index grm.now) }
     {
         unproductive(alloc, grm, &self.choices)
     }

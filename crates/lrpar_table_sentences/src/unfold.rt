@@ -1,11 +1,7 @@
 //! The moves of the trees that are kept of rules, without recursion.
-ghost use Rattle.std.specs.Prelude.{◌≡◌, ◌<◌, ◌≤◌, ◌+◌, ◌∷◌, ◌++◌, ℕ, [], All, List, IfOk, IfSome, IsTrue, MatchOption, OnOk, drop, map, vec_len};
-ghost use Rattle.lrpar_grammar.specs.Grammar.{Grammar, prods_len, symbols_of};
-ghost use Rattle.lrpar_grammar.specs.Symbols.{symbol_of};
-ghost use Rattle.lrpar_grammar.specs.Tree.{Tree, Forest};
-ghost use Rattle.lrpar_table_sentences.specs.Choices.{AreRight, Follows, ForestFollows, choices_of};
-ghost use Rattle.lrpar_table_sentences.specs.Frames.{Begins, IsFrameOf, Unfold, frames_of};
-ghost use Rattle.lrpar_table_sentences.specs.Moves.{MoveOf, forest_moves, moves_in, moves_of};
+ghost use Rattle.std.specs.Prelude.{◌<◌, ◌≤◌, IfOk, IfSome, OnOk, vec_len};
+ghost use Rattle.lrpar_table_sentences.specs.Frames.{AppendsFrames, AppendsTree, AppendsTrees, AreFramesOf, BeginsSymbol, IsAfterDot, IsFrameOf, OneIsNew, StayFrames};
+ghost use Rattle.lrpar_table_sentences.specs.Choices.{RightSoFar};
 
 use crate::moves::Move;
 use crate::settle::{Choice, choice_of};
@@ -28,9 +24,8 @@ pub(crate) fn push_symbols<StorageT: StorageIndex>(
     out: &mut Vec<Move<StorageT>>,
     symbols: &[Symbol<StorageT>],
 ) -> Result<(), AllocError>
-    requires right { AreRight grm.now usize.MAX (choices_of StorageT.index choices.now) }
-    ensures { OnOk result ((trees : Forest ℕ) → ForestFollows grm.now (choices_of StorageT.index choices.now) trees (map (symbol_of StorageT.index) symbols.now)
-        → moves_in StorageT.index out.new.items ≡ moves_in StorageT.index out.old.items ++ forest_moves trees) }
+    requires { RightSoFar StorageT.index grm.now choices.now }
+    ensures { OnOk result (AppendsTrees StorageT.index grm.now choices.now symbols.now out.old out.new) }
 {
     for symbol in symbols {
         push_symbol(alloc, grm, choices, out, *symbol)?;
@@ -46,9 +41,8 @@ pub(crate) fn push_symbol<StorageT: StorageIndex>(
     out: &mut Vec<Move<StorageT>>,
     symbol: Symbol<StorageT>,
 ) -> Result<(), AllocError>
-    requires right { AreRight grm.now usize.MAX (choices_of StorageT.index choices.now) }
-    ensures { OnOk result ((tree : Tree ℕ) → Follows grm.now (choices_of StorageT.index choices.now) tree (symbol_of StorageT.index symbol)
-        → moves_in StorageT.index out.new.items ≡ moves_in StorageT.index out.old.items ++ moves_of tree) }
+    requires { RightSoFar StorageT.index grm.now choices.now }
+    ensures { OnOk result (AppendsTree StorageT.index grm.now choices.now symbol out.old out.new) }
 {
     let mut frames = Vec::new(alloc);
     let _derives = push_begun(choices, &mut frames, out, symbol)?;
@@ -62,10 +56,9 @@ pub(crate) fn unfold<StorageT: StorageIndex>(
     frames: &mut Vec<Frame<StorageT>>,
     out: &mut Vec<Move<StorageT>>,
 ) -> Result<(), AllocError>
-    requires right { AreRight grm.now usize.MAX (choices_of StorageT.index choices.now) }
-    requires frames { All (IsFrameOf StorageT.index grm.now) frames.old.items }
-    ensures { OnOk result ((moves : List MoveOf) → Unfold grm.now (choices_of StorageT.index choices.now) (frames_of StorageT.index frames.old.items) moves
-        → moves_in StorageT.index out.new.items ≡ moves_in StorageT.index out.old.items ++ moves) }
+    requires right { RightSoFar StorageT.index grm.now choices.now }
+    requires frames { AreFramesOf StorageT.index grm.now frames.old }
+    ensures { OnOk result (AppendsFrames StorageT.index grm.now choices.now frames.old out.old out.new) }
 {
     'frames: while let Some(frame) = frames.pop() {
         match symbol_at(grm, frame) {
@@ -89,10 +82,8 @@ fn symbol_at<StorageT: StorageIndex>(
     grm: &YaccGrammar<StorageT>,
     frame: Frame<StorageT>,
 ) -> Option<Symbol<StorageT>>
-    requires { StorageT.index frame.prod.0 < prods_len grm.now }
-    ensures symbol { let symbols = symbols_of grm.now (StorageT.index frame.prod.0) in
-        MatchOption result (drop frame.dot symbols ≡ [])
-        (λ symbol. drop frame.dot symbols ≡ symbol_of StorageT.index symbol ∷ drop (frame.dot + 1) symbols) }
+    requires { IsFrameOf StorageT.index grm.now frame }
+    ensures symbol { IsAfterDot StorageT.index grm.now frame result }
     ensures room { IfSome result (λ _. frame.dot < usize.MAX) }
 {
     match grm.prod(frame.prod).get(frame.dot) {
@@ -109,15 +100,11 @@ fn push_begun<StorageT: StorageIndex>(
     out: &mut Vec<Move<StorageT>>,
     symbol: Symbol<StorageT>,
 ) -> Result<bool, AllocError>
-    ensures more { IfOk result (λ derives. IsTrue derives
-        → vec_len out.new + vec_len frames.new ≡ vec_len out.old + vec_len frames.old + 1) }
+    ensures more { IfOk result (OneIsNew frames.old frames.new out.old out.new) }
     ensures out { vec_len out.old ≤ vec_len out.new }
     ensures frames { vec_len frames.old ≤ vec_len frames.new }
-    ensures known { (g : Grammar) → AreRight g usize.MAX (choices_of StorageT.index choices.now)
-        → All (IsFrameOf StorageT.index g) frames.old.items → All (IsFrameOf StorageT.index g) frames.new.items }
-    ensures unfolds { IfOk result (λ derives. (g : Grammar) → Begins g (choices_of StorageT.index choices.now) (symbol_of StorageT.index symbol)
-        (frames_of StorageT.index frames.old.items) (frames_of StorageT.index frames.new.items)
-        (moves_in StorageT.index out.old.items) (moves_in StorageT.index out.new.items) derives) }
+    ensures known { StayFrames StorageT.index choices.now frames.old frames.new }
+    ensures unfolds { IfOk result (BeginsSymbol StorageT.index choices.now symbol frames.old frames.new out.old out.new) }
 {
     match symbol {
         Symbol::Token(token) => {

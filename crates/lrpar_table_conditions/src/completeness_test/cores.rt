@@ -1,12 +1,8 @@
 //! The conditions of completeness for the items of one core.
-ghost use Rattle.std.specs.Prelude.{◌≡◌, ◌≢◌, ◌<◌, ◌≤◌, ◌+◌, ◌↔◌, ◌⊎◌, ℕ, IfSome, IsTrue, MatchOption, Some, length, slice_get};
-ghost use Rattle.lrpar_grammar.specs.Grammar.{Nonterminal, Terminal, prod_len, prods_len, rule_of, rules_len, symbols_of};
-ghost use Rattle.lrpar_table_first.specs.FirstRows.{HoldNothing, dummy_lookahead, row_at, rows_of};
-ghost use Rattle.lrpar_grammar.specs.Tokens.{has};
-ghost use Rattle.lrpar_table_rows.specs.Graph.{HasCore, HasItem, items_of};
-ghost use Rattle.lrpar_table_rows.specs.Table.{action_of, states_len};
-ghost use Rattle.lrpar_table_conditions.specs.Complete.{CarriesItem, EndsItem, ShiftsItem, StepsOn};
-ghost use Rattle.lrpar_table_conditions.specs.Itemwise.{AreStartsOf, ClosesAmong, EachOfCore, EndsBy, HaveRoomFor, HaveStarts, IsKnown};
+ghost use Rattle.std.specs.Prelude.{◌≡◌, ◌<◌, ◌↔◌, IsTrue, length};
+ghost use Rattle.lrpar_grammar.specs.Grammar.{Nonterminal, Terminal, rules_len};
+ghost use Rattle.lrpar_table_first.specs.FirstRows.{HoldNothing, rows_of};
+ghost use Rattle.lrpar_table_conditions.specs.Tested.{AddsLookaheads, CarriesCore, ClosesCoreBy, EndsAt, EndsCore, EndsEach, HasAdvanced, HasCoreIn, HasItemIn, HasRoomIn, HasSetsIn, HasStartsOf, HasWidth, IsDotIn, IsNear, IsProdIn, IsRuleIn, IsStateIn, IsTestable, IsTokenAfter, IsTokenIn, PutsStart, ShiftsCore, StartsCover, StepsOnBy, TakesStart};
 
 use crate::completeness_test::Completeness;
 use crate::completeness_test::sets::WorkSets;
@@ -27,13 +23,12 @@ impl<'a, StorageT: StorageIndex> Completeness<'a, StorageT> {
         dot: usize,
         sets: &mut WorkSets,
     ) -> bool
-        requires known { IsKnown self.now.grm.now self.now.sgraph.now self.now.stable.now (rows_of self.now.firsts.now) }
-        requires core { HasCore self.now.sgraph.now (StorageT.index s.0) (StorageT.index pidx.0) dot }
-        requires room { HaveRoomFor self.now.grm.now sets.old }
-        ensures room { HaveRoomFor self.now.grm.now sets.new }
+        requires known { IsTestable self.now }
+        requires core { HasCoreIn StorageT.index self.now s pidx dot }
+        requires room { HasRoomIn self.now sets.old }
+        ensures room { HasRoomIn self.now sets.new }
         ensures kept { sets.new.starts.items ≡ sets.old.starts.items }
-        ensures test { IsTrue result ↔ EachOfCore self.now.sgraph.now (StorageT.index s.0) (StorageT.index pidx.0) dot
-            (ClosesAmong self.now.grm.now (rows_of sets.old.starts.items)) }
+        ensures test { IsTrue result ↔ ClosesCoreBy StorageT.index self.now s pidx dot sets.old.starts.items }
     {
         match rule_after(self.grm, pidx, dot) {
             None => true,
@@ -58,10 +53,9 @@ impl<'a, StorageT: StorageIndex> Completeness<'a, StorageT> {
     // these items.
     fn starts_cover(&self, rule: RIdx<StorageT>, tokens: &TokenSet, starts: &[TokenSet]) -> bool
         requires rule { StorageT.index rule.0 < rules_len self.now.grm.now }
-        requires tokens { length tokens.now.bits.items ≡ dummy_lookahead self.now.grm.now + 1 }
-        requires starts { HaveStarts self.now.grm.now (rows_of starts.now) }
-        ensures { IsTrue result ↔ ((q b : ℕ) → q < prods_len self.now.grm.now → rule_of self.now.grm.now q ≡ StorageT.index rule.0
-            → IsTrue (has tokens.now.bits.items b) → IsTrue (has (row_at (rows_of starts.now) q) b)) }
+        requires tokens { HasWidth self.now tokens.now }
+        requires starts { HasSetsIn self.now starts.now }
+        ensures { IsTrue result ↔ StartsCover StorageT.index self.now rule tokens.now starts.now }
     {
         for pidx in self.grm.rule_to_prods(rule) {
             let prod = usize::from(*pidx);
@@ -75,12 +69,12 @@ impl<'a, StorageT: StorageIndex> Completeness<'a, StorageT> {
 
     // Adds to each production's set, which is empty, the lookaheads of the state's items with dot 0.
     pub(super) fn put_starts(&self, s: StIdx<StorageT>, starts: &mut [TokenSet])
-        requires known { IsKnown self.now.grm.now self.now.sgraph.now self.now.stable.now (rows_of self.now.firsts.now) }
-        requires state { StorageT.index s.0 < states_len self.now.stable.now }
-        requires room { HaveStarts self.now.grm.now (rows_of starts.old) }
+        requires known { IsTestable self.now }
+        requires state { IsStateIn StorageT.index self.now s }
+        requires room { HasSetsIn self.now starts.old }
         requires none { HoldNothing (rows_of starts.old) }
-        ensures room { HaveStarts self.now.grm.now (rows_of starts.new) }
-        ensures starts { AreStartsOf (items_of self.now.sgraph.now (StorageT.index s.0)) (rows_of starts.new) }
+        ensures room { HasSetsIn self.now starts.new }
+        ensures starts { HasStartsOf StorageT.index self.now s starts.new }
     {
         for (pidx, dot) in self.sgraph.cores(s) {
             self.put_start(s, *pidx, *dot, starts);
@@ -95,12 +89,11 @@ impl<'a, StorageT: StorageIndex> Completeness<'a, StorageT> {
         dot: usize,
         starts: &mut [TokenSet],
     )
-        requires known { IsKnown self.now.grm.now self.now.sgraph.now self.now.stable.now (rows_of self.now.firsts.now) }
-        requires core { HasCore self.now.sgraph.now (StorageT.index s.0) (StorageT.index pidx.0) dot }
-        requires room { HaveStarts self.now.grm.now (rows_of starts.old) }
-        ensures room { HaveStarts self.now.grm.now (rows_of starts.new) }
-        ensures put { (q t : ℕ) → IsTrue (has (row_at (rows_of starts.new) q) t) ↔ (IsTrue (has (row_at (rows_of starts.old) q) t)
-            ⊎ ((StorageT.index pidx.0 ≡ q) × (dot ≡ 0) × HasItem self.now.sgraph.now (StorageT.index s.0) q 0 t)) }
+        requires known { IsTestable self.now }
+        requires core { HasCoreIn StorageT.index self.now s pidx dot }
+        requires room { HasSetsIn self.now starts.old }
+        ensures room { HasSetsIn self.now starts.new }
+        ensures put { PutsStart StorageT.index self.now s pidx dot starts.old starts.new }
     {
         if dot == 0 {
             let prod = usize::from(pidx);
@@ -110,11 +103,11 @@ impl<'a, StorageT: StorageIndex> Completeness<'a, StorageT> {
 
     // Empties the sets, which have the lookaheads of the state's items with dot 0.
     pub(super) fn take_starts(&self, s: StIdx<StorageT>, starts: &mut [TokenSet])
-        requires known { IsKnown self.now.grm.now self.now.sgraph.now self.now.stable.now (rows_of self.now.firsts.now) }
-        requires state { StorageT.index s.0 < states_len self.now.stable.now }
-        requires room { HaveStarts self.now.grm.now (rows_of starts.old) }
-        requires starts { AreStartsOf (items_of self.now.sgraph.now (StorageT.index s.0)) (rows_of starts.old) }
-        ensures room { HaveStarts self.now.grm.now (rows_of starts.new) }
+        requires known { IsTestable self.now }
+        requires state { IsStateIn StorageT.index self.now s }
+        requires room { HasSetsIn self.now starts.old }
+        requires starts { HasStartsOf StorageT.index self.now s starts.old }
+        ensures room { HasSetsIn self.now starts.new }
         ensures none { HoldNothing (rows_of starts.new) }
     {
         for (pidx, dot) in self.sgraph.cores(s) {
@@ -130,12 +123,11 @@ impl<'a, StorageT: StorageIndex> Completeness<'a, StorageT> {
         dot: usize,
         starts: &mut [TokenSet],
     )
-        requires known { IsKnown self.now.grm.now self.now.sgraph.now self.now.stable.now (rows_of self.now.firsts.now) }
-        requires core { HasCore self.now.sgraph.now (StorageT.index s.0) (StorageT.index pidx.0) dot }
-        requires room { HaveStarts self.now.grm.now (rows_of starts.old) }
-        ensures room { HaveStarts self.now.grm.now (rows_of starts.new) }
-        ensures left { (q t : ℕ) → IsTrue (has (row_at (rows_of starts.new) q) t)
-            → IsTrue (has (row_at (rows_of starts.old) q) t) × (StorageT.index pidx.0 ≡ q → dot ≢ 0) }
+        requires known { IsTestable self.now }
+        requires core { HasCoreIn StorageT.index self.now s pidx dot }
+        requires room { HasSetsIn self.now starts.old }
+        ensures room { HasSetsIn self.now starts.new }
+        ensures left { TakesStart StorageT.index pidx dot starts.old starts.new }
     {
         if dot == 0 {
             let prod = usize::from(pidx);
@@ -151,11 +143,10 @@ impl<'a, StorageT: StorageIndex> Completeness<'a, StorageT> {
         dot: usize,
         set: &mut TokenSet,
     )
-        requires known { IsKnown self.now.grm.now self.now.sgraph.now self.now.stable.now (rows_of self.now.firsts.now) }
-        requires room { length set.old.bits.items ≡ dummy_lookahead self.now.grm.now + 1 }
+        requires known { IsTestable self.now }
+        requires room { HasWidth self.now set.old }
         ensures room { length set.new.bits.items ≡ length set.old.bits.items }
-        ensures put { (t : ℕ) → IsTrue (has set.new.bits.items t) ↔ (IsTrue (has set.old.bits.items t)
-            ⊎ HasItem self.now.sgraph.now (StorageT.index s.0) (StorageT.index pidx.0) dot t) }
+        ensures put { AddsLookaheads StorageT.index self.now s pidx dot set.old set.new }
     {
         for token in self.sgraph.lookaheads(s, pidx, dot) {
             set.insert(usize::from(*token));
@@ -164,11 +155,10 @@ impl<'a, StorageT: StorageIndex> Completeness<'a, StorageT> {
 
     // C3: if a token is after the dot, the state shifts it to a state with the advanced items.
     pub(super) fn shifts_core(&self, s: StIdx<StorageT>, pidx: PIdx<StorageT>, dot: usize) -> bool
-        requires known { IsKnown self.now.grm.now self.now.sgraph.now self.now.stable.now (rows_of self.now.firsts.now) }
-        requires state { StorageT.index s.0 < states_len self.now.stable.now }
-        requires core { HasCore self.now.sgraph.now (StorageT.index s.0) (StorageT.index pidx.0) dot }
-        ensures { IsTrue result ↔ EachOfCore self.now.sgraph.now (StorageT.index s.0) (StorageT.index pidx.0) dot
-            (ShiftsItem self.now.grm.now self.now.sgraph.now self.now.stable.now (StorageT.index s.0)) }
+        requires known { IsTestable self.now }
+        requires state { IsStateIn StorageT.index self.now s }
+        requires core { HasCoreIn StorageT.index self.now s pidx dot }
+        ensures { IsTrue result ↔ ShiftsCore StorageT.index self.now s pidx dot }
     {
         match self.token_after(pidx, dot) {
             Some(token) => self.shifts_to(s, token, pidx, dot),
@@ -178,9 +168,8 @@ impl<'a, StorageT: StorageIndex> Completeness<'a, StorageT> {
 
     // The token after the dot, if there is one.
     fn token_after(&self, pidx: PIdx<StorageT>, dot: usize) -> Option<TIdx<StorageT>>
-        requires { StorageT.index pidx.0 < prods_len self.now.grm.now }
-        ensures { let symbol = slice_get (symbols_of self.now.grm.now (StorageT.index pidx.0)) dot in
-            MatchOption result ((a : ℕ) → symbol ≢ Some (Terminal a)) (λ token. symbol ≡ Some (Terminal (StorageT.index token.0))) }
+        requires { IsProdIn StorageT.index self.now pidx }
+        ensures { IsTokenAfter StorageT.index self.now pidx dot result }
     {
         match self.grm.prod(pidx).get(dot) {
             None => None,
@@ -199,13 +188,12 @@ impl<'a, StorageT: StorageIndex> Completeness<'a, StorageT> {
         pidx: PIdx<StorageT>,
         dot: usize,
     ) -> bool
-        requires state { StorageT.index s.0 < states_len self.now.stable.now }
-        requires token { StorageT.index token.0 < self.now.stable.now.tokens }
-        requires core { HasCore self.now.sgraph.now (StorageT.index s.0) (StorageT.index pidx.0) dot }
-        requires prod { StorageT.index pidx.0 < prods_len self.now.grm.now }
-        requires dot { dot < prod_len self.now.grm.now (StorageT.index pidx.0) }
-        ensures { IsTrue result ↔ EachOfCore self.now.sgraph.now (StorageT.index s.0) (StorageT.index pidx.0) dot
-            (StepsOn self.now.sgraph.now self.now.stable.now (StorageT.index s.0) (Terminal (StorageT.index token.0))) }
+        requires state { IsStateIn StorageT.index self.now s }
+        requires token { IsTokenIn StorageT.index self.now token }
+        requires core { HasCoreIn StorageT.index self.now s pidx dot }
+        requires prod { IsProdIn StorageT.index self.now pidx }
+        requires dot { IsDotIn StorageT.index self.now pidx dot }
+        ensures { IsTrue result ↔ StepsOnBy StorageT.index self.now s (Terminal (StorageT.index token.0)) pidx dot }
     {
         match self.stable.action(s, token) {
             Action::Shift(next) => self.has_advanced(s, pidx, dot, next),
@@ -215,11 +203,10 @@ impl<'a, StorageT: StorageIndex> Completeness<'a, StorageT> {
 
     // C4: if a rule is after the dot, the state has a goto by it to a state with the advanced items.
     pub(super) fn carries_core(&self, s: StIdx<StorageT>, pidx: PIdx<StorageT>, dot: usize) -> bool
-        requires known { IsKnown self.now.grm.now self.now.sgraph.now self.now.stable.now (rows_of self.now.firsts.now) }
-        requires state { StorageT.index s.0 < states_len self.now.stable.now }
-        requires core { HasCore self.now.sgraph.now (StorageT.index s.0) (StorageT.index pidx.0) dot }
-        ensures { IsTrue result ↔ EachOfCore self.now.sgraph.now (StorageT.index s.0) (StorageT.index pidx.0) dot
-            (CarriesItem self.now.grm.now self.now.sgraph.now self.now.stable.now (StorageT.index s.0)) }
+        requires known { IsTestable self.now }
+        requires state { IsStateIn StorageT.index self.now s }
+        requires core { HasCoreIn StorageT.index self.now s pidx dot }
+        ensures { IsTrue result ↔ CarriesCore StorageT.index self.now s pidx dot }
     {
         match rule_after(self.grm, pidx, dot) {
             Some((rule, _)) => self.goes_to(s, rule, pidx, dot),
@@ -235,13 +222,12 @@ impl<'a, StorageT: StorageIndex> Completeness<'a, StorageT> {
         pidx: PIdx<StorageT>,
         dot: usize,
     ) -> bool
-        requires state { StorageT.index s.0 < states_len self.now.stable.now }
-        requires rule { StorageT.index rule.0 < self.now.stable.now.rules }
-        requires core { HasCore self.now.sgraph.now (StorageT.index s.0) (StorageT.index pidx.0) dot }
-        requires prod { StorageT.index pidx.0 < prods_len self.now.grm.now }
-        requires dot { dot < prod_len self.now.grm.now (StorageT.index pidx.0) }
-        ensures { IsTrue result ↔ EachOfCore self.now.sgraph.now (StorageT.index s.0) (StorageT.index pidx.0) dot
-            (StepsOn self.now.sgraph.now self.now.stable.now (StorageT.index s.0) (Nonterminal (StorageT.index rule.0))) }
+        requires state { IsStateIn StorageT.index self.now s }
+        requires rule { IsRuleIn StorageT.index self.now rule }
+        requires core { HasCoreIn StorageT.index self.now s pidx dot }
+        requires prod { IsProdIn StorageT.index self.now pidx }
+        requires dot { IsDotIn StorageT.index self.now pidx dot }
+        ensures { IsTrue result ↔ StepsOnBy StorageT.index self.now s (Nonterminal (StorageT.index rule.0)) pidx dot }
     {
         match self.stable.goto(s, rule) {
             Some(next) => self.has_advanced(s, pidx, dot, next),
@@ -259,10 +245,9 @@ impl<'a, StorageT: StorageIndex> Completeness<'a, StorageT> {
         dot: usize,
         next: StIdx<StorageT>,
     ) -> bool
-        requires prod { StorageT.index pidx.0 < prods_len self.now.grm.now }
-        requires dot { dot < prod_len self.now.grm.now (StorageT.index pidx.0) }
-        ensures { IsTrue result ↔ ((t : ℕ) → HasItem self.now.sgraph.now (StorageT.index s.0) (StorageT.index pidx.0) dot t
-            → HasItem self.now.sgraph.now (StorageT.index next.0) (StorageT.index pidx.0) (dot + 1) t) }
+        requires prod { IsProdIn StorageT.index self.now pidx }
+        requires dot { IsDotIn StorageT.index self.now pidx dot }
+        ensures { IsTrue result ↔ HasAdvanced StorageT.index self.now s pidx dot next }
     {
         let _symbols = self.grm.prod(pidx);
         let tokens = self.sgraph.lookaheads(s, pidx, dot);
@@ -285,8 +270,8 @@ impl<'a, StorageT: StorageIndex> Completeness<'a, StorageT> {
         dot: usize,
         token: TIdx<StorageT>,
     ) -> bool
-        requires { IfSome near (λ other. HasItem self.now.sgraph.now (StorageT.index s.0) (StorageT.index pidx.0) dot (StorageT.index other.now.0)) }
-        ensures found { IsTrue result ↔ HasItem self.now.sgraph.now (StorageT.index s.0) (StorageT.index pidx.0) dot (StorageT.index token.0) }
+        requires { IsNear StorageT.index self.now near s pidx dot }
+        ensures found { IsTrue result ↔ HasItemIn StorageT.index self.now s pidx dot token }
     {
         match near {
             Some(other) if usize::from(*other) == usize::from(token) => true,
@@ -296,21 +281,19 @@ impl<'a, StorageT: StorageIndex> Completeness<'a, StorageT> {
 
     // C5: if the items are complete, the state ends the production at their lookaheads.
     pub(super) fn ends_core(&self, s: StIdx<StorageT>, pidx: PIdx<StorageT>, dot: usize) -> bool
-        requires known { IsKnown self.now.grm.now self.now.sgraph.now self.now.stable.now (rows_of self.now.firsts.now) }
-        requires state { StorageT.index s.0 < states_len self.now.stable.now }
-        requires core { HasCore self.now.sgraph.now (StorageT.index s.0) (StorageT.index pidx.0) dot }
-        ensures { IsTrue result ↔ EachOfCore self.now.sgraph.now (StorageT.index s.0) (StorageT.index pidx.0) dot
-            (EndsItem self.now.grm.now self.now.stable.now (StorageT.index s.0)) }
+        requires known { IsTestable self.now }
+        requires state { IsStateIn StorageT.index self.now s }
+        requires core { HasCoreIn StorageT.index self.now s pidx dot }
+        ensures { IsTrue result ↔ EndsCore StorageT.index self.now s pidx dot }
     {
         dot != self.grm.prod(pidx).len() || self.ends_each(s, pidx, dot)
     }
 
     // Whether the state ends the production at each lookahead of the items with this core.
     fn ends_each(&self, s: StIdx<StorageT>, pidx: PIdx<StorageT>, dot: usize) -> bool
-        requires known { IsKnown self.now.grm.now self.now.sgraph.now self.now.stable.now (rows_of self.now.firsts.now) }
-        requires state { StorageT.index s.0 < states_len self.now.stable.now }
-        ensures { IsTrue result ↔ ((t : ℕ) → HasItem self.now.sgraph.now (StorageT.index s.0) (StorageT.index pidx.0) dot t
-            → EndsBy self.now.grm.now (StorageT.index pidx.0) (action_of self.now.stable.now (StorageT.index s.0) t)) }
+        requires known { IsTestable self.now }
+        requires state { IsStateIn StorageT.index self.now s }
+        ensures { IsTrue result ↔ EndsEach StorageT.index self.now s pidx dot }
     {
         for token in self.sgraph.lookaheads(s, pidx, dot) {
             if !self.ends_at(s, pidx, *token) {
@@ -322,9 +305,9 @@ impl<'a, StorageT: StorageIndex> Completeness<'a, StorageT> {
 
     // Whether the state ends the production at the token: by a reduction, or by Accept for the start production.
     fn ends_at(&self, s: StIdx<StorageT>, pidx: PIdx<StorageT>, token: TIdx<StorageT>) -> bool
-        requires state { StorageT.index s.0 < states_len self.now.stable.now }
-        requires token { StorageT.index token.0 < self.now.stable.now.tokens }
-        ensures { IsTrue result ↔ EndsBy self.now.grm.now (StorageT.index pidx.0) (action_of self.now.stable.now (StorageT.index s.0) (StorageT.index token.0)) }
+        requires state { IsStateIn StorageT.index self.now s }
+        requires token { IsTokenIn StorageT.index self.now token }
+        ensures { IsTrue result ↔ EndsAt StorageT.index self.now s pidx token }
     {
         let is_start = usize::from(pidx) == usize::from(self.grm.start_prod());
         match self.stable.action(s, token) {

@@ -23,11 +23,11 @@ loop-prod-preserved g c =
       | then-grow w ↦
           let both = pass_grows size done c.args.starts.now c.loop-prod.starts c.grow.new.starts n c.loop-prod.grown c.grow.result c.if-grow.grown c.loop-prod.invariant.1 c.loop-prod.invariant.2
           c.grow.ensures.grown c.grow.ensures.same here w.if-grow.true w.grown-is in
-          (c.grow.ensures.starts, both.0, both.1)
+          (c.grow.ensures.kept.starts, both.0, both.1)
       | else-grow w ↦
           let both = pass_stays size done c.args.starts.now c.loop-prod.starts c.grow.new.starts n c.loop-prod.grown c.grow.result c.if-grow.grown c.loop-prod.invariant.1 c.loop-prod.invariant.2
           c.grow.ensures.grown c.grow.ensures.same here w.if-grow.false w.grown-is in
-          (c.grow.ensures.starts, both.0, both.1)
+          (c.grow.ensures.kept.starts, both.0, both.1)
     ]
 
 pub returns-clause-closed : goal.returns-clause-closed

@@ -14,13 +14,13 @@ use Rattle.lrpar_table_sentences.proofs.descend.descend.Goals as goal
 pub prod-requires : goal.prod-requires
 prod-requires g c =
     let index = g.StorageT.StorageIndex.index in
-    (start_known c.args.grm.now (choices_of index c.args.choices.now) (index c.args.first.0) (starts_of index c.args.starts.now) c.requires.starts
+    (start_known c.args.grm.now (choices_of index c.args.choices.now) (index c.args.first.0) (starts_of index c.args.starts.now) c.requires.kept.starts
     (symbol_of index c.down.symbol) (start_of index c.in-Some.start) (sym c.in-Some.ensures)).0
 
 pub returns-in_default-around-clause-descends : goal.returns-in_default-around-clause-descends
 returns-in_default-around-clause-descends g c =
     let index = g.StorageT.StorageIndex.index in
-    let known = start_known c.args.grm.now (choices_of index c.args.choices.now) (index c.args.first.0) (starts_of index c.args.starts.now) c.requires.starts
+    let known = start_known c.args.grm.now (choices_of index c.args.choices.now) (index c.args.first.0) (starts_of index c.args.starts.now) c.requires.kept.starts
     (symbol_of index c.down.symbol) (start_of index c.in-Some.start) (sym c.in-Some.ensures) in
     let long = length-map c.prod.result.now (symbol_of index) in
     let same = ap (λ xs. length xs) c.prod.ensures in
@@ -38,12 +38,12 @@ down-preserved g c =
     let s = symbol_of index c.down.symbol in
     let p = index c.in-Some.start.prod.0 in
     let k = c.in-Some.start.place in
-    let known = start_known grm choices first starts c.requires.starts s (start_of index c.in-Some.start) (sym c.in-Some.ensures) in
-    let fact = c.in-Some-around.ensures.parts in
+    let known = start_known grm choices first starts c.requires.kept.starts s (start_of index c.in-Some.start) (sym c.in-Some.ensures) in
+    let around = c.in-Some-around.ensures in
     let after = moves_in index c.push_symbols.new.out.items in
     let out = moves_in index c.down.out.items in
-    let at = around_at index c.prod.result.now (symbols_of grm p) k c.prod.ensures c.in-Some-around.next _ fact.1 in
-    let front = around_front index c.prod.result.now (symbols_of grm p) k c.prod.ensures c.in-Some-around.before.now fact.0 in
+    let at = around_at index c.prod.result.now (symbols_of grm p) k c.prod.ensures c.in-Some-around.next _ around.after in
+    let front = around_front index c.prod.result.now (symbols_of grm p) k c.prod.ensures c.in-Some-around.before.now around.before in
     let pushed = ap (frames_of index) c.in_ok-push.ensures.items ∙ frames_pushed index c.down.frames.items _ in (
       subst (All (IsFrameOf index grm)) (sym c.in_ok-push.ensures.items) (frames_known index grm c.down.frames.items _ c.down.invariant.0 known.0),
       subst (λ fs. Descending grm choices starts first (symbol_of index c.args.symbol) (frames_of index c.args.frames.now.items) (moves_in index c.args.out.now.items)
