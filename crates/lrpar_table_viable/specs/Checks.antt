@@ -1,5 +1,5 @@
 -- What the check of one state finds, over the parts that are checked.
-use Rattle.std.specs.Prelude.{◌≡◌, ◌<◌, ℕ, Bool, IsTrue, List, MatchOption, Option}
+use Rattle.std.specs.Prelude.{◌<◌, ℕ, Bool, IsTrue, List, MatchOption, Option}
 use Rattle.lrpar_grammar_places.specs.declared.span.PIdx.{PIdx}
 use Rattle.lrpar_grammar_places.specs.declared.span.StIdx.{StIdx}
 use Rattle.lrpar_grammar.specs.Grammar.{IsWellFormed}
