@@ -6,3 +6,4 @@ pub mod Counts
 pub mod Chains
 pub mod CompleteRuns
 pub mod ExpectedRuns
+pub mod CheckedStacks
