@@ -1,5 +1,5 @@
 -- What the lists of the check of chains hold while the chains of one state are counted.
-use Rattle.std.specs.Prelude.{◌≡◌, ◌<◌, ◌≤◌, ◌+◌, ◌⊎◌, ℕ, List, [], ◌∷◌, Some, Vec, length, slice_index, slice_index_or}
+use Rattle.std.specs.Prelude.{◌≡◌, ◌≢◌, ◌<◌, ◌≤◌, ◌+◌, ◌⊎◌, ℕ, List, [], ◌∷◌, Some, Vec, length, slice_index, slice_index_or}
 use Rattle.lrpar_grammar.specs.Grammar.{Grammar}
 use Rattle.lrpar_table_stacks.specs.Chain.{HasReductions, IsChainStart}
 use Rattle.lrpar_table_rows.specs.Table.{Table, goto_of}
@@ -9,6 +9,10 @@ use Rattle.lrpar_table_check.specs.Lengths.{IsLength}
 pub record HasRoom {A : Type 0} (table : Table) (rows : List (Vec ℕ A)) (row : List ℕ) : Type 0 where
   pub rules : length rows ≡ table.rules
   pub tokens : length row ≡ table.tokens
+
+-- the rows at all places but this one are the same
+abbrev pub AreOthersSame : {A : Type 0} → List (Vec ℕ A) → ℕ → List (Vec ℕ A) → Type 0
+AreOthersSame {A} old place new = (r : ℕ) (d : Vec ℕ A) → r ≢ place → slice_index_or new r d ≡ slice_index_or old r d
 
 -- state s has this goto by rule r
 pub record IsGoto (table : Table) (s r next : ℕ) : Type 0 where

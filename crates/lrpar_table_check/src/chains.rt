@@ -1,15 +1,12 @@
 //! The loop check: whether each chain of reductions under one token is short, and how short.
-ghost use Rattle.std.specs.Prelude.{◌≡◌, ◌<◌, ◌≤◌, ◌+◌, ◌↔◌, ◌∷◌, ℕ, All, IsTrue, IfErr, IfOk, MatchOption, OnOk, length};
-ghost use Rattle.std.specs.Option.{option_to_list};
+ghost use Rattle.std.specs.Prelude.{◌≡◌, ◌<◌, ◌≤◌, ◌↔◌, ℕ, All, IsTrue, IfErr, IfOk, OnOk, length};
 ghost use Rattle.lrpar_table_check.specs.Checked.{IsChainFault};
-ghost use Rattle.lrpar_table_check.specs.Counts.{HasRoom};
-ghost use Rattle.lrpar_table_check.specs.LeastCap.{AreShortAt, IsLeastAt, IsLeastCap};
-ghost use Rattle.lrpar_table_check.specs.Lengths.{IsCounted};
-ghost use Rattle.lrpar_table_stacks.specs.Chain.{AreChainsShort, HasReductions, IsLongChain, IsShortUntil};
-ghost use Rattle.lrpar_table_rows.specs.PlainRows.{plain_action, plain_goto};
+ghost use Rattle.lrpar_table_check.specs.LeastCap.{IsLeastAt, IsLeastCap};
+ghost use Rattle.lrpar_table_stacks.specs.Chain.{AreChainsShort};
+ghost use Rattle.lrpar_table_rows.specs.PlainRows.{plain_action};
 ghost use Rattle.lrpar_table_stacks.specs.Stack.{states_of};
 ghost use Rattle.lrpar_table_stacks.specs.ReductionStep.{FitsGrammar};
-ghost use Rattle.lrpar_table_rows.specs.Table.{IsClosed, IsGotoWithin, ReduceBy, states_len};
+ghost use Rattle.lrpar_table_rows.specs.Table.{IsClosed, ReduceBy, states_len};
 
 use crate::fault::CheckFault;
 use crate::longest::Counts;
@@ -28,6 +25,8 @@ pub(crate) struct Chains<'a, StorageT: StorageIndex> {
 }
 
 impl<'a, StorageT: StorageIndex> Chains<'a, StorageT> {
+    ghost use Rattle.lrpar_table_check.specs.Chains.{HaveRoom, IsAbove, IsFirstOfState, IsFirstTooLong, IsSound, IsState, IsTooLong, Makes, MakesFrom};
+
     fn new(grm: &'a YaccGrammar<StorageT>, stable: &'a StateTable<StorageT>, cap: u16) -> Self
         ensures grammar { result.grm.now ≡ grm.now }
         ensures table { result.stable.now ≡ stable.now }
@@ -46,7 +45,7 @@ impl<'a, StorageT: StorageIndex> Chains<'a, StorageT> {
     /// If a chain is too long, the chains of its state are made again, step by step, to find the first token: at none after a token
     /// at which an earlier one was too long.
     fn least(&self, alloc: Global) -> Result<u16, CheckFault>
-        requires { FitsGrammar self.now.grm.now self.now.stable.now }
+        requires { IsSound self.now }
         ensures least { IfOk result (IsLeastCap self.now.grm.now self.now.stable.now) }
         ensures short { OnOk result (AreChainsShort self.now.grm.now self.now.stable.now self.now.cap) }
         ensures fault { IfErr result (IsChainFault self.now.grm.now self.now.stable.now self.now.cap) }
@@ -67,13 +66,12 @@ impl<'a, StorageT: StorageIndex> Chains<'a, StorageT> {
         s: StIdx<StorageT>,
         from: u16,
     ) -> Result<u16, CheckFault>
-        requires fits { FitsGrammar self.now.grm.now self.now.stable.now }
-        requires closed { IsClosed self.now.stable.now }
-        requires state { StorageT.index s.0 < states_len self.now.stable.now }
+        requires sound { IsSound self.now }
+        requires state { IsState StorageT.index self.now s }
         requires from { from ≤ self.now.cap }
-        requires room { HasRoom self.now.stable.now counts.old.rows.items counts.old.row.items }
+        requires room { HaveRoom self.now counts.old }
         ensures least { IfOk result (IsLeastAt self.now.grm.now self.now.stable.now (StorageT.index s.0) from) }
-        ensures room { OnOk result (HasRoom self.now.stable.now counts.new.rows.items counts.new.row.items) }
+        ensures room { OnOk result (HaveRoom self.now counts.new) }
         ensures within { IfOk result (λ cap. cap ≤ self.now.cap) }
         ensures fault { IfErr result (IsChainFault self.now.grm.now self.now.stable.now self.now.cap) }
     {
@@ -92,13 +90,9 @@ impl<'a, StorageT: StorageIndex> Chains<'a, StorageT> {
         states: &mut Vec<StIdx<StorageT>>,
         s: StIdx<StorageT>,
     ) -> Result<Option<usize>, AllocError>
-        requires fits { FitsGrammar self.now.grm.now self.now.stable.now }
-        requires closed { IsClosed self.now.stable.now }
-        requires state { StorageT.index s.0 < states_len self.now.stable.now }
-        ensures { let g = self.now.grm.now in let table = self.now.stable.now in let cap = self.now.cap in IfOk result (λ found. MatchOption found
-            (AreShortAt g table cap (StorageT.index s.0))
-            (λ t. (t < table.tokens) × IsLongChain g table cap (StorageT.index s.0) t
-            × ((k : ℕ) → k < t → ¬ (IsLongChain g table cap (StorageT.index s.0) k)))) }
+        requires sound { IsSound self.now }
+        requires state { IsState StorageT.index self.now s }
+        ensures { IfOk result (IsFirstOfState StorageT.index self.now s) }
     {
         let tokens = self.stable.tokens_len();
         let mut end = self.short_until(states, s, None, tokens)?;
@@ -121,12 +115,10 @@ impl<'a, StorageT: StorageIndex> Chains<'a, StorageT> {
         above: Option<StIdx<StorageT>>,
         end: usize,
     ) -> Result<usize, AllocError>
-        requires fits { FitsGrammar self.now.grm.now self.now.stable.now }
-        requires closed { IsClosed self.now.stable.now }
-        requires state { StorageT.index s.0 < states_len self.now.stable.now }
-        requires above { IsGotoWithin (states_len self.now.stable.now) (plain_goto StorageT.index above) }
-        ensures { IfOk result (λ found. IsShortUntil self.now.grm.now self.now.stable.now self.now.cap
-            (StorageT.index s.0 ∷ option_to_list (plain_goto StorageT.index above)) end found) }
+        requires sound { IsSound self.now }
+        requires state { IsState StorageT.index self.now s }
+        requires above { IsAbove StorageT.index self.now above }
+        ensures { IfOk result (IsFirstTooLong StorageT.index self.now s above end) }
     {
         let top = above.unwrap_or(s);
         let (tokens, actions) = self.stable.actions_of(top);
@@ -151,13 +143,11 @@ impl<'a, StorageT: StorageIndex> Chains<'a, StorageT> {
         above: Option<StIdx<StorageT>>,
         t: TIdx<StorageT>,
     ) -> Result<bool, AllocError>
-        requires fits { FitsGrammar self.now.grm.now self.now.stable.now }
-        requires closed { IsClosed self.now.stable.now }
-        requires state { StorageT.index s.0 < states_len self.now.stable.now }
-        requires above { IsGotoWithin (states_len self.now.stable.now) (plain_goto StorageT.index above) }
+        requires sound { IsSound self.now }
+        requires state { IsState StorageT.index self.now s }
+        requires above { IsAbove StorageT.index self.now above }
         requires token { StorageT.index t.0 < self.now.stable.now.tokens }
-        ensures { IfOk result (λ long. IsTrue long ↔ HasReductions self.now.grm.now self.now.stable.now (StorageT.index t.0)
-            (StorageT.index s.0 ∷ option_to_list (plain_goto StorageT.index above)) (self.now.cap + 1)) }
+        ensures { IfOk result (λ long. IsTrue long ↔ IsTooLong StorageT.index self.now s above t) }
     {
         match self.reductions_from(states, s, above, t)? {
             Some(_) => Ok(false),
@@ -174,13 +164,11 @@ impl<'a, StorageT: StorageIndex> Chains<'a, StorageT> {
         above: Option<StIdx<StorageT>>,
         t: TIdx<StorageT>,
     ) -> Result<Option<u16>, AllocError>
-        requires fits { FitsGrammar self.now.grm.now self.now.stable.now }
-        requires closed { IsClosed self.now.stable.now }
-        requires state { StorageT.index s.0 < states_len self.now.stable.now }
-        requires above { IsGotoWithin (states_len self.now.stable.now) (plain_goto StorageT.index above) }
+        requires sound { IsSound self.now }
+        requires state { IsState StorageT.index self.now s }
+        requires above { IsAbove StorageT.index self.now above }
         requires token { StorageT.index t.0 < self.now.stable.now.tokens }
-        ensures { IfOk result (IsCounted self.now.grm.now self.now.stable.now self.now.cap (StorageT.index t.0)
-            (StorageT.index s.0 ∷ option_to_list (plain_goto StorageT.index above))) }
+        ensures { IfOk result (Makes StorageT.index self.now s above t) }
     {
         states.clear();
         states.push(s)?;
@@ -197,13 +185,11 @@ impl<'a, StorageT: StorageIndex> Chains<'a, StorageT> {
         states: &mut Vec<StIdx<StorageT>>,
         t: TIdx<StorageT>,
     ) -> Result<Option<u16>, AllocError>
-        requires fits { FitsGrammar self.now.grm.now self.now.stable.now }
-        requires closed { IsClosed self.now.stable.now }
+        requires sound { IsSound self.now }
         requires token { StorageT.index t.0 < self.now.stable.now.tokens }
         requires some { 0 < length states.old.items }
         requires within { All (λ s. s < states_len self.now.stable.now) (states_of StorageT.index states.old.items) }
-        ensures { IfOk result (IsCounted self.now.grm.now self.now.stable.now self.now.cap (StorageT.index t.0)
-            (states_of StorageT.index states.old.items)) }
+        ensures { IfOk result (MakesFrom StorageT.index self.now t states.old.items) }
     {
         for made in 0..self.cap {
             let (step, _action) = take_step(self.grm, self.stable, states, t)?;
@@ -239,7 +225,8 @@ pub(crate) fn least_cap<StorageT: StorageIndex>(
     stable: &StateTable<StorageT>,
     cap: u16,
 ) -> Result<u16, CheckFault>
-    requires { FitsGrammar grm.now stable.now }
+    requires fits { FitsGrammar grm.now stable.now }
+    requires closed { IsClosed stable.now }
     ensures least { IfOk result (IsLeastCap grm.now stable.now) }
     ensures short { OnOk result (AreChainsShort grm.now stable.now cap) }
     ensures fault { IfErr result (IsChainFault grm.now stable.now cap) }

@@ -1,7 +1,7 @@
 //! What may come next at a stack: the tokens that can be fed there, and the end token, if it accepts.
-ghost use Rattle.std.specs.Prelude.{◌≡◌, ◌<◌, ◌↔◌, IfOk, IsTrue, OnOk, OnErr};
-ghost use Rattle.lrpar_table_stacks.specs.Expected.{AreExpected, IsExpected, IsListShortOfMemory, IsTriedShortOfMemory, tokens_of};
-ghost use Rattle.lrpar_table_stacks.specs.Overlay.{IsShortOfMemoryOver, overlaid};
+ghost use Rattle.std.specs.Prelude.{◌≡◌, ◌<◌, IfOk, OnOk, OnErr};
+ghost use Rattle.lrpar_table_check.specs.CheckedStacks.{AreExpectedAt, IsExpectedShortOfMemory, IsOverlaySettleShortOfMemory, IsTrialShortOfMemory, IsWhetherExpected};
+ghost use Rattle.lrpar_table_stacks.specs.Overlay.{overlaid};
 ghost use Rattle.lrpar_table_stacks.specs.Stack.{IsStack, states_of};
 
 use crate::check::ParserData;
@@ -25,11 +25,10 @@ impl<StorageT: StorageIndex> ParserData<StorageT> {
         requires stack { IsStack self.now.table (states_of StorageT.index stack.now) }
 
         // Exactly these tokens may come next.
-        ensures expected { IfOk result (λ tokens. AreExpected self.now.grammar self.now.table (states_of StorageT.index stack.now)
-            (tokens_of StorageT.index tokens.items)) }
+        ensures expected { IfOk result (AreExpectedAt StorageT.index self.now (states_of StorageT.index stack.now)) }
 
         // Some token may come next, and is listed; or a reduction under some token is due, for which there is no room.
-        ensures short_of_memory { OnErr result (IsListShortOfMemory self.now.grammar self.now.table (states_of StorageT.index stack.now)) }
+        ensures short_of_memory { OnErr result (IsExpectedShortOfMemory self.now (states_of StorageT.index stack.now)) }
     {
         let overlay = Overlay::new(alloc, stack);
         self.expected_over(alloc, &overlay)
@@ -44,11 +43,10 @@ impl<StorageT: StorageIndex> ParserData<StorageT> {
         requires stack { IsStack self.now.table (overlaid overlay.now) }
 
         // Exactly these tokens may come next.
-        ensures expected { IfOk result (λ tokens. AreExpected self.now.grammar self.now.table (overlaid overlay.now)
-            (tokens_of StorageT.index tokens.items)) }
+        ensures expected { IfOk result (AreExpectedAt StorageT.index self.now (overlaid overlay.now)) }
 
         // Some token may come next, and is listed; or a reduction under some token is due, for which there is no room.
-        ensures short_of_memory { OnErr result (IsListShortOfMemory self.now.grammar self.now.table (overlaid overlay.now)) }
+        ensures short_of_memory { OnErr result (IsExpectedShortOfMemory self.now (overlaid overlay.now)) }
     {
         let (tokens, _) = self.stable().actions_of(overlay.top());
         let mut probe = Probe::new(alloc, overlay);
@@ -72,10 +70,10 @@ impl<StorageT: StorageIndex> ParserData<StorageT> {
     ) -> Result<bool, AllocError>
         requires stack { IsStack self.now.table (states_of StorageT.index stack.now) }
         requires token { StorageT.index t.0 < self.now.table.tokens }
-        ensures expected { IfOk result (λ yes. IsTrue yes ↔ IsExpected self.now.grammar self.now.table (states_of StorageT.index stack.now) (StorageT.index t.0)) }
+        ensures expected { IfOk result (IsWhetherExpected StorageT.index self.now (states_of StorageT.index stack.now) t) }
 
         // A reduction is due, for which there is no room.
-        ensures short_of_memory { OnErr result (IsTriedShortOfMemory self.now.grammar self.now.table (StorageT.index t.0) (states_of StorageT.index stack.now)) }
+        ensures short_of_memory { OnErr result (IsTrialShortOfMemory StorageT.index self.now (states_of StorageT.index stack.now) t) }
     {
         let overlay = Overlay::new(alloc, stack);
         self.takes(&mut Probe::new(alloc, &overlay), t)
@@ -89,9 +87,9 @@ impl<StorageT: StorageIndex> ParserData<StorageT> {
     ) -> Result<bool, AllocError>
         requires stack { IsStack self.now.table (overlaid states.old) }
         requires token { StorageT.index t.0 < self.now.table.tokens }
-        ensures expected { IfOk result (λ yes. IsTrue yes ↔ IsExpected self.now.grammar self.now.table (overlaid states.old) (StorageT.index t.0)) }
+        ensures expected { IfOk result (IsWhetherExpected StorageT.index self.now (overlaid states.old) t) }
         ensures base { OnOk result (states.new.base ≡ states.old.base) }
-        ensures short_of_memory { OnErr result (IsShortOfMemoryOver self.now.grammar self.now.table (StorageT.index t.0) states.old states.new) }
+        ensures short_of_memory { OnErr result (IsOverlaySettleShortOfMemory StorageT.index self.now t states.old states.new) }
     {
         // Checked: the table shifts no end token, and accepts only at that one.
         let _table = self.stable();

@@ -1,16 +1,9 @@
 //! How many reductions the chains of a state make. A production of one symbol leads a chain from one goto of the state to
 //! another one, at the same token. So the reductions from each goto are counted once, and the counts are used again.
-ghost use Rattle.std.specs.Prelude.{◌≡◌, ◌≢◌, ◌<◌, ◌≤◌, ◌+◌, ◌∷◌, [], All, IfOk, IfSome, OnOk, MatchOption, length, slice_index, slice_index_or, Vec, ℕ};
-ghost use Rattle.std.specs.Option.{option_to_list};
+ghost use Rattle.std.specs.Prelude.{◌≡◌, ◌<◌, ◌≤◌, ◌+◌, [], All, IfOk, IfSome, OnOk, MatchOption, length, slice_index, slice_index_or, Vec, ℕ};
 ghost use Rattle.std.specs.declared.alloc.Global.{Global};
 ghost use Rattle.lrpar_grammar.specs.Grammar.{prods_len};
-ghost use Rattle.lrpar_table_check.specs.Counts.{AreCounts, AreLengths, AreRowsCounted, HasRoom, IsGoto, IsLongestWith};
-ghost use Rattle.lrpar_table_check.specs.LeastCap.{AreShortAt, IsLeastAt};
-ghost use Rattle.lrpar_table_check.specs.Lengths.{IsCounted, IsLongest, IsLongestWithin};
-ghost use Rattle.lrpar_table_rows.specs.PlainRows.{plain_goto};
-ghost use Rattle.lrpar_table_rows.specs.Table.{IsClosed, IsGotoWithin, ReduceBy, states_len};
-ghost use Rattle.lrpar_table_stacks.specs.Reduction.{top_action};
-ghost use Rattle.lrpar_table_stacks.specs.ReductionStep.{FitsGrammar};
+ghost use Rattle.lrpar_table_check.specs.Counts.{AreOthersSame, HasRoom};
 
 use crate::chains::Chains;
 use lrpar_grammar::span::{PIdx, RIdx, StIdx, StorageIndex, TIdx};
@@ -72,7 +65,7 @@ fn clear_rows(rows: &mut [Vec<u16>])
 fn keep_row(rows: &mut [Vec<u16>], place: usize, row: &[u16]) -> Result<(), AllocError>
     requires { place < length rows.old }
     ensures kept { OnOk result ((d : Vec ℕ Global) → (slice_index_or rows.new place d).items ≡ row.now) }
-    ensures others { (r : ℕ) (d : Vec ℕ Global) → r ≢ place → slice_index_or rows.new r d ≡ slice_index_or rows.old r d }
+    ensures others { AreOthersSame rows.old place rows.new }
 {
     let kept = &mut rows[place];
     kept.clear();
@@ -80,6 +73,8 @@ fn keep_row(rows: &mut [Vec<u16>], place: usize, row: &[u16]) -> Result<(), Allo
 }
 
 impl<'a, StorageT: StorageIndex> Chains<'a, StorageT> {
+    ghost use Rattle.lrpar_table_check.specs.Chains.{AreCountsFound, AreCountsIn, AreCountsOf, AreRowsOf, BeginsBy, HasGoto, HaveRoom, IsAbove, IsLeastOfState, IsLongestFrom, IsLongestOfChain, IsLongestThrough, IsRowOf, IsSound, IsState, Makes};
+
     /// The least cap from this one on that no chain of the state exceeds; `None` if a chain of the state makes more reductions
     /// than the cap of the check.
     ///
@@ -90,15 +85,12 @@ impl<'a, StorageT: StorageIndex> Chains<'a, StorageT> {
         s: StIdx<StorageT>,
         from: u16,
     ) -> Result<Option<u16>, AllocError>
-        requires fits { FitsGrammar self.now.grm.now self.now.stable.now }
-        requires closed { IsClosed self.now.stable.now }
-        requires state { StorageT.index s.0 < states_len self.now.stable.now }
+        requires sound { IsSound self.now }
+        requires state { IsState StorageT.index self.now s }
         requires from { from ≤ self.now.cap }
-        requires room { HasRoom self.now.stable.now counts.old.rows.items counts.old.row.items }
-        ensures longest { let g = self.now.grm.now in let table = self.now.stable.now in let cap = self.now.cap in IfOk result (λ found. MatchOption found
-            (¬ (AreShortAt g table cap (StorageT.index s.0)))
-            (λ longest. IsLeastAt g table (StorageT.index s.0) from longest × (longest ≤ cap))) }
-        ensures room { IfOk result (λ found. IfSome found (λ _. HasRoom self.now.stable.now counts.new.rows.items counts.new.row.items)) }
+        requires room { HaveRoom self.now counts.old }
+        ensures longest { IfOk result (IsLeastOfState StorageT.index self.now s from) }
+        ensures room { IfOk result (λ found. IfSome found (λ _. HaveRoom self.now counts.new)) }
     {
         clear_rows(&mut counts.rows);
         let mut longest = from;
@@ -129,17 +121,13 @@ impl<'a, StorageT: StorageIndex> Chains<'a, StorageT> {
         next: StIdx<StorageT>,
         from: u16,
     ) -> Result<Option<u16>, AllocError>
-        requires fits { FitsGrammar self.now.grm.now self.now.stable.now }
-        requires closed { IsClosed self.now.stable.now }
-        requires state { StorageT.index s.0 < states_len self.now.stable.now }
-        requires goto { IsGoto self.now.stable.now (StorageT.index s.0) (StorageT.index rule.0) (StorageT.index next.0) }
+        requires sound { IsSound self.now }
+        requires state { IsState StorageT.index self.now s }
+        requires goto { HasGoto StorageT.index self.now s (rule, next) }
         requires from { from ≤ self.now.cap }
-        requires counts { AreCounts self.now.grm.now self.now.stable.now from (StorageT.index s.0) counts.old.rows.items counts.old.row.items }
-        ensures longest { IfOk result (λ found. MatchOption found
-            (¬ (AreShortAt self.now.grm.now self.now.stable.now self.now.cap (StorageT.index s.0)))
-            (λ longest. IsLongestWith self.now.grm.now self.now.stable.now self.now.cap (StorageT.index s.0) (StorageT.index next.0) from longest)) }
-        ensures counts { IfOk result (λ found. IfSome found (λ longest.
-            AreCounts self.now.grm.now self.now.stable.now longest (StorageT.index s.0) counts.new.rows.items counts.new.row.items)) }
+        requires counts { AreCountsOf StorageT.index self.now s from counts.old }
+        ensures longest { IfOk result (IsLongestThrough StorageT.index self.now s next from) }
+        ensures counts { IfOk result (AreCountsFound StorageT.index self.now s counts.new) }
     {
         self.find_ahead(&counts.rows, &mut counts.ahead, s, (rule, next))?;
         let mut longest = from;
@@ -161,12 +149,11 @@ impl<'a, StorageT: StorageIndex> Chains<'a, StorageT> {
         s: StIdx<StorageT>,
         first: (RIdx<StorageT>, StIdx<StorageT>),
     ) -> Result<(), AllocError>
-        requires fits { FitsGrammar self.now.grm.now self.now.stable.now }
-        requires state { StorageT.index s.0 < states_len self.now.stable.now }
-        requires first { IsGoto self.now.stable.now (StorageT.index s.0) (StorageT.index first.0.0) (StorageT.index first.1.0) }
-        requires closed { IsClosed self.now.stable.now }
+        requires sound { IsSound self.now }
+        requires state { IsState StorageT.index self.now s }
+        requires first { HasGoto StorageT.index self.now s first }
         requires rows { length rows.now ≡ self.now.stable.now.rules }
-        ensures { OnOk result (All (λ goto. IsGoto self.now.stable.now (StorageT.index s.0) (StorageT.index goto.0.0) (StorageT.index goto.1.0)) ahead.new.items) }
+        ensures { OnOk result (All (HasGoto StorageT.index self.now s) ahead.new.items) }
     {
         ahead.clear();
         let mut goto = first;
@@ -189,10 +176,10 @@ impl<'a, StorageT: StorageIndex> Chains<'a, StorageT> {
         s: StIdx<StorageT>,
         above: StIdx<StorageT>,
     ) -> Option<(RIdx<StorageT>, StIdx<StorageT>)>
-        requires fits { FitsGrammar self.now.grm.now self.now.stable.now }
-        requires state { StorageT.index s.0 < states_len self.now.stable.now }
-        requires above { StorageT.index above.0 < states_len self.now.stable.now }
-        ensures { IfSome result (λ goto. IsGoto self.now.stable.now (StorageT.index s.0) (StorageT.index goto.0.0) (StorageT.index goto.1.0)) }
+        requires sound { IsSound self.now }
+        requires state { IsState StorageT.index self.now s }
+        requires above { IsState StorageT.index self.now above }
+        ensures { IfSome result (HasGoto StorageT.index self.now s) }
     {
         let (tokens, actions) = self.stable.actions_of(above);
         for (place, _token) in tokens.iter().enumerate() {
@@ -210,10 +197,10 @@ impl<'a, StorageT: StorageIndex> Chains<'a, StorageT> {
         s: StIdx<StorageT>,
         prod: PIdx<StorageT>,
     ) -> Option<(RIdx<StorageT>, StIdx<StorageT>)>
-        requires fits { FitsGrammar self.now.grm.now self.now.stable.now }
-        requires state { StorageT.index s.0 < states_len self.now.stable.now }
+        requires sound { IsSound self.now }
+        requires state { IsState StorageT.index self.now s }
         requires prod { StorageT.index prod.0 < prods_len self.now.grm.now }
-        ensures { IfSome result (λ goto. IsGoto self.now.stable.now (StorageT.index s.0) (StorageT.index goto.0.0) (StorageT.index goto.1.0)) }
+        ensures { IfSome result (HasGoto StorageT.index self.now s) }
     {
         if self.grm.prod(prod).len() != 1 {
             return None;
@@ -235,17 +222,13 @@ impl<'a, StorageT: StorageIndex> Chains<'a, StorageT> {
         next: StIdx<StorageT>,
         from: u16,
     ) -> Result<Option<u16>, AllocError>
-        requires fits { FitsGrammar self.now.grm.now self.now.stable.now }
-        requires closed { IsClosed self.now.stable.now }
-        requires state { StorageT.index s.0 < states_len self.now.stable.now }
-        requires goto { IsGoto self.now.stable.now (StorageT.index s.0) (StorageT.index rule.0) (StorageT.index next.0) }
+        requires sound { IsSound self.now }
+        requires state { IsState StorageT.index self.now s }
+        requires goto { HasGoto StorageT.index self.now s (rule, next) }
         requires from { from ≤ self.now.cap }
-        requires counts { AreCounts self.now.grm.now self.now.stable.now from (StorageT.index s.0) counts.old.rows.items counts.old.row.items }
-        ensures longest { IfOk result (λ found. MatchOption found
-            (¬ (AreShortAt self.now.grm.now self.now.stable.now self.now.cap (StorageT.index s.0)))
-            (IsLongest self.now.grm.now self.now.stable.now self.now.cap (StorageT.index s.0 ∷ StorageT.index next.0 ∷ []) from)) }
-        ensures counts { IfOk result (λ found. IfSome found (λ longest.
-            AreCounts self.now.grm.now self.now.stable.now longest (StorageT.index s.0) counts.new.rows.items counts.new.row.items)) }
+        requires counts { AreCountsOf StorageT.index self.now s from counts.old }
+        ensures longest { IfOk result (IsLongestFrom StorageT.index self.now s next from) }
+        ensures counts { IfOk result (AreCountsFound StorageT.index self.now s counts.new) }
         ensures ahead { counts.new.ahead ≡ counts.old.ahead }
     {
         let place = usize::from(rule);
@@ -281,16 +264,13 @@ impl<'a, StorageT: StorageIndex> Chains<'a, StorageT> {
         above: Option<StIdx<StorageT>>,
         from: u16,
     ) -> Result<Option<u16>, AllocError>
-        requires fits { FitsGrammar self.now.grm.now self.now.stable.now }
-        requires closed { IsClosed self.now.stable.now }
-        requires state { StorageT.index s.0 < states_len self.now.stable.now }
-        requires above { IsGotoWithin (states_len self.now.stable.now) (plain_goto StorageT.index above) }
+        requires sound { IsSound self.now }
+        requires state { IsState StorageT.index self.now s }
+        requires above { IsAbove StorageT.index self.now above }
         requires from { from ≤ self.now.cap }
-        requires counts { AreCounts self.now.grm.now self.now.stable.now from (StorageT.index s.0) rows.now row.old }
-        ensures longest { IfOk result (IsLongestWithin self.now.grm.now self.now.stable.now self.now.cap
-            (StorageT.index s.0 ∷ option_to_list (plain_goto StorageT.index above)) from) }
-        ensures row { IfOk result (λ found. IfSome found (λ longest. AreLengths self.now.grm.now self.now.stable.now longest
-            (StorageT.index s.0 ∷ option_to_list (plain_goto StorageT.index above)) row.new)) }
+        requires counts { AreCountsIn StorageT.index self.now s from rows.now row.old }
+        ensures longest { IfOk result (IsLongestOfChain StorageT.index self.now s above from) }
+        ensures row { IfOk result (IsRowOf StorageT.index self.now s above row.new) }
     {
         clear_row(row);
         let top = above.unwrap_or(s);
@@ -322,17 +302,14 @@ impl<'a, StorageT: StorageIndex> Chains<'a, StorageT> {
         t: TIdx<StorageT>,
         prod: PIdx<StorageT>,
     ) -> Result<Option<u16>, AllocError>
-        requires fits { FitsGrammar self.now.grm.now self.now.stable.now }
-        requires closed { IsClosed self.now.stable.now }
-        requires state { StorageT.index s.0 < states_len self.now.stable.now }
-        requires above { IsGotoWithin (states_len self.now.stable.now) (plain_goto StorageT.index above) }
+        requires sound { IsSound self.now }
+        requires state { IsState StorageT.index self.now s }
+        requires above { IsAbove StorageT.index self.now above }
         requires token { StorageT.index t.0 < self.now.stable.now.tokens }
         requires rows { length rows.now ≡ self.now.stable.now.rules }
-        requires counted { AreRowsCounted self.now.grm.now self.now.stable.now self.now.cap (StorageT.index s.0) rows.now }
-        requires action { top_action self.now.stable.now (StorageT.index t.0) (StorageT.index s.0 ∷ option_to_list (plain_goto StorageT.index above))
-            ≡ ReduceBy (StorageT.index prod.0) }
-        ensures { IfOk result (IsCounted self.now.grm.now self.now.stable.now self.now.cap (StorageT.index t.0)
-            (StorageT.index s.0 ∷ option_to_list (plain_goto StorageT.index above))) }
+        requires counted { AreRowsOf StorageT.index self.now s rows.now }
+        requires action { BeginsBy StorageT.index self.now s above t prod }
+        ensures { IfOk result (Makes StorageT.index self.now s above t) }
     {
         let symbols = self.grm.prod(prod).len();
         let height = match above {

@@ -1,8 +1,7 @@
 //! The conditions of a safe table, each tested at one state.
-ghost use Rattle.std.specs.Prelude.{◌<◌, ◌↔◌, ℕ, IsTrue, MatchOption, Some};
+ghost use Rattle.std.specs.Prelude.{◌<◌, ◌↔◌, IsTrue};
 ghost use Rattle.lrpar_table_rows.specs.Table.{states_len};
-ghost use Rattle.lrpar_table_rows.specs.Safe.{HasShape, IsSafe, IsSafeAt};
-ghost use Rattle.lrpar_table_check.specs.Checked.{IsCheckFault};
+ghost use Rattle.lrpar_table_check.specs.SafetyTests.{HaveShape, HoldsAt, IsSafetyFault, IsUnsafeState};
 
 use crate::fault::CheckFault;
 use lrpar_grammar::span::{StIdx, StorageIndex};
@@ -13,8 +12,7 @@ use lrpar_table_rows::condition::SafetyCondition;
 pub(crate) fn first_fault<StorageT: StorageIndex>(
     parts: &Checkable<'_, StorageT>,
 ) -> Option<CheckFault>
-    ensures { MatchOption result (IsSafe parts.now.grm.now parts.now.sgraph.now parts.now.stable.now)
-        (λ fault. (cap : ℕ) → IsCheckFault parts.now.grm.now parts.now.sgraph.now parts.now.stable.now cap fault) }
+    ensures { IsSafetyFault parts.now result }
 {
     if !parts.has_shape() {
         return Some(CheckFault::Shape);
@@ -32,10 +30,8 @@ fn first_unsafe<StorageT: StorageIndex>(
     parts: &Checkable<'_, StorageT>,
     condition: SafetyCondition,
 ) -> Option<usize>
-    requires { HasShape parts.now.grm.now parts.now.sgraph.now parts.now.stable.now }
-    ensures { let g = parts.now.grm.now in let graph = parts.now.sgraph.now in let table = parts.now.stable.now in MatchOption result
-        ((s : ℕ) → s < states_len table → IsSafeAt g graph table condition s)
-        (λ s. (s < states_len table) × ¬ (IsSafeAt g graph table condition s)) }
+    requires { HaveShape parts.now }
+    ensures { IsUnsafeState parts.now condition result }
 {
     for s in 0..parts.stable.states_len() {
         let state = StIdx(StorageT::from_index(s).unwrap());
@@ -52,9 +48,9 @@ fn is_safe_at<StorageT: StorageIndex>(
     condition: SafetyCondition,
     s: StIdx<StorageT>,
 ) -> bool
-    requires shape { HasShape parts.now.grm.now parts.now.sgraph.now parts.now.stable.now }
+    requires shape { HaveShape parts.now }
     requires state { StorageT.index s.0 < states_len parts.now.stable.now }
-    ensures { IsTrue result ↔ IsSafeAt parts.now.grm.now parts.now.sgraph.now parts.now.stable.now condition (StorageT.index s.0) }
+    ensures { IsTrue result ↔ HoldsAt parts.now condition (StorageT.index s.0) }
 {
     match condition {
         SafetyCondition::S2 => parts.starts_fresh(s),

@@ -1,11 +1,8 @@
 //! What a stack of states does at a token: its reductions, and the shift after them.
-ghost use Rattle.std.specs.Prelude.{◌≡◌, ◌<◌, ◌⊎◌, IfOk, OnOk, OnErr, vec_capacity};
-ghost use Rattle.lrpar_table_stacks.specs.Overlay.{IsFedOver, IsShortOfMemoryOver, IsSettledOver, IsShiftShortOfMemoryOver, overlaid};
-ghost use Rattle.lrpar_table_stacks.specs.Reduction.{top_action};
-ghost use Rattle.lrpar_table_stacks.specs.Settled.{IsFedBy, IsShortOfMemory, IsSettledBy, IsShiftShortOfMemory};
+ghost use Rattle.std.specs.Prelude.{◌<◌, IfOk, OnOk, OnErr};
+ghost use Rattle.lrpar_table_check.specs.CheckedStacks.{IsListFed, IsListFeedShortOfMemory, IsListSettled, IsListSettleShortOfMemory, IsOverlayFed, IsOverlayFeedShortOfMemory, IsOverlaySettled, IsOverlaySettleShortOfMemory, IsStackFed, IsStackFeedShortOfMemory, IsStackSettled, IsStackSettleShortOfMemory, IsTopAction};
+ghost use Rattle.lrpar_table_stacks.specs.Overlay.{overlaid};
 ghost use Rattle.lrpar_table_stacks.specs.Stack.{IsStack, states_of};
-ghost use Rattle.lrpar_table_stacks.specs.StackReduction.{IsStackFedBy, IsStackShortOfMemory, IsStackSettledBy, IsStackShiftShortOfMemory};
-ghost use Rattle.lrpar_table_rows.specs.PlainRows.{plain_action};
 
 use crate::check::ParserData;
 use lrpar_grammar::span::{StIdx, StorageIndex, TIdx};
@@ -30,13 +27,12 @@ impl<StorageT: StorageIndex> ParserData<StorageT> {
         requires token { StorageT.index t.0 < self.now.table.tokens }
 
         // All reductions were made, on the states and on the rest; their number is given and bounded.
-        ensures settled { IfOk result (λ done. IsStackSettledBy S.states S.reduces self.now.grammar self.now.table self.now.cap (StorageT.index t.0)
-            stack.old done.reductions stack.new) }
-        ensures action { IfOk result (λ done. plain_action StorageT.index done.action ≡ top_action self.now.table (StorageT.index t.0) (S.states stack.new)) }
+        ensures settled { IfOk result (IsStackSettled StorageT.index S.states S.reduces self.now t stack.old stack.new) }
+        ensures action { IfOk result (IsTopAction StorageT.index self.now.table t (S.states stack.new)) }
         ensures suits { OnOk result (S.suits self.now.grammar self.now.table stack.new) }
 
         // Some first reductions were made, and an allocation failed in the next one.
-        ensures short_of_memory { OnErr result (IsStackShortOfMemory S.states S.reduces S.fails self.now.grammar self.now.table (StorageT.index t.0) stack.old stack.new) }
+        ensures short_of_memory { OnErr result (IsStackSettleShortOfMemory StorageT.index S.states S.reduces S.fails self.now t stack.old stack.new) }
 
         // It is a stack in either case.
         ensures stack { IsStack self.now.table (S.states stack.new) }
@@ -70,12 +66,10 @@ impl<StorageT: StorageIndex> ParserData<StorageT> {
         requires token { StorageT.index t.0 < self.now.table.tokens }
 
         // All reductions were made; their number is given and bounded.
-        ensures settled { IfOk result (λ count. IsSettledBy self.now.grammar self.now.table self.now.cap (StorageT.index t.0)
-            (states_of StorageT.index stack.old.items) count (states_of StorageT.index stack.new.items)) }
+        ensures settled { IfOk result (IsListSettled StorageT.index self.now t stack.old stack.new) }
 
         // Some first reductions were made, and the list is full for the next one.
-        ensures short_of_memory { OnErr result (IsShortOfMemory self.now.grammar self.now.table (StorageT.index t.0)
-            (states_of StorageT.index stack.old.items) (vec_capacity stack.old) (states_of StorageT.index stack.new.items) (vec_capacity stack.new)) }
+        ensures short_of_memory { OnErr result (IsListSettleShortOfMemory StorageT.index self.now t stack.old stack.new) }
 
         // It is a stack in either case.
         ensures stack { IsStack self.now.table (states_of StorageT.index stack.new.items) }
@@ -96,10 +90,10 @@ impl<StorageT: StorageIndex> ParserData<StorageT> {
         requires token { StorageT.index t.0 < self.now.table.tokens }
 
         // All reductions were made; their number is given and bounded.
-        ensures settled { IfOk result (λ count. IsSettledOver self.now.grammar self.now.table self.now.cap (StorageT.index t.0) stack.old count stack.new) }
+        ensures settled { IfOk result (IsOverlaySettled StorageT.index self.now t stack.old stack.new) }
 
         // Some first reductions were made, and the tail is full for the next one.
-        ensures short_of_memory { OnErr result (IsShortOfMemoryOver self.now.grammar self.now.table (StorageT.index t.0) stack.old stack.new) }
+        ensures short_of_memory { OnErr result (IsOverlaySettleShortOfMemory StorageT.index self.now t stack.old stack.new) }
 
         // It is a stack in either case.
         ensures stack { IsStack self.now.table (overlaid stack.new) }
@@ -119,13 +113,10 @@ impl<StorageT: StorageIndex> ParserData<StorageT> {
         requires token { StorageT.index t.0 < self.now.table.tokens }
 
         // The token was shifted after all reductions, or the top doesn't shift it.
-        ensures fed { IfOk result (λ shifted. IsStackFedBy S.states S.reduces S.shifts self.now.grammar self.now.table self.now.cap (StorageT.index t.0)
-            stack.old shifted stack.new) }
+        ensures fed { IfOk result (IsStackFed StorageT.index S.states S.reduces S.shifts self.now t stack.old stack.new) }
 
         // An allocation failed in a reduction, or in the shift after all of them.
-        ensures short_of_memory { OnErr result (
-            IsStackShortOfMemory S.states S.reduces S.fails self.now.grammar self.now.table (StorageT.index t.0) stack.old stack.new
-            ⊎ IsStackShiftShortOfMemory S.states S.reduces S.shift_fails self.now.grammar self.now.table self.now.cap (StorageT.index t.0) stack.old stack.new) }
+        ensures short_of_memory { OnErr result (IsStackFeedShortOfMemory StorageT.index S.states S.reduces S.fails S.shift_fails self.now t stack.old stack.new) }
 
         // It is a stack in each case.
         ensures stack { IsStack self.now.table (S.states stack.new) }
@@ -156,15 +147,10 @@ impl<StorageT: StorageIndex> ParserData<StorageT> {
         requires token { StorageT.index t.0 < self.now.table.tokens }
 
         // The token was shifted after all reductions, or the top doesn't shift it.
-        ensures fed { IfOk result (λ shifted. IsFedBy self.now.grammar self.now.table self.now.cap (StorageT.index t.0)
-            (states_of StorageT.index stack.old.items) shifted (states_of StorageT.index stack.new.items)) }
+        ensures fed { IfOk result (IsListFed StorageT.index self.now t stack.old stack.new) }
 
         // The list is full for the next reduction, or for the shift after all of them.
-        ensures short_of_memory { OnErr result (
-            IsShortOfMemory self.now.grammar self.now.table (StorageT.index t.0)
-            (states_of StorageT.index stack.old.items) (vec_capacity stack.old) (states_of StorageT.index stack.new.items) (vec_capacity stack.new)
-            ⊎ IsShiftShortOfMemory self.now.grammar self.now.table self.now.cap (StorageT.index t.0)
-            (states_of StorageT.index stack.old.items) (vec_capacity stack.old) (states_of StorageT.index stack.new.items) (vec_capacity stack.new)) }
+        ensures short_of_memory { OnErr result (IsListFeedShortOfMemory StorageT.index self.now t stack.old stack.new) }
 
         // It is a stack in each case.
         ensures stack { IsStack self.now.table (states_of StorageT.index stack.new.items) }
@@ -185,11 +171,10 @@ impl<StorageT: StorageIndex> ParserData<StorageT> {
         requires token { StorageT.index t.0 < self.now.table.tokens }
 
         // The token was shifted after all reductions, or the top doesn't shift it.
-        ensures fed { IfOk result (λ shifted. IsFedOver self.now.grammar self.now.table self.now.cap (StorageT.index t.0) stack.old shifted stack.new) }
+        ensures fed { IfOk result (IsOverlayFed StorageT.index self.now t stack.old stack.new) }
 
         // The tail is full for the next reduction, or for the shift after all of them.
-        ensures short_of_memory { OnErr result (IsShortOfMemoryOver self.now.grammar self.now.table (StorageT.index t.0) stack.old stack.new
-            ⊎ IsShiftShortOfMemoryOver self.now.grammar self.now.table self.now.cap (StorageT.index t.0) stack.old stack.new) }
+        ensures short_of_memory { OnErr result (IsOverlayFeedShortOfMemory StorageT.index self.now t stack.old stack.new) }
 
         // It is a stack in each case.
         ensures stack { IsStack self.now.table (overlaid stack.new) }

@@ -1,2 +1,3 @@
 pub mod Viable
 pub mod Marks
+pub mod Checks

@@ -1,5 +1,6 @@
 -- When a table is viable: each state has an item, and each core of it is there for a reason: it comes from the start, or from a
--- kernel core by closure. With the conditions of a safe table, each stack of states then has the symbols of a viable prefix. Cores
+-- kernel core by closure. This is about cores alone, whatever their lookaheads. With the conditions of a safe table, some sentential
+-- form then begins with the symbols of a stack of states, and goes on with those after the dot of any core of its top state. Cores
 -- are written as in Safe.antt.
 use Rattle.std.specs.Prelude.{◌≡◌, ◌<◌, ◌+◌, ℕ, List, ◌∷◌, drop}
 use Rattle.lrpar_grammar.specs.Grammar.{Grammar, GrammarSymbol, Nonterminal, prods_len, rule_of, start_prod, symbols_of}

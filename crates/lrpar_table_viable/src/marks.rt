@@ -1,11 +1,8 @@
 //! Marks of the rules that are after the dot of a justified core of a state.
-ghost use Rattle.std.specs.Prelude.{◌≡◌, ◌≢◌, ◌<◌, ◌≤◌, ℕ, IsTrue, false, length};
+ghost use Rattle.std.specs.Prelude.{◌≡◌, ◌≢◌, ◌<◌, ℕ, IsTrue, false, length};
 ghost use Rattle.std.specs.Bool.{OnFalse, OnTrue};
-ghost use Rattle.lrpar_grammar.specs.Grammar.{IsWellFormed, prod_len, prods_len, rules_len};
-ghost use Rattle.lrpar_table_rows.specs.Graph.{HasCore};
-ghost use Rattle.lrpar_table_rows.specs.Safe.{HasShape};
-ghost use Rattle.lrpar_table_rows.specs.Table.{states_len};
-ghost use Rattle.lrpar_table_viable.specs.Marks.{AreExact, AreMarked, MarksOn, is_begin, is_by_marks, is_marked, unmarked};
+ghost use Rattle.lrpar_grammar.specs.Grammar.{prods_len, rules_len};
+ghost use Rattle.lrpar_table_viable.specs.Marks.{is_begin, is_marked, unmarked};
 
 use lrpar_grammar::grammar::YaccGrammar;
 use lrpar_grammar::span::{PIdx, RIdx, StIdx, StorageIndex};
@@ -21,14 +18,15 @@ pub(crate) struct Viability<'a, StorageT: StorageIndex> {
 }
 
 impl<'a, StorageT: StorageIndex> Viability<'a, StorageT> {
+    ghost use Rattle.lrpar_table_viable.specs.Checks.{AreClosedMarks, AreExactMarks, AreMarksOf, AreSound, HasCoreOf, IsState, MarkAfter, by_marks};
+
     /// Marks each rule that is after the dot of a justified core of the state, and no other.
     pub(crate) fn mark_rules(&self, s: StIdx<StorageT>, marks: &mut [bool])
-        requires formed { IsWellFormed self.now.grm.now }
-        requires shape { HasShape self.now.grm.now self.now.sgraph.now self.now.stable.now }
-        requires state { StorageT.index s.0 < states_len self.now.stable.now }
+        requires sound { AreSound self.now }
+        requires state { IsState StorageT.index self.now s }
         requires rules { length marks.old ≡ rules_len self.now.grm.now }
         ensures rules { length marks.new ≡ rules_len self.now.grm.now }
-        ensures exact { AreExact self.now.grm.now self.now.sgraph.now self.now.stable.now (StorageT.index s.0) marks.new }
+        ensures exact { AreExactMarks StorageT.index self.now s marks.new }
     {
         clear(marks);
         'passes: while self.mark_all(s, marks) {}
@@ -36,14 +34,12 @@ impl<'a, StorageT: StorageIndex> Viability<'a, StorageT> {
 
     // For each core that the marks justify, marks the rule after its dot; and returns whether any was new.
     fn mark_all(&self, s: StIdx<StorageT>, marks: &mut [bool]) -> bool
-        requires formed { IsWellFormed self.now.grm.now }
-        requires shape { HasShape self.now.grm.now self.now.sgraph.now self.now.stable.now }
-        requires state { StorageT.index s.0 < states_len self.now.stable.now }
-        requires marks { AreMarked self.now.grm.now self.now.sgraph.now self.now.stable.now (StorageT.index s.0) marks.old }
-        ensures marks { AreMarked self.now.grm.now self.now.sgraph.now self.now.stable.now (StorageT.index s.0) marks.new }
+        requires sound { AreSound self.now }
+        requires state { IsState StorageT.index self.now s }
+        requires marks { AreMarksOf StorageT.index self.now s marks.old }
+        ensures marks { AreMarksOf StorageT.index self.now s marks.new }
         ensures grown { OnTrue result (unmarked marks.new < unmarked marks.old) }
-        ensures closed { OnFalse result ((p k : ℕ) → HasCore self.now.sgraph.now (StorageT.index s.0) p k
-            → MarksOn self.now.grm.now self.now.stable.now (StorageT.index s.0) marks.new p k) }
+        ensures closed { OnFalse result (AreClosedMarks StorageT.index self.now s marks.new) }
     {
         let mut grown = false;
         for (pidx, dot) in self.sgraph.cores(s) {
@@ -62,15 +58,13 @@ impl<'a, StorageT: StorageIndex> Viability<'a, StorageT> {
         dot: usize,
         marks: &mut [bool],
     ) -> bool
-        requires formed { IsWellFormed self.now.grm.now }
-        requires prod { StorageT.index pidx.0 < prods_len self.now.grm.now }
-        requires dot { dot ≤ prod_len self.now.grm.now (StorageT.index pidx.0) }
-        requires core { HasCore self.now.sgraph.now (StorageT.index s.0) (StorageT.index pidx.0) dot }
-        requires marks { AreMarked self.now.grm.now self.now.sgraph.now self.now.stable.now (StorageT.index s.0) marks.old }
-        ensures marks { AreMarked self.now.grm.now self.now.sgraph.now self.now.stable.now (StorageT.index s.0) marks.new }
+        requires sound { AreSound self.now }
+        requires core { HasCoreOf StorageT.index self.now s pidx dot }
+        requires marks { AreMarksOf StorageT.index self.now s marks.old }
+        ensures marks { AreMarksOf StorageT.index self.now s marks.new }
         ensures grown { OnTrue result (unmarked marks.new < unmarked marks.old) }
         ensures same { OnFalse result (marks.new ≡ marks.old) }
-        ensures closed { OnFalse result (MarksOn self.now.grm.now self.now.stable.now (StorageT.index s.0) marks.new (StorageT.index pidx.0) dot) }
+        ensures closed { OnFalse result (MarkAfter StorageT.index self.now s marks.new pidx dot) }
     {
         if !self.is_by_marks(s, pidx, dot, marks) {
             return false;
@@ -91,7 +85,7 @@ impl<'a, StorageT: StorageIndex> Viability<'a, StorageT> {
     ) -> bool
         requires prod { StorageT.index pidx.0 < prods_len self.now.grm.now }
         requires rules { length marks.now ≡ rules_len self.now.grm.now }
-        ensures { result ≡ is_by_marks self.now.grm.now self.now.stable.now (StorageT.index s.0) marks.now (StorageT.index pidx.0) dot }
+        ensures { result ≡ by_marks StorageT.index self.now s marks.now pidx dot }
     {
         dot != 0 || self.is_begin(s, pidx) || marks[usize::from(self.grm.prod_to_rule(pidx))]
     }

@@ -1,11 +1,8 @@
 //! Whether a table is viable: each state has a core, and each of its cores is justified.
-ghost use Rattle.std.specs.Prelude.{◌≡◌, ◌<◌, ℕ, IfErr, IfSome, IsTrue, MatchOption, OnOk, length};
+ghost use Rattle.std.specs.Prelude.{◌≡◌, IfErr, IfSome, OnOk, length};
 ghost use Rattle.lrpar_grammar.specs.Grammar.{IsWellFormed, rules_len};
-ghost use Rattle.lrpar_table_rows.specs.Graph.{HasCore};
 ghost use Rattle.lrpar_table_rows.specs.Safe.{HasShape};
-ghost use Rattle.lrpar_table_rows.specs.Table.{states_len};
-ghost use Rattle.lrpar_table_viable.specs.Marks.{IsFaultAt, IsFirstByMarks, is_by_marks};
-ghost use Rattle.lrpar_table_viable.specs.Viable.{IsViable, IsViableAt, IsViableFault};
+ghost use Rattle.lrpar_table_viable.specs.Viable.{IsViable, IsViableFault};
 ghost use Rattle.lrpar_table_viable.specs.declared.viable_fault.ViableFault.TheVariants.{Memory};
 
 use crate::marks::Viability;
@@ -48,13 +45,13 @@ pub fn check_viable<StorageT: StorageIndex>(
 }
 
 impl<'a, StorageT: StorageIndex> Viability<'a, StorageT> {
+    ghost use Rattle.lrpar_table_viable.specs.Checks.{AreSound, IsFaultOf, IsFaultOfState, IsFirstRefused, IsState};
+
     // What is wrong in the first state that isn't viable. `marks` is scratch space: one for each rule.
     fn first_fault(&self, marks: &mut [bool]) -> Option<ViableFault>
-        requires formed { IsWellFormed self.now.grm.now }
-        requires shape { HasShape self.now.grm.now self.now.sgraph.now self.now.stable.now }
+        requires sound { AreSound self.now }
         requires rules { length marks.old ≡ rules_len self.now.grm.now }
-        ensures fault { let g = self.now.grm.now in let graph = self.now.sgraph.now in let table = self.now.stable.now in
-            MatchOption result (IsViable g graph table) (IsViableFault g graph table) }
+        ensures fault { IsFaultOf self.now result }
         ensures refuted { IfSome result (λ _. ¬ (IsViable self.now.grm.now self.now.sgraph.now self.now.stable.now)) }
     {
         for s in 0..self.stable.states_len() {
@@ -68,13 +65,11 @@ impl<'a, StorageT: StorageIndex> Viability<'a, StorageT> {
 
     // What is wrong in the state, if anything is.
     fn fault_at(&self, s: StIdx<StorageT>, marks: &mut [bool]) -> Option<ViableFault>
-        requires formed { IsWellFormed self.now.grm.now }
-        requires shape { HasShape self.now.grm.now self.now.sgraph.now self.now.stable.now }
-        requires state { StorageT.index s.0 < states_len self.now.stable.now }
+        requires sound { AreSound self.now }
+        requires state { IsState StorageT.index self.now s }
         requires rules { length marks.old ≡ rules_len self.now.grm.now }
         ensures rules { length marks.new ≡ rules_len self.now.grm.now }
-        ensures fault { let g = self.now.grm.now in let graph = self.now.sgraph.now in let table = self.now.stable.now in
-            MatchOption result (IsViableAt g graph table (StorageT.index s.0)) (IsFaultAt g graph table (StorageT.index s.0)) }
+        ensures fault { IsFaultOfState StorageT.index self.now s result }
     {
         let number = usize::from(s);
         if self.sgraph.cores(s).is_empty() {
@@ -89,12 +84,10 @@ impl<'a, StorageT: StorageIndex> Viability<'a, StorageT> {
 
     // The first production whose core with dot 0 the marks don't justify.
     fn unjustified(&self, s: StIdx<StorageT>, marks: &[bool]) -> Option<PIdx<StorageT>>
-        requires shape { HasShape self.now.grm.now self.now.sgraph.now self.now.stable.now }
-        requires state { StorageT.index s.0 < states_len self.now.stable.now }
+        requires sound { AreSound self.now }
+        requires state { IsState StorageT.index self.now s }
         requires rules { length marks.now ≡ rules_len self.now.grm.now }
-        ensures { let g = self.now.grm.now in let graph = self.now.sgraph.now in let table = self.now.stable.now in MatchOption result
-            ((p k : ℕ) → HasCore graph (StorageT.index s.0) p k → IsTrue (is_by_marks g table (StorageT.index s.0) marks.now p k))
-            (λ pidx. IsFirstByMarks g graph table (StorageT.index s.0) marks.now (StorageT.index pidx.0)) }
+        ensures { IsFirstRefused StorageT.index self.now s marks.now result }
     {
         for (pidx, dot) in self.sgraph.cores(s) {
             if !self.is_by_marks(s, *pidx, *dot, marks) {

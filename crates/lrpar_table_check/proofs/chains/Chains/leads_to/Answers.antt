@@ -9,5 +9,5 @@ unit_goto-requires-clause-prod g c =
     let stored =
     stored_reduction index d.grm.now d.stable.now (index c.args.above.0) c.actions_of.result.0.now c.actions_of.result.1.now at.entries at.actions
     c.loop-place.place c.index-tokens-place.result c.index-actions-place.result c.loop-place-test.true c.index-tokens-place.is c.index-actions-place.is
-    c.in-Reduce.prod at.exact at.within c.requires.fits c.in-Reduce.is in
+    c.in-Reduce.prod at.exact at.within c.requires.sound.fits c.in-Reduce.is in
     stored.known

@@ -22,7 +22,7 @@ made_at-requires-clause-token g c =
     let stored =
     stored_reduction index d.grm.now d.stable.now (index c.unwrap_or-top.result.0) c.actions_of.result.0.now c.actions_of.result.1.now at.entries at.actions
     c.loop-place.place c.index-tokens-place.result c.index-actions-place.result c.loop-place-test.true c.index-tokens-place.is c.index-actions-place.is
-    c.in-Reduce.prod at.exact at.within c.requires.fits c.in-Reduce.is in
+    c.in-Reduce.prod at.exact at.within c.requires.sound.fits c.in-Reduce.is in
     stored.token
 
 pub made_at-requires-clause-counted : goal.made_at-requires-clause-counted
@@ -39,7 +39,7 @@ made_at-requires-clause-action g c =
     let stored =
     stored_reduction index d.grm.now d.stable.now (index c.unwrap_or-top.result.0) c.actions_of.result.0.now c.actions_of.result.1.now at.entries at.actions
     c.loop-place.place c.index-tokens-place.result c.index-actions-place.result c.loop-place-test.true c.index-tokens-place.is c.index-actions-place.is
-    c.in-Reduce.prod at.exact at.within c.requires.fits c.in-Reduce.is in
+    c.in-Reduce.prod at.exact at.within c.requires.sound.fits c.in-Reduce.is in
     chain_action index d.grm.now d.stable.now d.cap c.args.s c.unwrap_or-top.result c.args.above c.unwrap_or-top.ensures c.args.from
     (index c.index-tokens-place.result.0) (index c.in-Reduce.prod.0) stored.action
 
@@ -51,7 +51,7 @@ bounds-row-from g c =
     let stored =
     stored_reduction index d.grm.now d.stable.now (index c.unwrap_or-top.result.0) c.actions_of.result.0.now c.actions_of.result.1.now at.entries at.actions
     c.loop-place.place c.index-tokens-place.result c.index-actions-place.result c.loop-place-test.true c.index-tokens-place.is c.index-actions-place.is
-    c.in-Reduce.prod at.exact at.within c.requires.fits c.in-Reduce.is in
+    c.in-Reduce.prod at.exact at.within c.requires.sound.fits c.in-Reduce.is in
     omega (arith, stored.token, c.from.ensures, c.requires.counts.room.tokens)
 
 pub offset_bounds-row-from : goal.offset_bounds-row-from
@@ -62,7 +62,7 @@ offset_bounds-row-from g c =
     let stored =
     stored_reduction index d.grm.now d.stable.now (index c.unwrap_or-top.result.0) c.actions_of.result.0.now c.actions_of.result.1.now at.entries at.actions
     c.loop-place.place c.index-tokens-place.result c.index-actions-place.result c.loop-place-test.true c.index-tokens-place.is c.index-actions-place.is
-    c.in-Reduce.prod at.exact at.within c.requires.fits c.in-Reduce.is in
+    c.in-Reduce.prod at.exact at.within c.requires.sound.fits c.in-Reduce.is in
     let within : c.from.result < length c.loop-place.row = omega (arith, stored.token, c.from.ensures, c.requires.counts.room.tokens) in
     omega (arith, within)
 
@@ -76,7 +76,7 @@ returns-in-None-clause-longest g c =
     let stored =
     stored_reduction index d.grm.now d.stable.now (index c.unwrap_or-top.result.0) c.actions_of.result.0.now c.actions_of.result.1.now at.entries at.actions
     c.loop-place.place c.index-tokens-place.result c.index-actions-place.result c.loop-place-test.true c.index-tokens-place.is c.index-actions-place.is
-    c.in-Reduce.prod at.exact at.within c.requires.fits c.in-Reduce.is in
+    c.in-Reduce.prod at.exact at.within c.requires.sound.fits c.in-Reduce.is in
     (t, stored.token, counted_long d.grm.now d.stable.now t start d.cap c.in_ok-made.field-0 c.in_ok-made.ensures c.in-None.is)
 
 pub loop-place-preserved : goal.loop-place-preserved
@@ -99,7 +99,7 @@ loop-place-preserved g c =
           let stored =
           stored_reduction index grm table (index c.unwrap_or-top.result.0) c.actions_of.result.0.now c.actions_of.result.1.now at.entries at.actions
           c.loop-place.place c.index-tokens-place.result c.index-actions-place.result c.loop-place-test.true c.index-tokens-place.is c.index-actions-place.is
-          w.in-Reduce.prod at.exact at.within c.requires.fits w.in-Reduce.is in
+          w.in-Reduce.prod at.exact at.within c.requires.sound.fits w.in-Reduce.is in
           let within : t < length c.loop-place.row = omega (arith, stored.token, c.requires.counts.room.tokens) in
           let more =
           chain_more index grm table d.cap c.args.s c.unwrap_or-top.result c.args.above c.unwrap_or-top.ensures c.args.from

@@ -24,11 +24,11 @@ returns-then-token-len g c =
     let row = c.index-rows-from.result.items in
     let symbols = length_by_image (symbol_of index) c.prod-symbols.result.now (symbols_of grm p) c.prod-symbols.ensures in
     let place : c.from.result ≡ rule_of grm p = c.from.ensures ∙ c.prod_to_rule.ensures.rule in
-    let below : rule_of grm p < length c.args.rows.now = omega (arith, c.prod_to_rule.ensures.rule, c.prod_to_rule.ensures.within, c.requires.rows, c.requires.fits.rules) in
+    let below : rule_of grm p < length c.args.rows.now = omega (arith, c.prod_to_rule.ensures.rule, c.prod_to_rule.ensures.within, c.requires.rows, c.requires.sound.fits.rules) in
     let counted = row_counted grm table d.cap s (rule_of grm p) c.from.result c.args.rows.now c.index-rows-from.result c.requires.counted place below c.index-rows-from.is in
     let within : t < length row = omega (arith, c.if-token-len.true, c.len.ensures, c.from-token.ensures) in
     let action = action_by_top table t (s ∷ above) (index (unwrap_or c.args.above c.args.s).0) (start_top index c.args.s (unwrap_or c.args.above c.args.s) c.args.above refl) in
-    let known : p < prods_len grm = c.requires.fits.reduces (index (unwrap_or c.args.above c.args.s).0) t p (sym action ∙ c.requires.action) in
+    let known : p < prods_len grm = c.requires.sound.fits.reduces (index (unwrap_or c.args.above c.args.s).0) t p (sym action ∙ c.requires.action) in
     let height : c.match-above.height ≡ length (s ∷ above) =
     elim c.match-above.branch [
       | in-Some w ↦ w.height-is ∙ sym (ap (λ o. length (s ∷ option_to_list (plain_goto index o))) w.in-Some.is)

@@ -46,7 +46,7 @@ loop-made-preserved g c =
     let states = states_of index c.loop-made.states.items in
     let after = states_of index c.take_step.new.states.items in
     let reduced = subst (λ (s : Step). IsStepOf grm table t states s after) c.in-Reduced.is c.in_ok-step.ensures.step in
-    let within = reduced_within grm table t states reduced.0 after c.requires.closed c.loop-made.invariant.within reduced.1 in
+    let within = reduced_within grm table t states reduced.0 after c.requires.sound.closed c.loop-made.invariant.within reduced.1 in
     record {
       some = rw length-map at within.0;
       within = within.1;

@@ -11,20 +11,10 @@ use Rattle.lrpar_table_viable.proofs.marks.Viability.mark_all.Goals.{then-mark_a
 pub loop-pidx-init : goal.loop-pidx-init
 loop-pidx-init g c = (c.requires.marks, record { less = tt; same = (refl, λ j low. absurd (omega (arith, low))) })
 
-pub mark_after-requires-clause-prod : goal.mark_after-requires-clause-prod
-mark_after-requires-clause-prod g c =
-    (core_known g.StorageT.StorageIndex.index c.args.self.now.grm.now c.args.self.now.sgraph.now c.args.self.now.stable.now _ c.cores-pidx-items.result.now
-    c.loop-pidx.pidx-index c.loop-pidx-item.result c.requires.shape c.cores-pidx-items.ensures.all c.loop-pidx-test.true c.loop-pidx-item.is).0
-
-pub mark_after-requires-clause-dot : goal.mark_after-requires-clause-dot
-mark_after-requires-clause-dot g c =
-    (core_known g.StorageT.StorageIndex.index c.args.self.now.grm.now c.args.self.now.sgraph.now c.args.self.now.stable.now _ c.cores-pidx-items.result.now
-    c.loop-pidx.pidx-index c.loop-pidx-item.result c.requires.shape c.cores-pidx-items.ensures.all c.loop-pidx-test.true c.loop-pidx-item.is).1
-
 pub mark_after-requires-clause-core : goal.mark_after-requires-clause-core
 mark_after-requires-clause-core g c =
     (core_known g.StorageT.StorageIndex.index c.args.self.now.grm.now c.args.self.now.sgraph.now c.args.self.now.stable.now _ c.cores-pidx-items.result.now
-    c.loop-pidx.pidx-index c.loop-pidx-item.result c.requires.shape c.cores-pidx-items.ensures.all c.loop-pidx-test.true c.loop-pidx-item.is).2
+    c.loop-pidx.pidx-index c.loop-pidx-item.result c.requires.sound.shape c.cores-pidx-items.ensures.all c.loop-pidx-test.true c.loop-pidx-item.is).2
 
 pub loop-pidx-preserved : goal.loop-pidx-preserved
 loop-pidx-preserved g c =

@@ -11,4 +11,4 @@ passes-init g c =
 pub returns-clause-exact : goal.returns-clause-exact
 returns-clause-exact g c =
     exact_marks c.args.self.now.grm.now c.args.self.now.sgraph.now c.args.self.now.stable.now (g.StorageT.StorageIndex.index c.args.s.0) c.mark_all.new.marks
-    c.requires.shape c.mark_all.ensures.marks (OnFalse_at c.passes-test.false c.mark_all.ensures.closed)
+    c.requires.sound.shape c.mark_all.ensures.marks (OnFalse_at c.passes-test.false c.mark_all.ensures.closed)

@@ -10,7 +10,7 @@ use Rattle.lrpar_table_viable.proofs.marks.Viability.unjustified.Goals as goal
 pub is_by_marks-requires-clause-prod : goal.is_by_marks-requires-clause-prod
 is_by_marks-requires-clause-prod g c =
     (core_known g.StorageT.StorageIndex.index c.args.self.now.grm.now c.args.self.now.sgraph.now c.args.self.now.stable.now _ c.cores-pidx-items.result.now
-    c.loop-pidx.pidx-index c.loop-pidx-item.result c.requires.shape c.cores-pidx-items.ensures.all c.loop-pidx-test.true c.loop-pidx-item.is).0
+    c.loop-pidx.pidx-index c.loop-pidx-item.result c.requires.sound.shape c.cores-pidx-items.ensures.all c.loop-pidx-test.true c.loop-pidx-item.is).0
 
 pub loop-pidx-preserved : goal.loop-pidx-preserved
 loop-pidx-preserved g c =
@@ -33,7 +33,7 @@ returns-then-not-is_by_marks g c =
     let p = index core.0.0 in
     let refused : is_by_marks grm table s marks p core.1 ≡ false = sym c.is_by_marks.ensures ∙ c.if-not-is_by_marks.true in
     let zero = dot_of_refused grm table s marks p core.1 refused in
-    let known = core_known index grm graph table s items c.loop-pidx.pidx-index core c.requires.shape c.cores-pidx-items.ensures.all c.loop-pidx-test.true c.loop-pidx-item.is in
+    let known = core_known index grm graph table s items c.loop-pidx.pidx-index core c.requires.sound.shape c.cores-pidx-items.ensures.all c.loop-pidx-test.true c.loop-pidx-item.is in
     record {
       has = subst (HasCore graph s p) zero known.2;
       unmarked = subst (λ (k : ℕ). is_by_marks grm table s marks p k ≡ false) zero refused;
