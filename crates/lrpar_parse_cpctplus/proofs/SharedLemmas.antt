@@ -1,5 +1,5 @@
 -- A graph over stacks that are added: the engine's moves add stacks, and a step from a configuration by its numbers is one from what they mean.
-use Rattle.std.proofs.Common.{◌≡◌, ◌+◌, ◌-◌, ◌∙◌, ℕ, Bool, true, false, List, [], ◌∷◌, ◌++◌, Option, Some, None, length, slice_get, sym, subst, ap, arith, append-nil, append_assoc}
+use Rattle.std.proofs.Common.{◌≡◌, ◌-◌, ◌∙◌, ℕ, Bool, true, false, List, [], ◌∷◌, ◌++◌, Option, Some, None, length, slice_get, sym, subst, ap, arith, append-nil, append_assoc}
 use Rattle.std.proofs.lemmas.List.{length_push}
 use Rattle.lrpar_grammar.specs.Grammar.{Grammar}
 use Rattle.lrpar_table_rows.specs.Table.{Table}

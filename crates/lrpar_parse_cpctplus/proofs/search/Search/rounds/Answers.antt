@@ -1,4 +1,4 @@
-use Rattle.std.proofs.Common.{◌≡◌, ◌≤◌, ◌+◌, ◌-◌, ◌∙◌, inl, inr, ℕ, List, ap, arith, length, subst, sym}
+use Rattle.std.proofs.Common.{◌≤◌, ◌+◌, ◌∙◌, inl, inr, ℕ, List, arith, length, subst, sym}
 use Rattle.lrpar_parse_lexemes.specs.Views.{token_by}
 use Rattle.lrpar_parse_cpctplus.specs.Configurations.{Configured}
 use Rattle.lrpar_parse_cpctplus.specs.GraphView.{nodes_in, plain_links}
