@@ -1,5 +1,5 @@
 -- How many rests of repairs begin at a node: as many as after its links together; and which nodes have any of a number of steps.
-use Rattle.std.proofs.Common.{◌≡◌, ◌≢◌, ◌<◌, ◌≤◌, ◌==◌, ◌+◌, ◌-◌, ◌^◌, ◌∙◌, ◌&&◌, ◌⊎◌, inl, inr, ℕ, zero, suc, List, [], ◌∷◌, ◌++◌, Bool, true, false, IsTrue, Option, Some, None, MatchOption, OnOk, Ok, Err, Result, cond, flat_map, get_or, is_some, length, map, min, take, refl, sym, subst, ap, arith, Contains}
+use Rattle.std.proofs.Common.{◌≡◌, ◌≢◌, ◌<◌, ◌≤◌, ◌==◌, ◌+◌, ◌-◌, ◌^◌, ◌∙◌, ◌&&◌, ◌⊎◌, inl, inr, ℕ, zero, suc, List, [], ◌∷◌, ◌++◌, Bool, true, false, IsTrue, Option, Some, None, MatchOption, cond, flat_map, get_or, is_some, length, map, min, take, refl, sym, subst, ap, arith, Contains}
 use Rattle.std.specs.Prelude.{nat_eq}
 use Rattle.std.specs.HashMap.{get}
 use Rattle.std.proofs.lemmas.Bool.{cases_eq, cases_lt, eq-eqb, ne_eqb}
@@ -8,10 +8,11 @@ use Rattle.std.proofs.lemmas.List.Concat.{flat_map-append}
 use Rattle.std.proofs.lemmas.List.Elements.{Contains-append_left, Contains-push, Contains-push_cases}
 use Rattle.lrpar_parse_repair.specs.PlainSteps.{plain_step}
 use Rattle.lrpar_parse_repair.specs.Sequences.{PlainStep}
-use Rattle.lrpar_parse_cpctplus.specs.Counted.{AreCounts, AreLayers, AreNumbers, IsLayer, IsPartOfLayer, count_at, count_in, count_of, counted, number_of}
+use Rattle.lrpar_parse_cpctplus.specs.Counted.{AddsNode, AreCounts, AreLayers, AreNumbers, IsLayer, IsPartOfLayer, count_at, count_in, count_of, counted, has_node, number_of}
 use Rattle.lrpar_parse_cpctplus.specs.Forming.{allows_none, form_after, form_of}
 use Rattle.lrpar_parse_cpctplus.specs.Graph.{PlainLink}
 use Rattle.lrpar_parse_cpctplus.specs.LinkView.{plain_link}
+use Rattle.lrpar_parse_cpctplus.specs.NodesView.{AddsSources, AreNextCounts, rests_of}
 use Rattle.lrpar_parse_cpctplus.specs.Rests.{rests}
 use Rattle.lrpar_parse_cpctplus.specs.declared.form.Class.{Class}
 use Rattle.lrpar_parse_cpctplus.specs.declared.form.Class.TheVariants.{Clean, Avoided, Any, Nothing}
@@ -20,6 +21,7 @@ use Rattle.lrpar_parse_cpctplus.specs.declared.layer.Counts.{Counts}
 use Rattle.lrpar_parse_cpctplus.specs.declared.layer.Layer.{Layer}
 use Rattle.lrpar_parse_cpctplus.specs.declared.layer.Numbers.{Numbers}
 use Rattle.lrpar_parse_cpctplus.specs.declared.link.Link.{Link}
+use Rattle.lrpar_parse_cpctplus.specs.declared.nodes.Nodes.{Nodes}
 use Rattle.lrpar_parse_cpctplus.proofs.MemberLemmas.{IsIn, contained, is_in}
 use Rattle.lrpar_parse_cpctplus.proofs.RestLemmas.{at_end, no_more_rests, no_rests_of_none, rests_by}
 
@@ -107,24 +109,22 @@ module _ (avoided : List Bool) (end : ℕ) (next : ℕ → List PlainLink) where
 
   -- the layer of no steps
   pub first_is_layer : (old new : Layer) (counts : Counts) → counts ≡ record { after_delete = one_rest; after_other = one_rest }
-      → ((u : ℕ) → get nat_eq old.counts u ≡ None)
-      → ((u : ℕ) → get nat_eq new.counts u ≡ cond (end == u) (Some counts) (get nat_eq old.counts u))
-      → new.nodes.items ≡ old.nodes.items ++ end ∷ [] → IsLayer (rests avoided end next 0) new
-  first_is_layer old new counts are empty got pushed u =
+      → ((u : ℕ) → get nat_eq old.counts u ≡ None) → AddsNode end counts old new → IsLayer (rests avoided end next 0) new
+  first_is_layer old new counts are empty adds u =
       let Says : Option Counts → Type 0 = λ o.
       MatchOption o ((form : Form) → rests avoided end next 0 form u ≡ []) (λ counts. AreCounts (λ form. rests avoided end next 0 form u) counts × Contains new.nodes.items u) in
       elim (cases_eq end u) as (λ _. Says (get nat_eq new.counts u)) [
         | inl same ↦
             let is : get nat_eq new.counts u ≡ Some counts =
-            got u ∙ ap (λ (b : Bool). cond b (Some counts) (get nat_eq old.counts u)) (eq-eqb end u same) in
+            adds.got u ∙ ap (λ (b : Bool). cond b (Some counts) (get nat_eq old.counts u)) (eq-eqb end u same) in
             let here : Contains new.nodes.items u =
-            subst (λ (l : List ℕ). Contains l u) (sym pushed) (subst (λ (n : ℕ). Contains (old.nodes.items ++ n ∷ []) u) (sym same) (Contains-push old.nodes.items u)) in
+            subst (λ (l : List ℕ). Contains l u) (sym adds.listed) (subst (λ (n : ℕ). Contains (old.nodes.items ++ n ∷ []) u) (sym same) (Contains-push old.nodes.items u)) in
             let numbers : (form : Form) → count_of counts form ≡ counted (rests avoided end next 0 form u) = λ form.
             ap (λ (k : Counts). count_of k form) are ∙ end_counts form ∙ ap (λ (n : ℕ). counted (rests avoided end next 0 form n)) same in
             subst Says (sym is) (numbers, here)
         | inr other ↦
             let is : get nat_eq new.counts u ≡ None =
-            got u ∙ ap (λ (b : Bool). cond b (Some counts) (get nat_eq old.counts u)) (ne_eqb end u other) ∙ empty u in
+            adds.got u ∙ ap (λ (b : Bool). cond b (Some counts) (get nat_eq old.counts u)) (ne_eqb end u other) ∙ empty u in
             subst Says (sym is) (λ form. none_elsewhere form u (λ e. other (sym e)))
       ]
 
@@ -173,27 +173,26 @@ module _ (avoided : List Bool) (end : ℕ) (next : ℕ → List PlainLink) where
 
 -- a part of a layer, and a node more
 pub part_more : (begin : Form → ℕ → List (List PlainStep)) (old new : Layer) (node : ℕ) (counts : Counts) → AreCounts (λ form. begin form node) counts
-    → ((u : ℕ) → get nat_eq new.counts u ≡ cond (node == u) (Some counts) (get nat_eq old.counts u))
-    → new.nodes.items ≡ old.nodes.items ++ node ∷ [] → IsPartOfLayer begin old → IsPartOfLayer begin new
-part_more begin old new node counts are got pushed part u =
+    → AddsNode node counts old new → IsPartOfLayer begin old → IsPartOfLayer begin new
+part_more begin old new node counts are adds part u =
     let Says : Option Counts → Type 0 = λ o. MatchOption o (Unit {0}) (λ counts. AreCounts (λ form. begin form u) counts × Contains new.nodes.items u) in
     elim (cases_eq node u) as (λ _. Says (get nat_eq new.counts u)) [
       | inl same ↦
           let is : get nat_eq new.counts u ≡ Some counts =
-          got u ∙ ap (λ (b : Bool). cond b (Some counts) (get nat_eq old.counts u)) (eq-eqb node u same) in
+          adds.got u ∙ ap (λ (b : Bool). cond b (Some counts) (get nat_eq old.counts u)) (eq-eqb node u same) in
           let here : Contains new.nodes.items u =
-          subst (λ (l : List ℕ). Contains l u) (sym pushed) (subst (λ (n : ℕ). Contains (old.nodes.items ++ n ∷ []) u) (sym same) (Contains-push old.nodes.items u)) in
+          subst (λ (l : List ℕ). Contains l u) (sym adds.listed) (subst (λ (n : ℕ). Contains (old.nodes.items ++ n ∷ []) u) (sym same) (Contains-push old.nodes.items u)) in
           subst Says (sym is) (subst (λ (n : ℕ). AreCounts (λ form. begin form n) counts) same are, here)
       | inr other ↦
           let is : get nat_eq new.counts u ≡ get nat_eq old.counts u =
-          got u ∙ ap (λ (b : Bool). cond b (Some counts) (get nat_eq old.counts u)) (ne_eqb node u other) in
+          adds.got u ∙ ap (λ (b : Bool). cond b (Some counts) (get nat_eq old.counts u)) (ne_eqb node u other) in
           subst Says (sym is) (stays (get nat_eq old.counts u) (part u))
     ]
   where
     stays : (o : Option Counts) → MatchOption o (Unit {0}) (λ counts. AreCounts (λ form. begin form u) counts × Contains old.nodes.items u)
         → MatchOption o (Unit {0}) (λ counts. AreCounts (λ form. begin form u) counts × Contains new.nodes.items u)
     stays None h = tt
-    stays (Some k) h = (h.0, subst (λ (l : List ℕ). Contains l u) (sym pushed) (Contains-append_left old.nodes.items (node ∷ []) u h.1))
+    stays (Some k) h = (h.0, subst (λ (l : List ℕ). Contains l u) (sym adds.listed) (Contains-append_left old.nodes.items (node ∷ []) u h.1))
 
 -- an empty layer is a part of any
 pub none_is_part : (begin : Form → ℕ → List (List PlainStep)) (layer : Layer) → ((u : ℕ) → get nat_eq layer.counts u ≡ None) → IsPartOfLayer begin layer
@@ -201,20 +200,36 @@ none_is_part begin layer empty u =
     subst (λ (o : Option Counts). MatchOption o (Unit {0}) (λ counts. AreCounts (λ form. begin form u) counts × Contains layer.nodes.items u)) (sym (empty u)) tt
 
 -- the node that was added is there, and so is each that was
-pub there_now : (old new : Layer) (node : ℕ) (counts : Counts)
-    → ((u : ℕ) → get nat_eq new.counts u ≡ cond (node == u) (Some counts) (get nat_eq old.counts u)) → IsTrue (is_some (get nat_eq new.counts node))
-there_now old new node counts got =
-    ap (λ (o : Option Counts). is_some o) (got node ∙ ap (λ (b : Bool). cond b (Some counts) (get nat_eq old.counts node)) (eq-eqb node node refl))
+there_now : (old new : Layer) (node : ℕ) (counts : Counts) → AddsNode node counts old new → IsTrue (has_node new node)
+there_now old new node counts adds =
+    ap (λ (o : Option Counts). is_some o) (adds.got node ∙ ap (λ (b : Bool). cond b (Some counts) (get nat_eq old.counts node)) (eq-eqb node node refl))
 
-pub there_still : (old new : Layer) (node : ℕ) (counts : Counts)
-    → ((u : ℕ) → get nat_eq new.counts u ≡ cond (node == u) (Some counts) (get nat_eq old.counts u)) → (u : ℕ) → IsTrue (is_some (get nat_eq old.counts u))
-    → IsTrue (is_some (get nat_eq new.counts u))
-there_still old new node counts got u h =
-    subst (λ (o : Option Counts). IsTrue (is_some o)) (sym (got u)) (either (node == u))
+there_still : (old new : Layer) (node : ℕ) (counts : Counts) → AddsNode node counts old new → (u : ℕ) → IsTrue (has_node old u) → IsTrue (has_node new u)
+there_still old new node counts adds u h =
+    subst (λ (o : Option Counts). IsTrue (is_some o)) (sym (adds.got u)) (either (node == u))
   where
     either : (b : Bool) → IsTrue (is_some (cond b (Some counts) (get nat_eq old.counts u)))
     either true = refl
     either false = h
+
+-- a node that is added, or was there, for those of one step more than a layer has
+only_one : (node : ℕ) (layer : Layer) → IsTrue (has_node layer node) → (u : ℕ) → Contains (node ∷ []) u → IsTrue (has_node layer u)
+only_one node layer there u m = elim (is_in u (node ∷ []) m) as (λ _. IsTrue (has_node layer u)) [
+  | inl same ↦ subst (λ (n : ℕ). IsTrue (has_node layer n)) (sym same) there
+  | inr none ↦ absurd none
+]
+
+module _ {S : Type 0} (index : S → ℕ) (nodes : Nodes S) (layer : Layer) (node : ℕ) where
+  pub source_added : (old new : Layer) (counts : Counts) → AreNextCounts index nodes layer node counts → AddsNode node counts old new
+      → AddsSources index nodes layer (node ∷ []) old new
+  source_added old new counts are adds = record {
+    part = λ s is. part_more (rests_of index nodes (suc s)) old new node counts (are s is) adds;
+    there = only_one node new (there_now old new node counts adds);
+    stay = there_still old new node counts adds;
+  }
+
+  pub source_there : (same : Layer) → IsTrue (has_node same node) → AddsSources index nodes layer (node ∷ []) same same
+  source_there same there = record { part = λ s is h. h; there = only_one node same there; stay = λ u h. h }
 
 -- one layer more
 pub layers_more : (begin : ℕ → Form → ℕ → List (List PlainStep)) (layers more : List Layer) (layer : Layer) → more ≡ layers ++ layer ∷ []
@@ -292,11 +307,24 @@ no_number y m = is_in y [] m
 pub all_numbers_taken : (xs : List ℕ) (i : ℕ) → length xs ≤ i → (y : ℕ) → Contains xs y → Contains (take i xs) y
 all_numbers_taken xs i past y m = subst (λ (l : List ℕ). Contains l y) (sym (take_all i xs past)) m
 
--- what holds if a step succeeds
-pub if_done : {T E : Type 0} (r : Result T E) (P Q : Type 0) → (P → Q) → OnOk r P → OnOk r Q
-if_done (Ok x) P Q both p = both p
-if_done (Err e) P Q both p = tt
+-- the nodes so far from which links lead to a node, and one more
+module _ {S : Type 0} (index : S → ℕ) (nodes : Nodes S) (layer : Layer) where
+  pub no_source : (same : Layer) → AddsSources index nodes layer [] same same
+  no_source same = record { part = λ s is h. h; there = λ u m. absurd (no_number u m); stay = λ u h. h }
 
-pub if_both_done : {T E : Type 0} (r : Result T E) (P Q R : Type 0) → (P → Q → R) → OnOk r P → OnOk r Q → OnOk r R
-if_both_done (Ok x) P Q R both p q = both p q
-if_both_done (Err e) P Q R both p q = tt
+  pub source_more : (xs : List ℕ) (i : ℕ) → i < length xs → (old mid new : Layer) → AddsSources index nodes layer (take i xs) old mid
+      → AddsSources index nodes layer (get_or xs i 0 ∷ []) mid new → AddsSources index nodes layer (take (i + 1) xs) old new
+  source_more xs i below old mid new before one = record {
+    part = λ s is h. one.part s is (before.part s is h);
+    there = λ u m.
+        elim (number_more xs i below u m) as (λ _. IsTrue (has_node new u)) [
+          | inl so_far ↦ one.stay u (before.there u so_far)
+          | inr same ↦ subst (λ (n : ℕ). IsTrue (has_node new n)) same (one.there (get_or xs i 0) (Contains-push [] (get_or xs i 0)))
+        ];
+    stay = λ u h. one.stay u (before.stay u h);
+  }
+
+  pub sources_all : (xs sources : List ℕ) → xs ≡ sources → (i : ℕ) → length xs ≤ i → (old new : Layer)
+      → AddsSources index nodes layer (take i xs) old new → AddsSources index nodes layer sources old new
+  sources_all xs sources are i past old new adds =
+      subst (λ (l : List ℕ). AddsSources index nodes layer l old new) (take_all i xs past ∙ are) adds

@@ -1,16 +1,23 @@
 -- The repairs of a graph by groups, those first after which a parse goes on further: the first ones of all groups, or of the first group
 -- alone, are those that may be listed.
-use Rattle.std.proofs.Common.{◌≡◌, ◌<◌, ◌≤◌, ◌+◌, ◌-◌, ◌∙◌, ◌⊎◌, inl, inr, ℕ, zero, suc, List, [], ◌++◌, Bool, true, false, IsTrue, length, take, refl, sym, subst, ap, arith, AllPairs, Contains}
+use Rattle.std.proofs.Common.{◌≡◌, ◌<◌, ◌≤◌, ◌+◌, ◌-◌, ◌∙◌, ◌⊎◌, inl, inr, ℕ, zero, suc, List, [], ◌++◌, Bool, true, false, IsTrue, Vec, length, take, refl, sym, subst, ap, arith, AllPairs, Contains}
 use Rattle.std.proofs.lemmas.List.{length-take}
 use Rattle.lrpar_parse_repair.specs.Asked.{Asked}
 use Rattle.lrpar_parse_repair.specs.Sequences.{PlainStep}
+use Rattle.lrpar_parse_repair.specs.declared.repair_step.RepairStep.{RepairStep}
 use Rattle.lrpar_parse_cpctplus.specs.Cheapest.{RepairsAt}
 use Rattle.lrpar_parse_cpctplus.specs.Configurations.{Configured, root_of}
 use Rattle.lrpar_parse_cpctplus.specs.FirstRepairs.{AreFirstRepairs, IsGraphAt, PlainGraph}
 use Rattle.lrpar_parse_cpctplus.specs.Graph.{PlainEnding, PlainLink}
 use Rattle.lrpar_parse_cpctplus.specs.Listing.{AreFirst, IsListedBefore, IsPreferred, MayBeListed, Settings}
+use Rattle.lrpar_parse_cpctplus.specs.NodesView.{AddsRepairs, AreNodesOf, links_of}
 use Rattle.lrpar_parse_cpctplus.specs.Reaching.{GoesAsFar}
 use Rattle.lrpar_parse_cpctplus.specs.Rests.{AreByNodes, AreGroups, AreRanked, IsFurthest, IsGroup, added_first, in_order, no_ending, no_place, of_furthest, of_none, of_places, one_group, with_endings}
+use Rattle.lrpar_parse_cpctplus.specs.WantedView.{AddsGroup, AreLinksToEnd}
+use Rattle.lrpar_parse_cpctplus.specs.declared.link.Link.{Link}
+use Rattle.lrpar_parse_cpctplus.specs.declared.link.Linked.{Linked}
+use Rattle.lrpar_parse_cpctplus.specs.declared.listing.Wanted.{Wanted}
+use Rattle.lrpar_parse_cpctplus.specs.declared.nodes.Nodes.{Nodes}
 use Rattle.lrpar_parse_cpctplus.proofs.ChainLemmas.{CostAtLeast, least_cost}
 use Rattle.lrpar_parse_cpctplus.proofs.DistanceLemmas.{compare}
 use Rattle.lrpar_parse_cpctplus.proofs.FirstLemmas.{first_none, in_either, in_left, in_right, pairs_between, pairs_joined}
@@ -267,3 +274,13 @@ module _ (avoided : List Bool) (end n : ℕ) (links : List PlainLink) (endings :
   group_ranked far listed group furthest is added =
       subst (λ (l : List (List PlainStep)). AreRanked avoided end n links endings most false l) (sym (added ∙ added_from_none most group))
       (of_furthest far group furthest is)
+
+-- the repairs of the nodes with the last steps of one place are those of its group
+pub group_added : {S A B D : Type 0} (index : S → ℕ) (wanted : Wanted) (linked : Linked S) (nodes : Nodes S) (links : Vec (Link S) D) (reach : ℕ)
+    (old new : Vec (Vec (RepairStep S) A) B) → AreLinksToEnd index linked reach links → AreNodesOf index wanted.avoided.now linked.len links.items nodes
+    → AddsRepairs index nodes wanted.most old new → AddsGroup index wanted linked reach old new
+group_added index wanted linked nodes links reach old new to_end are added = (
+  in_order wanted.avoided.now linked.len (links_of index nodes) (linked.len + 1),
+  (links_of index nodes, subst (λ (ls : List PlainLink). AreByNodes ls (links_of index nodes)) to_end are.by_nodes, refl),
+  rw (are.avoids, are.ends) at added,
+)

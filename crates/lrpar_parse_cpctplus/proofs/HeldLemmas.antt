@@ -1,6 +1,6 @@
 -- Configurations by the numbers of their stacks: they stay what they are as stacks are added; and one that is numbered is numbered as a
 -- configuration, too, since no two numbers have the same stack.
-use Rattle.std.proofs.Common.{◌≡◌, ◌≢◌, ◌<◌, ◌∙◌, ◌||◌, ◌&&◌, eqb, inl, inr, ℕ, zero, suc, List, [], ◌∷◌, ◌++◌, if◌then◌else◌, Bool, true, false, true≢false, Some, length, map, slice_get, refl, sym, subst, ap, ap₂}
+use Rattle.std.proofs.Common.{◌≡◌, ◌≢◌, ◌<◌, ◌∙◌, ◌||◌, ◌&&◌, eqb, inl, inr, ℕ, zero, suc, List, [], ◌∷◌, ◌++◌, if◌then◌else◌, Bool, true, false, true≢false, Some, length, slice_get, refl, sym, subst, ap, ap₂}
 use Rattle.std.specs.Cmp.Derive.{both_true}
 use Rattle.std.specs.List.{list_any}
 use Rattle.std.proofs.lemmas.Bool.{eq-eqb, eqb-true}

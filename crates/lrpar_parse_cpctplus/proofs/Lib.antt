@@ -37,5 +37,6 @@ pub mod ResultLemmas
 pub mod AddLemmas
 pub mod StepsLemmas
 pub mod SharedLemmas
+pub mod SearchLemmas
 pub mod RecoverLemmas
 pub mod AvoidLemmas

@@ -1,6 +1,5 @@
 -- A graph over stacks that are added: the engine's moves add stacks, and a step from a configuration by its numbers is one from what they mean.
-use Rattle.std.proofs.Common.{◌≡◌, ◌+◌, ◌-◌, ◌∙◌, ℕ, Bool, true, false, List, [], ◌∷◌, ◌++◌, Option, Some, None, Result, Ok, Err, length, slice_get, sym, subst, ap, arith, append-nil, append_assoc}
-use Rattle.std.specs.Prelude.{IfOk, OnOk}
+use Rattle.std.proofs.Common.{◌≡◌, ◌-◌, ◌∙◌, ℕ, Bool, true, false, List, [], ◌∷◌, ◌++◌, Option, Some, None, length, slice_get, sym, subst, ap, arith, append-nil, append_assoc}
 use Rattle.std.proofs.lemmas.List.{length_push}
 use Rattle.lrpar_grammar.specs.Grammar.{Grammar}
 use Rattle.lrpar_table_rows.specs.Table.{Table}
@@ -46,18 +45,30 @@ moved_extends states g table cap tokens old new moved = moves_extend states g ta
 pub level_cost : (firsts : List ℕ) (count : ℕ) → length (firsts ++ count ∷ []) - 1 ≡ length firsts
 level_cost firsts count = omega (arith, length_push firsts count)
 
-module _ {X : Type 0} (token : X → ℕ) (at : Asked X) where
-  -- a step that was taken, or can't be
-  pub leads_some : (st after : List ℕ) (i j : ℕ) (step : PlainStep) (o : Option ℕ)
-      → IsStepTaken token at.checked.grammar at.checked.table at.lexemes st i step after o → o ≡ Some j → IsEdge token at (configured st i) step (configured after j)
-  leads_some st after i j step o taken is =
-      subst (λ (p : Option ℕ). IsStepTaken token at.checked.grammar at.checked.table at.lexemes st i step after p) is taken
+-- another stack becomes the current one
+pub gone_to : (old new : Shared) (n : ℕ) → new.stacks ≡ old.stacks → new.current ≡ n → current_stack new ≡ stack_at old.stacks n
+gone_to old new n same is = ap (λ (s : List (List ℕ)). stack_at s new.current) same ∙ ap (λ (k : ℕ). stack_at old.stacks k) is
 
-  pub leads_none : (st after : List ℕ) (i : ℕ) (step : PlainStep) (o : Option ℕ)
-      → IsStepTaken token at.checked.grammar at.checked.table at.lexemes st i step after o → o ≡ None → (v : Configured) → ¬ (IsEdge token at (configured st i) step v)
-  leads_none st after i step o taken is v edge =
-      let none = subst (λ (p : Option ℕ). IsStepTaken token at.checked.grammar at.checked.table at.lexemes st i step after p) is taken in
-      none edge.0 v.stack v.place edge.1
+-- it is a stack of the table
+pub gone_stack : (table : Table) (old new : Shared) (n : ℕ) → new.stacks ≡ old.stacks → new.current ≡ n → IsStack table (stack_at old.stacks n)
+    → IsStack table (current_stack new)
+gone_stack table old new n same is stack = subst (IsStack table) (sym (gone_to old new n same is)) stack
+
+-- a step was taken from the stack with a number, or can't be
+module _ {X : Type 0} (token : X → ℕ) (at : Asked X) (old mid new : Shared) (n i : ℕ) (step : PlainStep) (o : Option ℕ) (same : mid.stacks ≡ old.stacks)
+    (is : mid.current ≡ n) (taken : IsStepTaken token at.checked.grammar at.checked.table at.lexemes (current_stack mid) i step (current_stack new) o) where
+  from_there : IsStepTaken token at.checked.grammar at.checked.table at.lexemes (stack_at old.stacks n) i step (current_stack new) o
+  from_there = subst (λ (st : List ℕ). IsStepTaken token at.checked.grammar at.checked.table at.lexemes st i step (current_stack new) o) (gone_to old mid n same is) taken
+
+  pub leads_some : (j : ℕ) → o ≡ Some j → IsEdge token at (configured (stack_at old.stacks n) i) step (configured (current_stack new) j)
+  leads_some j some =
+      subst (λ (p : Option ℕ). IsStepTaken token at.checked.grammar at.checked.table at.lexemes (stack_at old.stacks n) i step (current_stack new) p) some from_there
+
+  pub leads_none : o ≡ None → (v : Configured) → ¬ (IsEdge token at (configured (stack_at old.stacks n) i) step v)
+  leads_none none v edge =
+      let stopped =
+      subst (λ (p : Option ℕ). IsStepTaken token at.checked.grammar at.checked.table at.lexemes (stack_at old.stacks n) i step (current_stack new) p) none from_there in
+      stopped edge.0 v.stack v.place edge.1
 
 module _ {X : Type 0} (token : X → ℕ) (costs : List ℕ) (at : Asked X) (first c : ℕ) (old new : Shared) (extends : Extends old new)
     (keys : List Configuration) (held : AreHeld at.checked.table (length at.lexemes) old.stacks keys) (links : List PlainLink)
@@ -91,20 +102,7 @@ module _ {X : Type 0} (token : X → ℕ) (costs : List ℕ) (at : Asked X) (fir
       grows_linked token costs at first c (nodes_in old.stacks keys) links growing from step due v
       (subst (λ (u : Configured). IsEdge token at u step v) tail edge) to (nodes_in new.stacks new_keys) new_links here kept
 
--- another stack becomes the current one
-pub gone_to : (old new : Shared) (n : ℕ) → new.stacks ≡ old.stacks → new.current ≡ n → current_stack new ≡ stack_at old.stacks n
-gone_to old new n same is = ap (λ (s : List (List ℕ)). stack_at s new.current) same ∙ ap (λ (k : ℕ). stack_at old.stacks k) is
-
--- it is a stack of the table
-pub gone_stack : (table : Table) (old new : Shared) (n : ℕ) → new.stacks ≡ old.stacks → new.current ≡ n → IsStack table (stack_at old.stacks n)
-    → IsStack table (current_stack new)
-gone_stack table old new n same is stack = subst (IsStack table) (sym (gone_to old new n same is)) stack
-
 -- what holds of an answer, by cases
 pub either_way : (P Q : Bool → Type 0) → (P true → Q true) → (P false → Q false) → (b : Bool) → P b → Q b
 either_way P Q good bad true h = good h
 either_way P Q good bad false h = bad h
-
-pub ok_with : {T E Q : Type 0} (r : Result T E) (P R : T → Type 0) → ((x : T) → P x → Q → R x) → IfOk r P → OnOk r Q → IfOk r R
-ok_with (Ok x) P R f p q = f x p q
-ok_with (Err e) P R f p q = tt

@@ -1,5 +1,5 @@
 -- How many rests of repairs there are.
-use Rattle.std.specs.Prelude.{◌≡◌, ◌<◌, ◌≤◌, ◌+◌, ◌-◌, ◌^◌, ℕ, List, [], Option, Some, None, MatchOption, cond, length, min, nat_eq, slice_index_or}
+use Rattle.std.specs.Prelude.{◌≡◌, ◌<◌, ◌≤◌, ◌==◌, ◌+◌, ◌-◌, ◌^◌, ◌++◌, ◌∷◌, ℕ, Bool, List, [], Option, Some, None, MatchOption, cond, is_some, length, min, nat_eq, slice_index_or}
 use Rattle.std.specs.HashMap.{get}
 use Rattle.std.specs.List.{Contains}
 use Rattle.lrpar_parse_repair.specs.Sequences.{PlainStep}
@@ -28,6 +28,15 @@ count_at (Some counts) form = count_of counts form
 
 abbrev pub count_in : Layer → Form → ℕ → ℕ
 count_in layer form u = count_at (get nat_eq layer.counts u) form
+
+-- whether the layer has the node
+abbrev pub has_node : Layer → ℕ → Bool
+has_node layer u = is_some (get nat_eq layer.counts u)
+
+-- the layer gets one node more, with these numbers
+pub record AddsNode (node : ℕ) (counts : Counts) (old new : Layer) : Type 0 where
+  pub got : (u : ℕ) → get nat_eq new.counts u ≡ cond (node == u) (Some counts) (get nat_eq old.counts u)
+  pub listed : new.nodes.items ≡ old.nodes.items ++ node ∷ []
 
 -- as many as there are, or as many as a machine number can say
 abbrev pub counted : {A : Type 0} → List A → ℕ

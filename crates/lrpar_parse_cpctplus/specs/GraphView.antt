@@ -9,6 +9,7 @@ use Rattle.lrpar_parse_cpctplus.specs.Configurations.{Configured}
 use Rattle.lrpar_parse_cpctplus.specs.Graph.{PlainLink}
 use Rattle.lrpar_parse_cpctplus.specs.LinkView.{plain_link}
 use Rattle.lrpar_parse_cpctplus.specs.declared.graph.Configuration.{Configuration}
+use Rattle.lrpar_parse_cpctplus.specs.declared.graph.Graph.{Graph}
 use Rattle.lrpar_parse_cpctplus.specs.declared.link.Link.{Link}
 
 -- the configuration with the stack of its number
@@ -33,11 +34,21 @@ abbrev pub IsKeptFrom : {A : Type 0} → ℕ → ℕ → List A → A → List A
 IsKeptFrom first to old x new = ((to < first) × (new ≡ old)) ⊎ ((first ≤ to) × (new ≡ old ++ x ∷ []))
 
 -- a step leads from one configuration to another, which gets a number, and the link is kept if this isn't below the first one
-pub record IsLinkedBy {S : Type 0} (index : S → ℕ) (first : ℕ) (old : List Configuration) (old_links : List (Link S)) (from : ℕ) (step : RepairStep S)
-    (reached : Configuration) (new : List Configuration) (new_links : List (Link S)) : Type 0 where
+pub record IsLinkedBy {S : Type 0} (index : S → ℕ) (first from : ℕ) (step : RepairStep S) (reached : Configuration) (old new : Graph S) : Type 0 where
   pub to : ℕ
-  pub numbered : IsNumbered old reached to new
-  pub kept : IsKeptFrom first to (plain_links index old_links) (record { from = from; step = plain_step index step; to = to }) (plain_links index new_links)
+  pub numbered : IsNumbered old.configurations.keys reached to new.configurations.keys
+  pub kept : IsKeptFrom first to (plain_links index old.links.items) (record { from = from; step = plain_step index step; to = to })
+      (plain_links index new.links.items)
+
+-- the graph has this configuration alone, at the distance 0
+pub record IsRootAlone {S : Type 0} (root : Configuration) (graph : Graph S) : Type 0 where
+  pub configurations : graph.configurations.keys ≡ root ∷ []
+  pub firsts : graph.firsts.items ≡ 0 ∷ []
+  pub links : graph.links.items ≡ []
+
+-- what is added from now on is further than all that is there
+abbrev pub BeginsLevel : {S : Type 0} → Graph S → Graph S → Type 0
+BeginsLevel old new = new.firsts.items ≡ old.firsts.items ++ length old.configurations.keys ∷ []
 
 -- a configuration whose stack is one of the numbered ones, and a stack of the table, and whose place isn't past the last lexeme
 pub record IsHeld (table : Table) (end : ℕ) (stacks : List (List ℕ)) (key : Configuration) : Type 0 where

@@ -15,9 +15,10 @@ pub mod Forming
 pub mod Rests
 pub mod FirstRepairs
 pub mod LinkView
-pub mod NodesView
 pub mod Counted
 pub mod Chosen
+pub mod NodesView
+pub mod WantedView
 pub mod Levels
 pub mod GraphView
 pub mod SearchRound

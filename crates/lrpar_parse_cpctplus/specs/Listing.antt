@@ -19,9 +19,17 @@ pub record Settings : Type 0 where
   pub most : ℕ
   pub lists_all : Bool
 
+-- a limit and what tokens cost; nothing else is set
+abbrev pub settings_with : ℕ → List ℕ → Settings
+settings_with limit costs = record { limit = limit; costs = costs; avoided = []; most = 100; lists_all = false }
+
 -- these tokens are to be avoided, and no others
 abbrev pub AreAvoided : List Bool → List ℕ → Type 0
 AreAvoided avoided tokens = (t : ℕ) → IsTrue (slice_index_or avoided t false) ↔ Contains tokens t
+
+-- so is this one, by its number, in addition to those that were before
+abbrev pub AvoidsAlso : ℕ → List Bool → List Bool → Type 0
+AvoidsAlso token old new = (t : ℕ) → IsTrue (slice_index_or new t false) ↔ (IsTrue (slice_index_or old t false) ⊎ (t ≡ token))
 
 -- the sequence inserts a token that is to be avoided
 abbrev pub InsertsAvoided : List Bool → List PlainStep → Type 0

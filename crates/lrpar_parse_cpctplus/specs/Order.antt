@@ -1,5 +1,5 @@
 -- The order of sequences by their steps.
-use Rattle.std.specs.Prelude.{◌≡◌, ◌<◌, ℕ, List, ◌∷◌, ◌++◌}
+use Rattle.std.specs.Prelude.{◌≡◌, ◌<◌, List, ◌∷◌, ◌++◌}
 use Rattle.lrpar_parse_repair.specs.Sequences.{PlainStep, PlainInsert, PlainDelete, PlainShift}
 
 -- one step comes before another: an Insert before a Delete, that before a Shift, and Inserts by their tokens, ascending

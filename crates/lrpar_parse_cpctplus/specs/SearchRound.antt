@@ -26,6 +26,10 @@ pub record PlainAttempt : Type 0 where
 abbrev pub AreOnce : {A : Type 0} → List A → Type 0
 AreOnce {A} xs = (i j : ℕ) (x : A) → slice_get xs i ≡ Some x → slice_get xs j ≡ Some x → i ≡ j
 
+-- each one of the first list is in the other
+abbrev pub AreAllIn : {A : Type 0} → List A → List A → Type 0
+AreAllIn {A} xs all = (x : A) → Contains xs x → Contains all x
+
 -- the list is longer by those that have P, each once
 pub record Adds {A : Type 0} (P : A → Type 0) (old new : List A) : Type 0 where
   pub more : List A

@@ -1,9 +1,6 @@
 //! How many rests of repairs begin at the nodes of a graph, by their numbers of steps.
-ghost use Rattle.std.specs.Prelude.{◌≡◌, ℕ, suc, IfOk, IsTrue, OnOk, is_some, nat_eq};
-ghost use Rattle.std.specs.HashMap.{get};
-ghost use Rattle.std.specs.List.{Contains};
-ghost use Rattle.lrpar_parse_cpctplus.specs.Counted.{AreCounts, AreLayers, AreNumbers, IsLayer, IsPartOfLayer, counted};
-ghost use Rattle.lrpar_parse_cpctplus.specs.Forming.{form_of};
+ghost use Rattle.std.specs.Prelude.{◌∷◌, [], IfOk, OnOk};
+ghost use Rattle.lrpar_parse_cpctplus.specs.Counted.{IsLayer};
 
 use crate::form::{Class, Form};
 use crate::layer::{Counts, Layer, Numbers};
@@ -12,12 +9,12 @@ use lrpar_grammar::span::StorageIndex;
 use std::alloc::{AllocError, Global};
 
 impl<'a, StorageT: StorageIndex> Nodes<'a, StorageT> {
-    ghost use Rattle.lrpar_parse_cpctplus.specs.NodesView.{LeadBack, rests_of, sources_of};
+    ghost use Rattle.lrpar_parse_cpctplus.specs.NodesView.{AddsSources, AddsSourcesOf, AreAllLayers, AreNextCounts, AreNextNumbers, IsNextLayer, IsNextNumber, LeadBack, rests_of};
 
     /// One layer for each number of steps, as long as any rest has so many; but none of more steps than there are nodes before the end.
     pub(crate) fn layers(&self, alloc: Global) -> Result<Vec<Layer>, AllocError>
         requires back { LeadBack StorageT.index self.now }
-        ensures { IfOk result (λ layers. AreLayers (rests_of StorageT.index self.now) self.now.end layers.items) }
+        ensures { IfOk result (λ layers. AreAllLayers StorageT.index self.now layers.items) }
     {
         let mut layers = Vec::new(alloc);
         let mut layer = self.first_layer(alloc)?;
@@ -31,7 +28,7 @@ impl<'a, StorageT: StorageIndex> Nodes<'a, StorageT> {
 
     // The rests without steps: there is one at the end.
     fn first_layer(&self, alloc: Global) -> Result<Layer, AllocError>
-        ensures { IfOk result (λ layer. IsLayer (rests_of StorageT.index self.now 0) layer) }
+        ensures { IfOk result (IsLayer (rests_of StorageT.index self.now 0)) }
     {
         let numbers = Numbers {
             clean: 1,
@@ -50,8 +47,7 @@ impl<'a, StorageT: StorageIndex> Nodes<'a, StorageT> {
     // The rests of one step more than those of the layer.
     fn next_layer(&self, alloc: Global, layer: &Layer) -> Result<Layer, AllocError>
         requires back { LeadBack StorageT.index self.now }
-        ensures { IfOk result (λ next. (s : ℕ) → IsLayer (rests_of StorageT.index self.now s) layer.now
-            → IsLayer (rests_of StorageT.index self.now (suc s)) next) }
+        ensures { IfOk result (IsNextLayer StorageT.index self.now layer.now) }
     {
         let mut next = Layer::new(alloc);
         for node in &layer.nodes {
@@ -62,10 +58,7 @@ impl<'a, StorageT: StorageIndex> Nodes<'a, StorageT> {
 
     // Adds the nodes from which links lead to the node.
     fn add_sources(&self, layer: &Layer, node: usize, next: &mut Layer) -> Result<(), AllocError>
-        ensures part { OnOk result ((s : ℕ) → IsLayer (rests_of StorageT.index self.now s) layer.now
-            → IsPartOfLayer (rests_of StorageT.index self.now (suc s)) next.old → IsPartOfLayer (rests_of StorageT.index self.now (suc s)) next.new) }
-        ensures sources { OnOk result ((u : ℕ) → Contains (sources_of StorageT.index self.now node) u → IsTrue (is_some (get nat_eq next.new.counts u))) }
-        ensures stay { OnOk result ((u : ℕ) → IsTrue (is_some (get nat_eq next.old.counts u)) → IsTrue (is_some (get nat_eq next.new.counts u))) }
+        ensures { OnOk result (AddsSourcesOf StorageT.index self.now layer.now node next.old next.new) }
     {
         let sources = self.nodes_into(node);
         for source in sources {
@@ -76,10 +69,7 @@ impl<'a, StorageT: StorageIndex> Nodes<'a, StorageT> {
 
     // Adds a node, if it isn't there.
     fn add_source(&self, layer: &Layer, source: usize, next: &mut Layer) -> Result<(), AllocError>
-        ensures part { OnOk result ((s : ℕ) → IsLayer (rests_of StorageT.index self.now s) layer.now
-            → IsPartOfLayer (rests_of StorageT.index self.now (suc s)) next.old → IsPartOfLayer (rests_of StorageT.index self.now (suc s)) next.new) }
-        ensures there { OnOk result (IsTrue (is_some (get nat_eq next.new.counts source))) }
-        ensures stay { OnOk result ((u : ℕ) → IsTrue (is_some (get nat_eq next.old.counts u)) → IsTrue (is_some (get nat_eq next.new.counts u))) }
+        ensures { OnOk result (AddsSources StorageT.index self.now layer.now (source ∷ []) next.old next.new) }
     {
         if next.has(source) {
             return Ok(());
@@ -89,8 +79,7 @@ impl<'a, StorageT: StorageIndex> Nodes<'a, StorageT> {
 
     // How many rests begin at the node, of one step more than those of the layer.
     fn counts_at(&self, layer: &Layer, node: usize) -> Counts
-        ensures { (s : ℕ) → IsLayer (rests_of StorageT.index self.now s) layer.now
-            → AreCounts (λ form. rests_of StorageT.index self.now (suc s) form node) result }
+        ensures { AreNextCounts StorageT.index self.now layer.now node result }
     {
         Counts {
             after_delete: self.numbers_at(layer, node, true),
@@ -100,8 +89,7 @@ impl<'a, StorageT: StorageIndex> Nodes<'a, StorageT> {
 
     // The same after a Delete, or after another step.
     fn numbers_at(&self, layer: &Layer, node: usize, deleted: bool) -> Numbers
-        ensures { (s : ℕ) → IsLayer (rests_of StorageT.index self.now s) layer.now
-            → AreNumbers (λ class. rests_of StorageT.index self.now (suc s) (form_of class deleted) node) result }
+        ensures { AreNextNumbers StorageT.index self.now layer.now node deleted result }
     {
         Numbers {
             clean: self.pulled(layer, node, Form::new(Class::Clean, deleted)),
@@ -112,8 +100,7 @@ impl<'a, StorageT: StorageIndex> Nodes<'a, StorageT> {
 
     // The same of one form: those after each of the links from the node.
     fn pulled(&self, layer: &Layer, node: usize, form: Form) -> usize
-        ensures { (s : ℕ) → IsLayer (rests_of StorageT.index self.now s) layer.now
-            → result ≡ counted (rests_of StorageT.index self.now (suc s) form node) }
+        ensures { IsNextNumber StorageT.index self.now layer.now node form result }
     {
         let links = self.links_from(node);
         let mut sum: usize = 0;

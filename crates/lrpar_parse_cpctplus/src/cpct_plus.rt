@@ -1,14 +1,15 @@
 //! The recoverer CPCT+, which returns the repairs of least cost.
-ghost use Rattle.std.specs.Prelude.{◌≡◌, ◌↔◌, ◌⊎◌, ℕ, [], false, true, map, slice_index_or, IfErr, IfOk, IfSome, IsNone, IsTrue, OnOk};
+ghost use Rattle.std.specs.Prelude.{◌≡◌, ◌↔◌, [], true, IfErr, IfOk, IfSome, IsNone, IsTrue, OnOk};
 ghost use Rattle.std.specs.List.{Contains};
 ghost use Rattle.lrpar_grammar.specs.Grammar.{tokens_len};
+ghost use Rattle.lrpar_table_stacks.specs.Expected.{tokens_of};
 ghost use Rattle.lrpar_parse_lexemes.specs.Views.{token_by};
 ghost use Rattle.lrpar_parse_repair.specs.PlainSteps.{plain_sequences};
 ghost use Rattle.lrpar_parse_cpctplus.specs.Costs.{AreCosts, items_of, token_cost};
-ghost use Rattle.lrpar_parse_cpctplus.specs.Listing.{AreAvoided, AreListed};
+ghost use Rattle.lrpar_parse_cpctplus.specs.Listing.{AreAvoided, AreListed, AvoidsAlso, settings_with};
 ghost use Rattle.lrpar_parse_cpctplus.specs.Refused.{IsFirstFree, IsFreeBy, IsFreeToken};
 ghost use Rattle.lrpar_parse_cpctplus.specs.Said.{AreSaid, said_by};
-ghost use Rattle.lrpar_parse_cpctplus.specs.SearchRound.{AreOnce, AreWeights};
+ghost use Rattle.lrpar_parse_cpctplus.specs.SearchRound.{AreAllIn, AreOnce, AreWeights};
 
 use crate::fault::CostFault;
 use crate::listing::{Wanted, first_repairs};
@@ -66,7 +67,7 @@ impl CpctPlus {
     /// Each token costs 1. No token is to be avoided, and at most 100 repairs are listed, of those after which a parse goes on furthest.
     /// Allocates nothing.
     pub fn new(limit: usize) -> Self
-        ensures { result ≡ record { limit = limit; costs = []; avoided = []; most = 100; lists_all = false } }
+        ensures { result ≡ settings_with limit [] }
     {
         CpctPlus::with(limit, None)
     }
@@ -74,7 +75,7 @@ impl CpctPlus {
     // With these costs, and nothing else set.
     fn with(limit: usize, costs: Option<Vec<u8>>) -> Self
         requires { AreCosts (items_of costs) }
-        ensures { result ≡ record { limit = limit; costs = items_of costs; avoided = []; most = 100; lists_all = false } }
+        ensures { result ≡ settings_with limit (items_of costs) }
     {
         CpctPlus {
             limit,
@@ -88,7 +89,7 @@ impl CpctPlus {
     /// Each token costs what the list says at its number; one past the list costs 1. The rest is as `new` sets it. Refused by the
     /// first token that would cost nothing. Allocates nothing.
     pub fn with_costs(limit: usize, costs: Vec<u8>) -> Result<Self, CostFault>
-        ensures made { IfOk result (λ c. c ≡ record { limit = limit; costs = costs.items; avoided = []; most = 100; lists_all = false }) }
+        ensures made { IfOk result (λ c. c ≡ settings_with limit costs.items) }
         ensures priced { IfOk result (λ c. AreCosts c.costs) }
         ensures refused { IfErr result (IsFreeToken costs.items) }
     {
@@ -107,7 +108,7 @@ impl CpctPlus {
         cost: F,
     ) -> Result<Self, CostFault>
         requires callable { F.IsAlwaysCallable cost }
-        ensures others { IfOk result (λ c. c ≡ record { limit = limit; costs = c.costs; avoided = []; most = 100; lists_all = false }) }
+        ensures others { IfOk result (λ c. c ≡ settings_with limit c.costs) }
         ensures made { IfOk result (λ c. AreSaid (said_by StorageT.index (F.post cost)) (tokens_len grm.now) c.costs) }
         ensures priced { IfOk result (λ c. AreCosts c.costs) }
         ensures refused { IfErr result (IsFreeBy (said_by StorageT.index (F.post cost)) (tokens_len grm.now)) }
@@ -124,7 +125,7 @@ impl CpctPlus {
         alloc: Global,
         tokens: &[TIdx<StorageT>],
     ) -> Result<Self, AllocError>
-        ensures avoided { IfOk result (λ c. AreAvoided c.avoided (map (λ t. StorageT.index t.0) tokens.now)) }
+        ensures avoided { IfOk result (λ c. AreAvoided c.avoided (tokens_of StorageT.index tokens.now)) }
         ensures others { IfOk result (λ c. c ≡ record self { avoided = c.avoided }) }
     {
         self.avoided = Some(avoided_by(alloc, tokens)?);
@@ -201,8 +202,8 @@ impl CpctPlus {
 fn add_weights(costs: &[u8], weights: &mut Vec<u8>) -> Result<(), AllocError>
     requires { AreOnce weights.old.items }
     ensures once { OnOk result (AreOnce weights.new.items) }
-    ensures stay { OnOk result ((w : ℕ) → Contains weights.old.items w → Contains weights.new.items w) }
-    ensures added { OnOk result ((w : ℕ) → Contains costs.now w → Contains weights.new.items w) }
+    ensures stay { OnOk result (AreAllIn weights.old.items weights.new.items) }
+    ensures added { OnOk result (AreAllIn costs.now weights.new.items) }
 {
     for cost in costs {
         add_weight(*cost, weights)?;
@@ -214,7 +215,7 @@ fn add_weights(costs: &[u8], weights: &mut Vec<u8>) -> Result<(), AllocError>
 fn add_weight(weight: u8, weights: &mut Vec<u8>) -> Result<(), AllocError>
     requires { AreOnce weights.old.items }
     ensures once { OnOk result (AreOnce weights.new.items) }
-    ensures stay { OnOk result ((w : ℕ) → Contains weights.old.items w → Contains weights.new.items w) }
+    ensures stay { OnOk result (AreAllIn weights.old.items weights.new.items) }
     ensures added { OnOk result (Contains weights.new.items weight) }
 {
     if has(weights, weight) {
@@ -251,7 +252,7 @@ fn avoided_by<StorageT: StorageIndex>(
     alloc: Global,
     tokens: &[TIdx<StorageT>],
 ) -> Result<Vec<bool>, AllocError>
-    ensures { IfOk result (λ avoided. AreAvoided avoided.items (map (λ t. StorageT.index t.0) tokens.now)) }
+    ensures { IfOk result (λ avoided. AreAvoided avoided.items (tokens_of StorageT.index tokens.now)) }
 {
     let mut avoided = Vec::new(alloc);
     for token in tokens {
@@ -262,7 +263,7 @@ fn avoided_by<StorageT: StorageIndex>(
 
 // From now on the list says so of the number also.
 fn set(list: &mut Vec<bool>, number: usize) -> Result<(), AllocError>
-    ensures { OnOk result ((t : ℕ) → IsTrue (slice_index_or list.new.items t false) ↔ (IsTrue (slice_index_or list.old.items t false) ⊎ (t ≡ number))) }
+    ensures { OnOk result (AvoidsAlso number list.old.items list.new.items) }
 {
     'longer: while list.len() <= number {
         list.push(false)?;

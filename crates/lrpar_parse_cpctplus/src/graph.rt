@@ -1,5 +1,5 @@
 //! The configurations to which sequences lead from an error point, by their distances, and the links between them.
-ghost use Rattle.std.specs.Prelude.{◌≡◌, ◌<◌, ◌^◌, ◌++◌, [], ◌∷◌, length, slice_get, IfOk, OnOk, Some};
+ghost use Rattle.std.specs.Prelude.{◌≡◌, ◌<◌, ◌^◌, length, slice_get, IfOk, OnOk, Some};
 ghost use Rattle.lrpar_parse_cpctplus.specs.Levels.{first_of};
 
 use crate::link::Link;
@@ -37,13 +37,11 @@ impl<StorageT: StorageIndex> Drop for Graph<StorageT> {
 }
 
 impl<StorageT: StorageIndex> Graph<StorageT> {
-    ghost use Rattle.lrpar_parse_cpctplus.specs.GraphView.{IsLinkedBy};
+    ghost use Rattle.lrpar_parse_cpctplus.specs.GraphView.{BeginsLevel, IsLinkedBy, IsRootAlone};
 
     /// The configuration of the error point, which has the distance 0.
     pub(crate) fn new(alloc: Global, root: Configuration) -> Result<Self, AllocError>
-        ensures configurations { IfOk result (λ graph. graph.configurations.keys ≡ root ∷ []) }
-        ensures firsts { IfOk result (λ graph. graph.firsts.items ≡ 0 ∷ []) }
-        ensures links { IfOk result (λ graph. graph.links.items ≡ []) }
+        ensures { IfOk result (IsRootAlone root) }
     {
         let mut configurations = IndexSet::new(alloc);
         let (_number, _is_new) = configurations.insert_full(root)?;
@@ -107,7 +105,7 @@ impl<StorageT: StorageIndex> Graph<StorageT> {
 
     /// From now on configurations have a distance greater by one.
     pub(crate) fn begin_level(&mut self) -> Result<(), AllocError>
-        ensures firsts { OnOk result (self.new.firsts.items ≡ self.old.firsts.items ++ length self.old.configurations.keys ∷ []) }
+        ensures firsts { OnOk result (BeginsLevel self.old self.new) }
         ensures configurations { self.new.configurations ≡ self.old.configurations }
         ensures links { self.new.links ≡ self.old.links }
     {
@@ -125,8 +123,7 @@ impl<StorageT: StorageIndex> Graph<StorageT> {
         step: RepairStep<StorageT>,
         reached: Configuration,
     ) -> Result<(), AllocError>
-        ensures linked { OnOk result (IsLinkedBy StorageT.index first self.old.configurations.keys self.old.links.items
-            from step reached self.new.configurations.keys self.new.links.items) }
+        ensures linked { OnOk result (IsLinkedBy StorageT.index first from step reached self.old self.new) }
         ensures firsts { self.new.firsts ≡ self.old.firsts }
     {
         let (to, _is_new) = self.configurations.insert_full(reached)?;

@@ -1,7 +1,7 @@
 //! How many rests of repairs begin at nodes, of one number of steps.
-ghost use Rattle.std.specs.Prelude.{◌≡◌, ◌++◌, ◌∷◌, ◌==◌, ℕ, [], None, OnOk, Some, cond, is_some, nat_eq};
+ghost use Rattle.std.specs.Prelude.{◌≡◌, ℕ, None, OnOk, nat_eq};
 ghost use Rattle.std.specs.HashMap.{get};
-ghost use Rattle.lrpar_parse_cpctplus.specs.Counted.{count_in, count_of, number_of};
+ghost use Rattle.lrpar_parse_cpctplus.specs.Counted.{AddsNode, count_in, count_of, has_node, number_of};
 
 use crate::form::{Class, Form};
 use std::alloc::{AllocError, Global};
@@ -69,7 +69,7 @@ impl Layer {
 
     /// Whether it has the node.
     pub(crate) fn has(&self, node: usize) -> bool
-        ensures { result ≡ is_some (get nat_eq self.now.counts node) }
+        ensures { result ≡ has_node self.now node }
     {
         self.counts.contains_key(&node)
     }
@@ -86,8 +86,7 @@ impl Layer {
 
     /// Adds a node.
     pub(crate) fn add(&mut self, node: usize, counts: Counts) -> Result<(), AllocError>
-        ensures counts { OnOk result ((u : ℕ) → get nat_eq self.new.counts u ≡ cond (node == u) (Some counts) (get nat_eq self.old.counts u)) }
-        ensures nodes { OnOk result (self.new.nodes.items ≡ self.old.nodes.items ++ node ∷ []) }
+        ensures { OnOk result (AddsNode node counts self.old self.new) }
     {
         self.counts.insert(node, counts)?;
         self.nodes.push(node)?;

@@ -1,13 +1,9 @@
 //! The repairs that a search has found, in their order.
-ghost use Rattle.std.specs.Prelude.{◌≡◌, ◌<◌, ◌≤◌, ◌+◌, ◌-◌, ◌^◌, ◌↔◌, ℕ, List, suc, true, false, IfOk, IsTrue, MatchOption, OnOk, length, map, slice_index_or};
-ghost use Rattle.lrpar_parse_repair.specs.PlainSteps.{plain_sequences, plain_steps};
-ghost use Rattle.lrpar_parse_repair.specs.Sequences.{PlainStep};
-ghost use Rattle.lrpar_parse_cpctplus.specs.Chosen.{IsBelow, IsChoice, IsFurthestBelow, above};
-ghost use Rattle.lrpar_parse_cpctplus.specs.Counted.{AreLayers, IsLayer, counted};
-ghost use Rattle.lrpar_parse_cpctplus.specs.FirstRepairs.{AreFirstRepairs};
-ghost use Rattle.lrpar_parse_cpctplus.specs.Forming.{form_of};
-ghost use Rattle.lrpar_parse_cpctplus.specs.LinkView.{AreNumbered, plain_ending, plain_graph, plain_link};
-ghost use Rattle.lrpar_parse_cpctplus.specs.Rests.{AreRanked, IsGroup, added_first, in_order, shorter, with_endings};
+ghost use Rattle.std.specs.Prelude.{◌≡◌, ◌<◌, ◌≤◌, ◌-◌, ◌^◌, ◌↔◌, true, false, IfOk, IsTrue, OnOk, length, map};
+ghost use Rattle.lrpar_parse_cpctplus.specs.Chosen.{IsBelow, IsFurthestBelow, above};
+ghost use Rattle.lrpar_parse_cpctplus.specs.Counted.{counted};
+ghost use Rattle.lrpar_parse_cpctplus.specs.LinkView.{AreNumbered};
+ghost use Rattle.lrpar_parse_cpctplus.specs.WantedView.{AddsGroup, AreFirstOf, AreLinksToEnd, AreRankedBy};
 
 use crate::form::{Class, Form};
 use crate::layer::Layer;
@@ -42,8 +38,7 @@ pub(crate) fn first_repairs<StorageT: StorageIndex, LexemeT>(
     linked: &Linked<StorageT>,
 ) -> Result<Vec<Vec<RepairStep<StorageT>>>, AllocError>
     requires numbered { AreNumbered linked.now }
-    ensures first { IfOk result (λ repairs. AreFirstRepairs LexemeT wanted.now.avoided.now wanted.now.most wanted.now.lists_all
-        (plain_graph StorageT.index linked.now) (plain_sequences StorageT.index repairs.items)) }
+    ensures first { IfOk result (AreFirstOf StorageT.index wanted.now linked.now LexemeT) }
 {
     ranked_repairs(alloc, wanted, linked)
 }
@@ -55,9 +50,7 @@ fn ranked_repairs<StorageT: StorageIndex>(
     linked: &Linked<StorageT>,
 ) -> Result<Vec<Vec<RepairStep<StorageT>>>, AllocError>
     requires numbered { AreNumbered linked.now }
-    ensures ranked { IfOk result (λ repairs. AreRanked wanted.now.avoided.now linked.now.len (linked.now.len + 1)
-        (map (plain_link StorageT.index) linked.now.links.items) (map (plain_ending StorageT.index) linked.now.endings.items)
-        wanted.now.most wanted.now.lists_all (plain_sequences StorageT.index repairs.items)) }
+    ensures ranked { IfOk result (AreRankedBy StorageT.index wanted.now linked.now wanted.now.lists_all) }
 {
     if wanted.lists_all {
         all_repairs(alloc, wanted, linked)
@@ -73,9 +66,7 @@ fn all_repairs<StorageT: StorageIndex>(
     linked: &Linked<StorageT>,
 ) -> Result<Vec<Vec<RepairStep<StorageT>>>, AllocError>
     requires numbered { AreNumbered linked.now }
-    ensures ranked { IfOk result (λ repairs. AreRanked wanted.now.avoided.now linked.now.len (linked.now.len + 1)
-        (map (plain_link StorageT.index) linked.now.links.items) (map (plain_ending StorageT.index) linked.now.endings.items)
-        wanted.now.most true (plain_sequences StorageT.index repairs.items)) }
+    ensures ranked { IfOk result (AreRankedBy StorageT.index wanted.now linked.now true) }
 {
     let mut listed = Vec::new(alloc);
     let mut reach = furthest(&linked.endings, None);
@@ -96,9 +87,7 @@ fn furthest_repairs<StorageT: StorageIndex>(
     linked: &Linked<StorageT>,
 ) -> Result<Vec<Vec<RepairStep<StorageT>>>, AllocError>
     requires numbered { AreNumbered linked.now }
-    ensures ranked { IfOk result (λ repairs. AreRanked wanted.now.avoided.now linked.now.len (linked.now.len + 1)
-        (map (plain_link StorageT.index) linked.now.links.items) (map (plain_ending StorageT.index) linked.now.endings.items)
-        wanted.now.most false (plain_sequences StorageT.index repairs.items)) }
+    ensures ranked { IfOk result (AreRankedBy StorageT.index wanted.now linked.now false) }
 {
     let mut listed = Vec::new(alloc);
     let Some(far) = furthest(&linked.endings, None) else {
@@ -154,9 +143,7 @@ fn push_group<StorageT: StorageIndex>(
     listed: &mut Vec<Vec<RepairStep<StorageT>>>,
 ) -> Result<(), AllocError>
     requires numbered { AreNumbered linked.now }
-    ensures group { OnOk result ((group : List (List PlainStep)) × IsGroup wanted.now.avoided.now linked.now.len (linked.now.len + 1)
-        (map (plain_link StorageT.index) linked.now.links.items) (map (plain_ending StorageT.index) linked.now.endings.items) reach group
-        × (plain_sequences StorageT.index listed.new.items ≡ added_first wanted.now.most (plain_sequences StorageT.index listed.old.items) group)) }
+    ensures group { OnOk result (AddsGroup StorageT.index wanted.now linked.now reach listed.old listed.new) }
 {
     let links = links_to_end(alloc, linked, reach)?;
     let nodes = Nodes::new(alloc, wanted.avoided, linked.len, links)?;
@@ -170,8 +157,7 @@ fn links_to_end<StorageT: StorageIndex>(
     linked: &Linked<StorageT>,
     reach: u128,
 ) -> Result<Vec<Link<StorageT>>, AllocError>
-    ensures { IfOk result (λ links. map (plain_link StorageT.index) links.items ≡ with_endings linked.now.len reach
-        (map (plain_link StorageT.index) linked.now.links.items) (map (plain_ending StorageT.index) linked.now.endings.items)) }
+    ensures { IfOk result (AreLinksToEnd StorageT.index linked.now reach) }
 {
     let mut links = copied(alloc, &linked.links)?;
     for ending in &linked.endings {
@@ -201,7 +187,7 @@ fn copied<StorageT: StorageIndex>(
 }
 
 impl<'a, StorageT: StorageIndex> Nodes<'a, StorageT> {
-    ghost use Rattle.lrpar_parse_cpctplus.specs.NodesView.{links_of, rests_of};
+    ghost use Rattle.lrpar_parse_cpctplus.specs.NodesView.{AddsClass, AddsLength, AddsRepairs, AreAllLayers, AreLayersOf, IsChosen, IsRepairAt, repairs_of};
 
     // Adds the first ones of all repairs: those first that insert no token to be avoided, and then those of fewer steps.
     fn push_all(
@@ -211,9 +197,8 @@ impl<'a, StorageT: StorageIndex> Nodes<'a, StorageT> {
         most: usize,
         listed: &mut Vec<Vec<RepairStep<StorageT>>>,
     ) -> Result<(), AllocError>
-        requires layers { AreLayers (rests_of StorageT.index self.now) self.now.end layers.now }
-        ensures { OnOk result (plain_sequences StorageT.index listed.new.items ≡ added_first most (plain_sequences StorageT.index listed.old.items)
-            (in_order self.now.avoided.now self.now.end (links_of StorageT.index self.now) (self.now.end + 1))) }
+        requires layers { AreAllLayers StorageT.index self.now layers.now }
+        ensures { OnOk result (AddsRepairs StorageT.index self.now most listed.old listed.new) }
     {
         self.push_class(alloc, layers, Class::Clean, most, listed)?;
         self.push_class(alloc, layers, Class::Avoided, most, listed)
@@ -228,9 +213,8 @@ impl<'a, StorageT: StorageIndex> Nodes<'a, StorageT> {
         most: usize,
         listed: &mut Vec<Vec<RepairStep<StorageT>>>,
     ) -> Result<(), AllocError>
-        requires layers { (s : ℕ) (d : _) → s < length layers.now → IsLayer (rests_of StorageT.index self.now s) (slice_index_or layers.now s d) }
-        ensures { OnOk result (plain_sequences StorageT.index listed.new.items ≡ added_first most (plain_sequences StorageT.index listed.old.items)
-            (shorter self.now.avoided.now self.now.end (links_of StorageT.index self.now) class (length layers.now))) }
+        requires layers { AreLayersOf StorageT.index self.now layers.now }
+        ensures { OnOk result (AddsClass StorageT.index self.now class (length layers.now) most listed.old listed.new) }
     {
         for steps in 0..layers.len() {
             self.push_length(alloc, layers, class, steps, most, listed)?;
@@ -248,10 +232,9 @@ impl<'a, StorageT: StorageIndex> Nodes<'a, StorageT> {
         most: usize,
         listed: &mut Vec<Vec<RepairStep<StorageT>>>,
     ) -> Result<(), AllocError>
-        requires layers { (s : ℕ) (d : _) → s < length layers.now → IsLayer (rests_of StorageT.index self.now s) (slice_index_or layers.now s d) }
+        requires layers { AreLayersOf StorageT.index self.now layers.now }
         requires steps { steps < length layers.now }
-        ensures { OnOk result (plain_sequences StorageT.index listed.new.items ≡ added_first most (plain_sequences StorageT.index listed.old.items)
-            (rests_of StorageT.index self.now steps (form_of class false) 0)) }
+        ensures { OnOk result (AddsLength StorageT.index self.now class steps most listed.old listed.new) }
     {
         let many = layers[steps].count(0, Form::new(class, false));
         let mut place = 0;
@@ -272,11 +255,10 @@ impl<'a, StorageT: StorageIndex> Nodes<'a, StorageT> {
         steps: usize,
         place: usize,
     ) -> Result<Vec<RepairStep<StorageT>>, AllocError>
-        requires layers { (s : ℕ) (d : _) → s < length layers.now → IsLayer (rests_of StorageT.index self.now s) (slice_index_or layers.now s d) }
+        requires layers { AreLayersOf StorageT.index self.now layers.now }
         requires steps { steps < length layers.now }
-        requires place { place < counted (rests_of StorageT.index self.now steps (form_of class false) 0) }
-        ensures { IfOk result (λ repair. (d : List PlainStep) → slice_index_or (rests_of StorageT.index self.now steps (form_of class false) 0) place d
-            ≡ plain_steps StorageT.index repair.items) }
+        requires place { place < counted (repairs_of StorageT.index self.now class steps) }
+        ensures { IfOk result (IsRepairAt StorageT.index self.now class steps place) }
     {
         let mut repair = Vec::with_capacity(alloc, steps)?;
         let mut node = 0;
@@ -305,9 +287,7 @@ impl<'a, StorageT: StorageIndex> Nodes<'a, StorageT> {
         place: usize,
     ) -> Option<Choice<StorageT>>
         requires fits { place < 2 ^ 64 - 1 }
-        ensures { (s : ℕ) → IsLayer (rests_of StorageT.index self.now s) layer.now
-            → MatchOption result (length (rests_of StorageT.index self.now (suc s) form node) ≤ place)
-            (IsChoice StorageT.index (rests_of StorageT.index self.now s) (rests_of StorageT.index self.now (suc s) form node) place) }
+        ensures { IsChosen StorageT.index self.now layer.now node form place result }
     {
         let links = self.links_from(node);
         let mut left = place;

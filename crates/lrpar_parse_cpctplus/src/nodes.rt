@@ -2,7 +2,6 @@
 ghost use Rattle.std.specs.Prelude.{◌≡◌, [], IfOk, map};
 ghost use Rattle.lrpar_parse_repair.specs.PlainSteps.{plain_step};
 ghost use Rattle.lrpar_parse_cpctplus.specs.LinkView.{AreInStepOrder, AreRows, AreWithin, froms_by_to, links_by_from, plain_link, step_rank};
-ghost use Rattle.lrpar_parse_cpctplus.specs.Rests.{AreByNodes};
 
 use crate::link::Link;
 use lrpar_grammar::span::StorageIndex;
@@ -21,7 +20,7 @@ pub(crate) struct Nodes<'a, StorageT: StorageIndex> {
 }
 
 impl<'a, StorageT: StorageIndex> Nodes<'a, StorageT> {
-    ghost use Rattle.lrpar_parse_cpctplus.specs.NodesView.{LeadBack, links_of, sources_of};
+    ghost use Rattle.lrpar_parse_cpctplus.specs.NodesView.{AreNodesOf, links_of, sources_of};
 
     /// The nodes up to the end, and these links between them.
     pub(crate) fn new(
@@ -31,10 +30,7 @@ impl<'a, StorageT: StorageIndex> Nodes<'a, StorageT> {
         links: Vec<Link<StorageT>>,
     ) -> Result<Self, AllocError>
         requires within { AreWithin end links.items }
-        ensures avoided { IfOk result (λ nodes. nodes.avoided.now ≡ avoided.now) }
-        ensures end { IfOk result (λ nodes. nodes.end ≡ end) }
-        ensures by_nodes { IfOk result (λ nodes. AreByNodes (map (plain_link StorageT.index) links.items) (links_of StorageT.index nodes)) }
-        ensures back { IfOk result (λ nodes. LeadBack StorageT.index nodes) }
+        ensures { IfOk result (AreNodesOf StorageT.index avoided.now end links.items) }
     {
         let links = by_steps(links)?;
         let out = by_from(alloc, end, &links)?;

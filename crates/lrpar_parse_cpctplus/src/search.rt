@@ -1,18 +1,9 @@
 //! The search at an error point: the configurations, distance by distance, up to the least cost of a repair.
-ghost use Rattle.std.specs.Prelude.{◌≡◌, ◌≢◌, ◌<◌, ◌≤◌, ◌+◌, ◌-◌, ◌↔◌, ◌⊎◌, ◌∷◌, [], ℕ, length, map, IfOk, IfSome, IsTrue, OnOk};
-ghost use Rattle.std.specs.List.{Contains};
+ghost use Rattle.std.specs.Prelude.{◌≡◌, ◌<◌, ◌≤◌, ◌+◌, ◌⊎◌, ◌∷◌, [], length, IfOk, OnOk};
 ghost use Rattle.std.specs.List.Sorted.{IsStrictlyIncreasing};
-ghost use Rattle.lrpar_grammar.specs.Grammar.{tokens_len};
-ghost use Rattle.lrpar_table_rows.specs.Table.{Fails};
-ghost use Rattle.lrpar_table_stacks.specs.Reduction.{top_action};
-ghost use Rattle.lrpar_table_stacks.specs.Run.{token_at};
-ghost use Rattle.lrpar_table_stacks.specs.SharedStacks.{Extends, stack_at};
-ghost use Rattle.lrpar_table_stacks.specs.Stack.{IsStack};
-ghost use Rattle.lrpar_parse_lexemes.specs.Views.{token_by};
-ghost use Rattle.lrpar_parse_repair.specs.Asked.{HaveTokens};
-ghost use Rattle.lrpar_parse_repair.specs.PlainSteps.{plain_step};
+ghost use Rattle.lrpar_table_stacks.specs.Expected.{tokens_of};
+ghost use Rattle.lrpar_table_stacks.specs.SharedStacks.{Extends};
 ghost use Rattle.lrpar_parse_cpctplus.specs.Costs.{token_cost};
-ghost use Rattle.lrpar_parse_cpctplus.specs.Levels.{AreLevels};
 ghost use Rattle.lrpar_parse_cpctplus.specs.SearchRound.{AreWeights};
 
 use crate::cpct_plus::CpctPlus;
@@ -55,11 +46,11 @@ pub(crate) struct Found<StorageT: StorageIndex> {
 }
 
 impl<StorageT: StorageIndex> Found<StorageT> {
+    ghost use Rattle.lrpar_parse_cpctplus.specs.RoundView.{AreLinksOf};
+
     /// How many configurations there are, with the links and the last steps.
     pub(crate) fn linked(self) -> Linked<StorageT>
-        ensures len { result.len ≡ length self.graph.configurations.keys }
-        ensures links { result.links ≡ self.graph.links }
-        ensures endings { result.endings ≡ self.endings }
+        ensures { AreLinksOf self result }
     {
         let Found {
             stacks,
@@ -76,7 +67,7 @@ impl<StorageT: StorageIndex> Found<StorageT> {
 }
 
 impl<'a, 'p, StorageT: StorageIndex, LexemeT: Lexeme<StorageT>> Search<'a, 'p, StorageT, LexemeT> {
-    ghost use Rattle.lrpar_parse_cpctplus.specs.RoundView.{AddsAttemptsAt, AddsAttemptsOf, AddsDelete, AddsEnding, AddsInserts, AreAttemptsBy, AreDueBy, AreEndingsBy, AreHeldBy, CanGoOnFrom, GrowsByAttempts, GrowsByShifts, GrowsByStep, HasNoShifts, IsAddedLevel, IsDueBy, IsFoundIn, IsGrowingBy, IsHeldBy, IsNextLeast, IsReachBy, IsResult, IsRoundBy, LeadsBy, ReachesBy};
+    ghost use Rattle.lrpar_parse_cpctplus.specs.RoundView.{AddsAttemptsAt, AddsAttemptsOf, AddsDelete, AddsEnding, AddsInserts, AreAttemptsBy, AreDueBy, AreEndingsBy, AreHeldBy, AreNextTokens, GrowsByAttempts, GrowsByShifts, GrowsByStep, HasLevels, HasNoShifts, IsAddedLevel, IsDueBy, IsEngineOf, IsFoundIn, IsGrowingBy, IsHeldBy, IsNextLeast, IsReachBy, IsResult, IsRoundBy, IsWithinLimit, LeadsBy, ReachesBy, TellsGoingOn, token_there};
 
     /// The search at this error point, by these terms.
     pub(crate) fn new(point: &'a RecoveryPoint<'p, StorageT, LexemeT>, terms: &'a CpctPlus) -> Self
@@ -113,7 +104,6 @@ impl<'a, 'p, StorageT: StorageIndex, LexemeT: Lexeme<StorageT>> Search<'a, 'p, S
         graph: &mut Graph<StorageT>,
         weights: &[u8],
     ) -> Result<Option<Vec<Ending<StorageT>>>, AllocError>
-        requires held { AreHeldBy StorageT.index LexemeT.parts self.now stacks.old graph.old }
         requires round { IsRoundBy StorageT.index LexemeT.parts self.now stacks.old graph.old }
         requires weights { AreWeights self.now.terms.now.costs weights.now }
         ensures { IfOk result (IsResult StorageT.index LexemeT.parts self.now stacks.new graph.new) }
@@ -147,8 +137,8 @@ impl<'a, 'p, StorageT: StorageIndex, LexemeT: Lexeme<StorageT>> Search<'a, 'p, S
         graph: &Graph<StorageT>,
         weights: &[u8],
     ) -> Result<Vec<Attempt<StorageT>>, AllocError>
-        requires held { AreHeldBy StorageT.index LexemeT.parts self.now stacks.old graph.now }
-        requires levels { AreLevels graph.now.firsts.items (length graph.now.configurations.keys) }
+        requires held { AreHeldBy self.now stacks.old graph.now }
+        requires levels { HasLevels graph.now }
         requires weights { AreWeights self.now.terms.now.costs weights.now }
         ensures attempts { IfOk result (λ attempts. AreAttemptsBy StorageT.index LexemeT.parts self.now stacks.old graph.now attempts.items) }
         ensures stacks { stacks.new.stacks ≡ stacks.old.stacks }
@@ -168,9 +158,9 @@ impl<'a, 'p, StorageT: StorageIndex, LexemeT: Lexeme<StorageT>> Search<'a, 'p, S
         weight: u8,
         attempts: &mut Vec<Attempt<StorageT>>,
     ) -> Result<(), AllocError>
-        requires held { AreHeldBy StorageT.index LexemeT.parts self.now stacks.old graph.now }
-        requires levels { AreLevels graph.now.firsts.items (length graph.now.configurations.keys) }
-        ensures adds { OnOk result (AddsAttemptsAt StorageT.index LexemeT.parts self.now stacks.old graph.now weight attempts.old.items attempts.new.items) }
+        requires held { AreHeldBy self.now stacks.old graph.now }
+        requires levels { HasLevels graph.now }
+        ensures adds { OnOk result (AddsAttemptsAt StorageT.index LexemeT.parts self.now stacks.old graph.now weight attempts.old attempts.new) }
         ensures stacks { stacks.new.stacks ≡ stacks.old.stacks }
     {
         let (levels, less) = (graph.levels(), usize::from(weight));
@@ -193,11 +183,11 @@ impl<'a, 'p, StorageT: StorageIndex, LexemeT: Lexeme<StorageT>> Search<'a, 'p, S
         weight: u8,
         attempts: &mut Vec<Attempt<StorageT>>,
     ) -> Result<(), AllocError>
-        requires held { IsHeldBy StorageT.index LexemeT.parts self.now stacks.old at }
-        ensures adds { OnOk result (AddsAttemptsOf StorageT.index LexemeT.parts self.now stacks.old at from weight attempts.old.items attempts.new.items) }
+        requires held { IsHeldBy self.now stacks.old at }
+        ensures adds { OnOk result (AddsAttemptsOf StorageT.index LexemeT.parts self.now stacks.old at from weight attempts.old attempts.new) }
         ensures stacks { stacks.new.stacks ≡ stacks.old.stacks }
     {
-        let tokens = self.tokens(stacks, at.stack);
+        let tokens = self.tokens(stacks, at);
         self.add_inserts(tokens, from, weight, attempts)?;
         self.add_delete(at.place, from, weight, attempts)
     }
@@ -210,8 +200,8 @@ impl<'a, 'p, StorageT: StorageIndex, LexemeT: Lexeme<StorageT>> Search<'a, 'p, S
         weight: u8,
         attempts: &mut Vec<Attempt<StorageT>>,
     ) -> Result<(), AllocError>
-        requires ascending { IsStrictlyIncreasing (map (λ t. StorageT.index t.0) tokens.now) }
-        ensures adds { OnOk result (AddsInserts StorageT.index LexemeT.parts self.now (map (λ t. StorageT.index t.0) tokens.now) from weight attempts.old.items attempts.new.items) }
+        requires ascending { IsStrictlyIncreasing (tokens_of StorageT.index tokens.now) }
+        ensures adds { OnOk result (AddsInserts StorageT.index self.now tokens.now from weight attempts.old attempts.new) }
     {
         for token in tokens {
             self.add_insert(*token, from, weight, attempts)?;
@@ -227,7 +217,7 @@ impl<'a, 'p, StorageT: StorageIndex, LexemeT: Lexeme<StorageT>> Search<'a, 'p, S
         weight: u8,
         attempts: &mut Vec<Attempt<StorageT>>,
     ) -> Result<(), AllocError>
-        ensures adds { OnOk result (AddsInserts StorageT.index LexemeT.parts self.now (StorageT.index token.0 ∷ []) from weight attempts.old.items attempts.new.items) }
+        ensures adds { OnOk result (AddsInserts StorageT.index self.now (token ∷ []) from weight attempts.old attempts.new) }
     {
         if usize::from(token) >= usize::from(self.point.data().grm().eof_token_idx()) {
             return Ok(());
@@ -249,7 +239,7 @@ impl<'a, 'p, StorageT: StorageIndex, LexemeT: Lexeme<StorageT>> Search<'a, 'p, S
         weight: u8,
         attempts: &mut Vec<Attempt<StorageT>>,
     ) -> Result<(), AllocError>
-        ensures adds { OnOk result (AddsDelete StorageT.index LexemeT.parts self.now place from weight attempts.old.items attempts.new.items) }
+        ensures adds { OnOk result (AddsDelete StorageT.index LexemeT.parts self.now place from weight attempts.old attempts.new) }
     {
         if place >= self.point.lexemes().len() {
             return Ok(());
@@ -263,16 +253,13 @@ impl<'a, 'p, StorageT: StorageIndex, LexemeT: Lexeme<StorageT>> Search<'a, 'p, S
         Ok(())
     }
 
-    // The tokens at which the top state of the stack with this number has an action.
-    fn tokens(&self, stacks: &mut SharedStacks<StorageT>, stack: usize) -> &'p [TIdx<StorageT>]
-        requires within { stack < length stacks.old.stacks }
-        requires stack { IsStack self.now.point.now.checked.table (stack_at stacks.old.stacks stack) }
-        ensures exact { (t : ℕ) → Contains (map (λ t. StorageT.index t.0) result.now) t
-            ↔ (top_action self.now.point.now.checked.table t (stack_at stacks.old.stacks stack) ≢ Fails) }
-        ensures ascending { IsStrictlyIncreasing (map (λ t. StorageT.index t.0) result.now) }
+    // The tokens at which the top state of the configuration's stack has an action.
+    fn tokens(&self, stacks: &mut SharedStacks<StorageT>, at: Configuration) -> &'p [TIdx<StorageT>]
+        requires held { IsHeldBy self.now stacks.old at }
+        ensures tokens { AreNextTokens StorageT.index self.now stacks.old at result.now }
         ensures stacks { stacks.new.stacks ≡ stacks.old.stacks }
     {
-        stacks.go_to(stack);
+        stacks.go_to(at.stack);
         let table = self.point.data().stable();
         let (tokens, _actions) = table.actions_of(stacks.top());
         tokens
@@ -286,7 +273,7 @@ impl<'a, 'p, StorageT: StorageIndex, LexemeT: Lexeme<StorageT>> Search<'a, 'p, S
         graph: &Graph<StorageT>,
         attempts: &[Attempt<StorageT>],
     ) -> Result<Vec<Ending<StorageT>>, AllocError>
-        requires held { AreHeldBy StorageT.index LexemeT.parts self.now stacks.old graph.now }
+        requires held { AreHeldBy self.now stacks.old graph.now }
         requires attempts { AreAttemptsBy StorageT.index LexemeT.parts self.now stacks.old graph.now attempts.now }
         ensures endings { IfOk result (λ endings. AreEndingsBy StorageT.index LexemeT.parts self.now stacks.old graph.now attempts.now endings.items) }
         ensures extends { OnOk result (Extends stacks.old stacks.new) }
@@ -306,8 +293,8 @@ impl<'a, 'p, StorageT: StorageIndex, LexemeT: Lexeme<StorageT>> Search<'a, 'p, S
         attempt: Attempt<StorageT>,
         endings: &mut Vec<Ending<StorageT>>,
     ) -> Result<(), AllocError>
-        requires held { IsHeldBy StorageT.index LexemeT.parts self.now stacks.old at }
-        ensures adds { OnOk result (AddsEnding StorageT.index LexemeT.parts self.now stacks.old at attempt endings.old.items endings.new.items) }
+        requires held { IsHeldBy self.now stacks.old at }
+        ensures adds { OnOk result (AddsEnding StorageT.index LexemeT.parts self.now stacks.old at attempt endings.old endings.new) }
         ensures extends { OnOk result (Extends stacks.old stacks.new) }
     {
         let Attempt { from, step } = attempt;
@@ -328,13 +315,11 @@ impl<'a, 'p, StorageT: StorageIndex, LexemeT: Lexeme<StorageT>> Search<'a, 'p, S
         graph: &mut Graph<StorageT>,
         attempts: &[Attempt<StorageT>],
     ) -> Result<bool, AllocError>
-        requires held { AreHeldBy StorageT.index LexemeT.parts self.now stacks.old graph.old }
         requires round { IsRoundBy StorageT.index LexemeT.parts self.now stacks.old graph.old }
         requires attempts { AreAttemptsBy StorageT.index LexemeT.parts self.now stacks.old graph.old attempts.now }
         requires least { IsNextLeast StorageT.index LexemeT.parts self.now (length graph.old.firsts.items) }
-        requires within { length graph.old.configurations.keys ≤ self.now.terms.now.limit }
-        ensures added { IfOk result (IsAddedLevel StorageT.index LexemeT.parts self.now stacks.old graph.old stacks.new graph.new) }
-        ensures held { OnOk result (AreHeldBy StorageT.index LexemeT.parts self.now stacks.new graph.new) }
+        requires within { IsWithinLimit self.now graph.old }
+        ensures { IfOk result (IsAddedLevel StorageT.index LexemeT.parts self.now stacks.old graph.old stacks.new graph.new) }
     {
         // Each token costs something.
         let (first, _limit) = (graph.len(), self.terms.limit());
@@ -354,14 +339,9 @@ impl<'a, 'p, StorageT: StorageIndex, LexemeT: Lexeme<StorageT>> Search<'a, 'p, S
         first: usize,
         attempts: &[Attempt<StorageT>],
     ) -> Result<bool, AllocError>
-        requires held { AreHeldBy StorageT.index LexemeT.parts self.now stacks.old graph.old }
         requires growing { IsGrowingBy StorageT.index LexemeT.parts self.now stacks.old graph.old first }
         requires due { AreDueBy StorageT.index LexemeT.parts self.now stacks.old graph.old first attempts.now }
-        requires within { length graph.old.configurations.keys ≤ self.now.terms.now.limit }
-        requires least { IsNextLeast StorageT.index LexemeT.parts self.now (length graph.old.firsts.items - 1) }
-        ensures grows { IfOk result (GrowsByAttempts StorageT.index LexemeT.parts self.now first attempts.now stacks.old graph.old stacks.new graph.new) }
-        ensures held { OnOk result (AreHeldBy StorageT.index LexemeT.parts self.now stacks.new graph.new) }
-        ensures firsts { OnOk result (graph.new.firsts ≡ graph.old.firsts) }
+        ensures { IfOk result (GrowsByAttempts StorageT.index LexemeT.parts self.now first attempts.now stacks.old graph.old stacks.new graph.new) }
     {
         for attempt in attempts {
             self.add_step(stacks, graph, first, attempt.from, attempt.step)?;
@@ -379,14 +359,9 @@ impl<'a, 'p, StorageT: StorageIndex, LexemeT: Lexeme<StorageT>> Search<'a, 'p, S
         graph: &mut Graph<StorageT>,
         first: usize,
     ) -> Result<bool, AllocError>
-        requires held { AreHeldBy StorageT.index LexemeT.parts self.now stacks.old graph.old }
         requires growing { IsGrowingBy StorageT.index LexemeT.parts self.now stacks.old graph.old first }
         requires none { HasNoShifts StorageT.index first graph.old }
-        requires within { length graph.old.configurations.keys ≤ self.now.terms.now.limit }
-        requires least { IsNextLeast StorageT.index LexemeT.parts self.now (length graph.old.firsts.items - 1) }
-        ensures grows { IfOk result (GrowsByShifts StorageT.index LexemeT.parts self.now first stacks.old graph.old stacks.new graph.new) }
-        ensures held { OnOk result (AreHeldBy StorageT.index LexemeT.parts self.now stacks.new graph.new) }
-        ensures firsts { OnOk result (graph.new.firsts ≡ graph.old.firsts) }
+        ensures { IfOk result (GrowsByShifts StorageT.index LexemeT.parts self.now first stacks.old graph.old stacks.new graph.new) }
     {
         let mut from = first;
         'shifts: while from < graph.len() {
@@ -408,12 +383,9 @@ impl<'a, 'p, StorageT: StorageIndex, LexemeT: Lexeme<StorageT>> Search<'a, 'p, S
         from: usize,
         step: RepairStep<StorageT>,
     ) -> Result<(), AllocError>
-        requires held { AreHeldBy StorageT.index LexemeT.parts self.now stacks.old graph.old }
         requires growing { IsGrowingBy StorageT.index LexemeT.parts self.now stacks.old graph.old first }
         requires due { IsDueBy StorageT.index LexemeT.parts self.now stacks.old graph.old first from step }
-        ensures grows { OnOk result (GrowsByStep StorageT.index LexemeT.parts self.now first from step stacks.old graph.old stacks.new graph.new) }
-        ensures held { OnOk result (AreHeldBy StorageT.index LexemeT.parts self.now stacks.new graph.new) }
-        ensures firsts { OnOk result (graph.new.firsts ≡ graph.old.firsts) }
+        ensures { OnOk result (GrowsByStep StorageT.index LexemeT.parts self.now first from step stacks.old graph.old stacks.new graph.new) }
     {
         if let Some(reached) = self.taken(stacks, graph.at(from), step)? {
             // No two numbers have the same stack.
@@ -430,8 +402,8 @@ impl<'a, 'p, StorageT: StorageIndex, LexemeT: Lexeme<StorageT>> Search<'a, 'p, S
         at: Configuration,
         step: RepairStep<StorageT>,
     ) -> Result<Option<u128>, AllocError>
-        requires held { IsHeldBy StorageT.index LexemeT.parts self.now stacks.old at }
-        ensures reach { IfOk result (IsReachBy StorageT.index LexemeT.parts self.now stacks.old at (plain_step StorageT.index step)) }
+        requires held { IsHeldBy self.now stacks.old at }
+        ensures reach { IfOk result (IsReachBy StorageT.index LexemeT.parts self.now stacks.old at step) }
         ensures extends { OnOk result (Extends stacks.old stacks.new) }
     {
         let Some(reached) = self.taken(stacks, at, step)? else {
@@ -451,9 +423,8 @@ impl<'a, 'p, StorageT: StorageIndex, LexemeT: Lexeme<StorageT>> Search<'a, 'p, S
         at: Configuration,
         step: RepairStep<StorageT>,
     ) -> Result<Option<Configuration>, AllocError>
-        requires held { IsHeldBy StorageT.index LexemeT.parts self.now stacks.old at }
-        ensures taken { IfOk result (LeadsBy StorageT.index LexemeT.parts self.now stacks.old at (plain_step StorageT.index step) stacks.new) }
-        ensures held { IfOk result (λ reached. IfSome reached (IsHeldBy StorageT.index LexemeT.parts self.now stacks.new)) }
+        requires held { IsHeldBy self.now stacks.old at }
+        ensures leads { IfOk result (LeadsBy StorageT.index LexemeT.parts self.now stacks.old at step stacks.new) }
         ensures extends { OnOk result (Extends stacks.old stacks.new) }
     {
         stacks.go_to(at.stack);
@@ -473,8 +444,8 @@ impl<'a, 'p, StorageT: StorageIndex, LexemeT: Lexeme<StorageT>> Search<'a, 'p, S
         stacks: &mut SharedStacks<StorageT>,
         at: Configuration,
     ) -> Result<bool, AllocError>
-        requires held { IsHeldBy StorageT.index LexemeT.parts self.now stacks.old at }
-        ensures goes_on { IfOk result (λ goes_on. IsTrue goes_on ↔ CanGoOnFrom StorageT.index LexemeT.parts self.now stacks.old at) }
+        requires held { IsHeldBy self.now stacks.old at }
+        ensures goes_on { IfOk result (TellsGoingOn StorageT.index LexemeT.parts self.now stacks.old at) }
         ensures extends { OnOk result (Extends stacks.old stacks.new) }
     {
         stacks.go_to(at.stack);
@@ -489,7 +460,7 @@ impl<'a, 'p, StorageT: StorageIndex, LexemeT: Lexeme<StorageT>> Search<'a, 'p, S
         stacks: &mut SharedStacks<StorageT>,
         at: Configuration,
     ) -> Result<u128, AllocError>
-        requires held { IsHeldBy StorageT.index LexemeT.parts self.now stacks.old at }
+        requires held { IsHeldBy self.now stacks.old at }
         ensures reach { IfOk result (ReachesBy StorageT.index LexemeT.parts self.now stacks.old at) }
         ensures extends { OnOk result (Extends stacks.old stacks.new) }
     {
@@ -518,8 +489,7 @@ impl<'a, 'p, StorageT: StorageIndex, LexemeT: Lexeme<StorageT>> Search<'a, 'p, S
 
     // The token of the lexeme at the place; past the last one, the end token.
     fn token_at(&self, place: usize) -> TIdx<StorageT>
-        ensures { StorageT.index result.0
-            ≡ token_at (token_by StorageT.index LexemeT.parts) self.now.point.now.checked.grammar self.now.point.now.lexemes place }
+        ensures { StorageT.index result.0 ≡ token_there StorageT.index LexemeT.parts self.now place }
     {
         match self.point.lexemes().get(place) {
             Some(lexeme) => TIdx(lexeme.tok_id()),
@@ -529,10 +499,7 @@ impl<'a, 'p, StorageT: StorageIndex, LexemeT: Lexeme<StorageT>> Search<'a, 'p, S
 
     // The engine of the point.
     fn engine(&self) -> Engine<'p, StorageT, LexemeT>
-        ensures checked { result.checked.now ≡ self.now.point.now.checked }
-        ensures lexemes { result.lexemes.now ≡ self.now.point.now.lexemes }
-        ensures shifts { result.shifts ≡ self.now.point.now.shifts }
-        ensures tokens { HaveTokens (token_by StorageT.index LexemeT.parts) self.now.point.now.checked.grammar self.now.point.now.lexemes }
+        ensures { IsEngineOf StorageT.index LexemeT.parts self.now result }
     {
         Engine::new(self.point.data(), self.point.lexemes(), self.point.shifts())
     }

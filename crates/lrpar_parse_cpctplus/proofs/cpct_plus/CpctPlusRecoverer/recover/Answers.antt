@@ -1,14 +1,11 @@
-use Rattle.std.proofs.Common.{◌≡◌, arith, length, subst}
+use Rattle.std.proofs.Common.{subst}
 use Rattle.std.proofs.lemmas.Result.{IfOk-weaker}
 use Rattle.lrpar_parse_lexemes.specs.Views.{token_by}
 use Rattle.lrpar_parse_repair.specs.Asked.{Asked}
 use Rattle.lrpar_parse_repair.specs.PlainSteps.{plain_sequences}
-use Rattle.lrpar_parse_cpctplus.specs.GraphView.{nodes_in}
-use Rattle.lrpar_parse_cpctplus.specs.LinkView.{plain_graph}
 use Rattle.lrpar_parse_cpctplus.specs.Listing.{Settings}
 use Rattle.lrpar_parse_cpctplus.specs.SearchRound.{IsNothingFound}
-use Rattle.lrpar_parse_cpctplus.proofs.HeldLemmas.{nodes_len}
-use Rattle.lrpar_parse_cpctplus.proofs.RecoverLemmas.{found_for, found_listed, found_numbered, nothing_listed}
+use Rattle.lrpar_parse_cpctplus.proofs.RecoverLemmas.{linked_listed, linked_numbered, nothing_listed}
 use Rattle.lrpar_parse_cpctplus.proofs.cpct_plus.CpctPlusRecoverer.recover.Goals as goal
 
 pub returns-in_default : goal.returns-in_default
@@ -24,35 +21,19 @@ returns-in_default g c =
 
 pub first_repairs-requires : goal.first_repairs-requires
 first_repairs-requires g c =
-    let index = g.StorageT.StorageIndex.index in
-    let parts = g.LexemeT.Lexeme.parts in
-    let settings = c.args.self.now in
-    let at = c.args.point.now in
-    let found = c.in-Some.found in
-    let nodes = nodes_in found.stacks.stacks found.graph.configurations.keys in
-    let linked = c.linked.result in
-    let len : linked.len ≡ length nodes = omega (arith, nodes_len found.stacks.stacks found.graph.configurations.keys, c.linked.ensures.len) in
-    let is = found_for index parts c.new-search.result settings at found linked c.new-search.ensures.terms c.new-search.ensures.point c.linked.ensures.links
-    c.linked.ensures.endings (rw c.in-Some.is at c.in_ok-found.ensures) in
-    record { numbered = found_numbered (token_by index parts) settings at index linked nodes len is }
+    record {
+      numbered = linked_numbered g.StorageT.StorageIndex.index g.LexemeT.Lexeme.parts c.new-search.result c.args.self.now c.args.point.now c.in-Some.found c.linked.result
+          c.new-search.ensures.terms c.new-search.ensures.point c.linked.ensures (rw c.in-Some.is at c.in_ok-found.ensures);
+    }
 
 pub returns : goal.returns
 returns g c =
     let index = g.StorageT.StorageIndex.index in
-    let parts = g.LexemeT.Lexeme.parts in
-    let token = token_by index parts in
-    let settings = c.args.self.now in
-    let at = c.args.point.now in
-    let found = c.in-Some.found in
-    let nodes = nodes_in found.stacks.stacks found.graph.configurations.keys in
-    let linked = c.linked.result in
-    let len : linked.len ≡ length nodes = omega (arith, nodes_len found.stacks.stacks found.graph.configurations.keys, c.linked.ensures.len) in
-    let is = found_for index parts c.new-search.result settings at found linked c.new-search.ensures.terms c.new-search.ensures.point c.linked.ensures.links
-    c.linked.ensures.endings (rw c.in-Some.is at c.in_ok-found.ensures) in
     record {
       allowed = IfOk-weaker c.first_repairs.result _ _
           (λ repairs listed.
-          found_listed token settings at nodes (plain_graph index linked) (plain_sequences index repairs.items) c.shifts-shifts.ensures.stop
-          c.limit-limit.ensures.costs len is (rw (c.wanted.ensures.avoided, c.wanted.ensures.most, c.wanted.ensures.lists_all) at listed))
+          linked_listed index g.LexemeT.Lexeme.parts c.new-search.result c.args.self.now c.args.point.now c.in-Some.found c.linked.result c.new-search.ensures.terms
+          c.new-search.ensures.point c.linked.ensures (rw c.in-Some.is at c.in_ok-found.ensures) (plain_sequences index repairs.items) c.shifts-shifts.ensures.stop
+          c.limit-limit.ensures.costs (rw (c.wanted.ensures.avoided, c.wanted.ensures.most, c.wanted.ensures.lists_all) at listed))
           c.first_repairs.ensures.first;
     }

@@ -7,4 +7,4 @@ pub returns : goal.returns
 returns g c =
     let nodes = c.args.self.now in
     first_is_layer nodes.avoided.now nodes.end (links_of g.StorageT.StorageIndex.index nodes) c.new-layer.result c.add.new.self _ refl c.new-layer.ensures
-    c.in_ok-add.ensures.counts c.in_ok-add.ensures.nodes
+    c.in_ok-add.ensures

@@ -1,4 +1,4 @@
-use Rattle.std.proofs.Common.{List, subst}
+use Rattle.std.proofs.Common.{List, refl, subst}
 use Rattle.lrpar_parse_cpctplus.specs.LinkView.{AreRows, froms_by_to, links_by_from}
 use Rattle.lrpar_parse_cpctplus.specs.declared.link.Link.{Link}
 use Rattle.lrpar_parse_cpctplus.proofs.NodeLemmas.{are_by_nodes, lead_back, sorted_within}
@@ -18,14 +18,15 @@ by_to-requires g c =
           (rw (← c.deref-2.ensures.value) at c.in_ok-links.ensures) c.args.end c.requires.within;
     }
 
-pub returns-clause-by_nodes : goal.returns-clause-by_nodes
-returns-clause-by_nodes g c =
-    let rows = subst (λ (l : List (Link g.row.StorageT.Denot)). AreRows c.args.end (links_by_from l) c.in_ok-out.out.items) c.deref.ensures.value c.in_ok-out.ensures in
-    are_by_nodes g.StorageT.StorageIndex.index c.args.links.items c.in_ok-links.links.items c.in_ok-links.ensures c.args.end c.requires.within c.in_ok-out.out.items rows
-
-pub returns-clause-back : goal.returns-clause-back
-returns-clause-back g c =
+pub returns : goal.returns
+returns g c =
     let rows = subst (λ (l : List (Link g.row.StorageT.Denot)). AreRows c.args.end (links_by_from l) c.in_ok-out.out.items) c.deref.ensures.value c.in_ok-out.ensures in
     let back = subst (λ (l : List (Link g.row.StorageT.Denot)). AreRows c.args.end (froms_by_to l) c.in_ok-into.into.items) c.deref-2.ensures.value c.in_ok-into.ensures in
-    lead_back g.StorageT.StorageIndex.index c.args.links.items c.in_ok-links.links.items c.in_ok-links.ensures c.args.end c.requires.within c.in_ok-out.out.items rows
-    c.in_ok-into.into.items back
+    record {
+      avoids = refl;
+      ends = refl;
+      by_nodes = are_by_nodes g.StorageT.StorageIndex.index c.args.links.items c.in_ok-links.links.items c.in_ok-links.ensures c.args.end c.requires.within
+          c.in_ok-out.out.items rows;
+      back = lead_back g.StorageT.StorageIndex.index c.args.links.items c.in_ok-links.links.items c.in_ok-links.ensures c.args.end c.requires.within
+          c.in_ok-out.out.items rows c.in_ok-into.into.items back;
+    }

@@ -1,7 +1,6 @@
-use Rattle.std.proofs.Common.{◌+◌, inl, inr, IsTrue, List, is_some, subst, suc, sym, take, ℕ}
-use Rattle.std.specs.Prelude.{nat_eq}
-use Rattle.std.specs.HashMap.{get}
+use Rattle.std.proofs.Common.{◌+◌, inl, inr, IsTrue, List, subst, suc, sym, take, ℕ}
 use Rattle.std.specs.List.{Contains}
+use Rattle.lrpar_parse_cpctplus.specs.Counted.{has_node}
 use Rattle.lrpar_parse_cpctplus.specs.NodesView.{links_of, rests_of, sources_of}
 use Rattle.lrpar_parse_cpctplus.proofs.CountLemmas.{all_numbers_taken, is_next_layer, no_number, none_is_part, number_more}
 use Rattle.lrpar_parse_cpctplus.proofs.nodes.Nodes.next_layer.Goals as goal
@@ -22,11 +21,11 @@ loop-node-preserved g c =
       part = λ s is. c.in_ok-add_sources.ensures.part s is (l.invariant.part s is);
       sources = λ node u m n.
           elim (number_more items l.node-index c.loop-node-test.true node (subst (λ (xs : List ℕ). Contains (take (l.node-index + 1) xs) node) (sym same) m))
-          as (λ _. IsTrue (is_some (get nat_eq c.add_sources.new.next.counts u))) [
+          as (λ _. IsTrue (has_node c.add_sources.new.next u)) [
             | inl before ↦
                 c.in_ok-add_sources.ensures.stay u
                 (l.invariant.sources node u (subst (λ (xs : List ℕ). Contains (take l.node-index xs) node) same before) n)
-            | inr here ↦ c.in_ok-add_sources.ensures.sources u (subst (λ (k : ℕ). Contains (sources_of index c.args.self.now k) u) (sym here) n)
+            | inr here ↦ c.in_ok-add_sources.ensures.there u (subst (λ (k : ℕ). Contains (sources_of index c.args.self.now k) u) (sym here) n)
           ];
     }
 

@@ -1,7 +1,5 @@
-use Rattle.std.proofs.Common.{ℕ, suc, IsTrue, is_some, take, Contains}
-use Rattle.std.specs.Prelude.{nat_eq}
-use Rattle.std.specs.HashMap.{get}
-use Rattle.lrpar_parse_cpctplus.specs.Counted.{IsLayer, IsPartOfLayer}
+use Rattle.std.proofs.Common.{ℕ, suc, IsTrue, take, Contains}
+use Rattle.lrpar_parse_cpctplus.specs.Counted.{IsLayer, IsPartOfLayer, has_node}
 use Rattle.lrpar_parse_cpctplus.specs.NodesView.{rests_of, sources_of}
 use Rattle.lrpar_parse_cpctplus.proofs.nodes.Nodes.next_layer.Given as goal
 
@@ -12,5 +10,5 @@ invariant-loop-node g l =
     record {
       part : (s : ℕ) → IsLayer (rests_of index l.self s) l.layer → IsPartOfLayer (rests_of index l.self (suc s)) l.next;
       sources : (node u : ℕ) → Contains (take l.node-index l.layer.nodes.items) node → Contains (sources_of index l.self node) u
-          → IsTrue (is_some (get nat_eq l.next.counts u));
+          → IsTrue (has_node l.next u);
     }

@@ -1,5 +1,5 @@
-use Rattle.std.proofs.Common.{◌≡◌, ◌≤◌, length, take}
-use Rattle.lrpar_parse_cpctplus.specs.RoundView.{AreHeldBy, GrowsBy, plain_attempts}
+use Rattle.std.proofs.Common.{◌≤◌, length, take}
+use Rattle.lrpar_parse_cpctplus.specs.RoundView.{GrowsBy, plain_attempts}
 use Rattle.lrpar_parse_cpctplus.specs.SearchRound.{IsAmong}
 use Rattle.lrpar_parse_cpctplus.proofs.search.Search.add_reached.Given as goal
 
@@ -10,7 +10,5 @@ invariant-loop-attempt g l =
     let parts = g.LexemeT.Lexeme.parts in
     record {
       grows : GrowsBy index parts l.self l.first (IsAmong (take l.attempt-index (plain_attempts index l.attempts))) l.fn.stacks l.fn.graph l.stacks l.graph;
-      held : AreHeldBy index parts l.self l.stacks l.graph;
       within : length l.graph.configurations.keys ≤ l.self.terms.now.limit;
-      firsts : l.graph.firsts ≡ l.fn.graph.firsts;
     }

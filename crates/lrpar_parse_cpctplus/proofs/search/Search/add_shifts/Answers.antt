@@ -3,8 +3,8 @@ use Rattle.std.proofs.lemmas.Option.{slice_get-get_or}
 use Rattle.lrpar_parse_lexemes.specs.Views.{token_by}
 use Rattle.lrpar_parse_cpctplus.specs.Configurations.{root_of}
 use Rattle.lrpar_parse_cpctplus.specs.GraphView.{nodes_in, plain_links}
-use Rattle.lrpar_parse_cpctplus.proofs.GrowLemmas.{past_limit}
 use Rattle.lrpar_parse_cpctplus.proofs.HeldLemmas.{nodes_len}
+use Rattle.lrpar_parse_cpctplus.proofs.SearchLemmas.{exceeds, still_growing}
 use Rattle.lrpar_parse_cpctplus.proofs.StepsLemmas.{shift_due, shifts_begin, shifts_end, shifts_more}
 use Rattle.lrpar_parse_cpctplus.proofs.search.Search.add_shifts.Goals as goal
 
@@ -13,12 +13,14 @@ shifts-init g c =
     let index = g.StorageT.StorageIndex.index in
     let graph = c.args.graph.now in
     record {
-      grows = shifts_begin (token_by index g.LexemeT.Lexeme.parts) c.args.self.now.terms.now.costs c.args.self.now.point.now c.args.first (length graph.firsts.items - 1)
-          (nodes_in c.args.stacks.now.stacks graph.configurations.keys) (plain_links index graph.links.items) c.requires.growing;
-      held = c.requires.held;
+      grows = record {
+        held = c.requires.growing.held;
+        firsts = refl;
+        grown = shifts_begin (token_by index g.LexemeT.Lexeme.parts) c.args.self.now.terms.now.costs c.args.self.now.point.now c.args.first (length graph.firsts.items - 1)
+            (nodes_in c.args.stacks.now.stacks graph.configurations.keys) (plain_links index graph.links.items) c.requires.growing.known;
+      };
       low = omega arith;
-      within = c.requires.within;
-      firsts = refl;
+      within = c.requires.growing.within;
     }
 
 pub add_step-requires : goal.add_step-requires
@@ -31,44 +33,34 @@ add_step-requires g c =
     let below : l.from < length nodes = omega (arith, c.len.ensures.len, nodes_len l.stacks.stacks l.graph.configurations.keys, c.shifts-test.true) in
     let is = slice_get-get_or nodes l.from (root_of at) below in
     record {
-      held = l.invariant.held;
-      growing = rw l.invariant.firsts l.invariant.grows.growing;
-      due = rw l.invariant.firsts (shift_due (token_by index g.LexemeT.Lexeme.parts) c.args.self.now.terms.now.costs at c.args.first (length graph.firsts.items - 1)
+      growing = still_growing index g.LexemeT.Lexeme.parts c.args.self.now c.requires.growing l.invariant.grows l.invariant.within;
+      due = rw l.invariant.grows.firsts (shift_due (token_by index g.LexemeT.Lexeme.parts) c.args.self.now.terms.now.costs at c.args.first (length graph.firsts.items - 1)
           (nodes_in c.args.stacks.now.stacks graph.configurations.keys) (plain_links index graph.links.items) l.from l.invariant.low nodes
-          (plain_links index l.graph.links.items) l.invariant.grows (get_or nodes l.from (root_of at)) is c.requires.none);
+          (plain_links index l.graph.links.items) l.invariant.grows.grown (get_or nodes l.from (root_of at)) is c.requires.none);
     }
 
 pub returns-then-limit-len : goal.returns-then-limit-len
 returns-then-limit-len g c =
-    let index = g.StorageT.StorageIndex.index in
-    let search = c.args.self.now in
-    let l = c.shifts in
-    let stacks = c.add_step.new.stacks.stacks in
-    let keys = c.add_step.new.graph.configurations.keys in
-    let own = rw l.invariant.firsts at c.in_ok-add_step.ensures.grows in
-    record {
-      grows = past_limit (token_by index g.LexemeT.Lexeme.parts) search.terms.now.costs search.point.now c.args.first (length c.args.graph.now.firsts.items - 1)
-          search.terms.now.limit (nodes_in stacks keys) (plain_links index c.add_step.new.graph.links.items) own.growing c.requires.least
-          (omega (arith, c.limit.ensures.limit, c.len-in-shifts.ensures.len, nodes_len stacks keys, c.if-limit-len.true));
-      held = c.in_ok-add_step.ensures.held;
-      firsts = c.in_ok-add_step.ensures.firsts ∙ l.invariant.firsts;
-    }
+    exceeds g.StorageT.StorageIndex.index g.LexemeT.Lexeme.parts c.args.self.now c.args.first c.args.stacks.now c.args.graph.now
+    c.shifts.stacks c.shifts.graph c.add_step.new.stacks c.add_step.new.graph c.requires.growing c.shifts.invariant.grows c.in_ok-add_step.ensures (omega (arith, c.limit.ensures.limit, c.len-in-shifts.ensures.len, c.if-limit-len.true))
 
 pub shifts-preserved : goal.shifts-preserved
 shifts-preserved g c =
     let index = g.StorageT.StorageIndex.index in
     let graph = c.args.graph.now in
     let l = c.shifts in
-    let own = rw l.invariant.firsts at c.in_ok-add_step.ensures.grows in
+    let own = rw l.invariant.grows.firsts at c.in_ok-add_step.ensures.grown in
     record {
-      grows = shifts_more (token_by index g.LexemeT.Lexeme.parts) c.args.self.now.terms.now.costs c.args.self.now.point.now c.args.first (length graph.firsts.items - 1)
-          (nodes_in c.args.stacks.now.stacks graph.configurations.keys) (plain_links index graph.links.items) l.from l.invariant.low
-          (nodes_in l.stacks.stacks l.graph.configurations.keys) (plain_links index l.graph.links.items) l.invariant.grows
-          (nodes_in c.add_step.new.stacks.stacks c.add_step.new.graph.configurations.keys) (plain_links index c.add_step.new.graph.links.items) own;
-      held = c.in_ok-add_step.ensures.held;
+      grows = record {
+        held = c.in_ok-add_step.ensures.held;
+        firsts = c.in_ok-add_step.ensures.firsts ∙ l.invariant.grows.firsts;
+        grown = shifts_more (token_by index g.LexemeT.Lexeme.parts) c.args.self.now.terms.now.costs c.args.self.now.point.now c.args.first (length graph.firsts.items - 1)
+            (nodes_in c.args.stacks.now.stacks graph.configurations.keys) (plain_links index graph.links.items) l.from l.invariant.low
+            (nodes_in l.stacks.stacks l.graph.configurations.keys) (plain_links index l.graph.links.items) l.invariant.grows.grown
+            (nodes_in c.add_step.new.stacks.stacks c.add_step.new.graph.configurations.keys) (plain_links index c.add_step.new.graph.links.items) own;
+      };
       low = omega (arith, l.invariant.low);
       within = omega (arith, c.limit.ensures.limit, c.len-in-shifts.ensures.len, c.if-limit-len.false);
-      firsts = c.in_ok-add_step.ensures.firsts ∙ l.invariant.firsts;
     }
 
 pub returns : goal.returns
@@ -76,15 +68,14 @@ returns g c =
     let index = g.StorageT.StorageIndex.index in
     let graph = c.args.graph.now in
     let l = c.shifts in
-    let keys = l.graph.configurations.keys in
-    record {
-      grows = (
-        shifts_end (token_by index g.LexemeT.Lexeme.parts) c.args.self.now.terms.now.costs c.args.self.now.point.now c.args.first (length graph.firsts.items - 1)
+    let keys = l.graph.configurations.keys in (
+      record {
+        held = l.invariant.grows.held;
+        firsts = l.invariant.grows.firsts;
+        grown = shifts_end (token_by index g.LexemeT.Lexeme.parts) c.args.self.now.terms.now.costs c.args.self.now.point.now c.args.first (length graph.firsts.items - 1)
             (nodes_in c.args.stacks.now.stacks graph.configurations.keys) (plain_links index graph.links.items) l.from l.invariant.low
-            (nodes_in l.stacks.stacks keys) (plain_links index l.graph.links.items) l.invariant.grows (length keys) (nodes_len l.stacks.stacks keys)
-            (omega (arith, c.len.ensures.len, c.shifts-test.false)),
-        l.invariant.within,
-      );
-      held = l.invariant.held;
-      firsts = l.invariant.firsts;
-    }
+            (nodes_in l.stacks.stacks keys) (plain_links index l.graph.links.items) l.invariant.grows.grown (length keys) (nodes_len l.stacks.stacks keys)
+            (omega (arith, c.len.ensures.len, c.shifts-test.false));
+      },
+      l.invariant.within,
+    )

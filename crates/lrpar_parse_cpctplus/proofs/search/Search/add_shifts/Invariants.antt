@@ -1,5 +1,5 @@
-use Rattle.std.proofs.Common.{◌≡◌, ◌≤◌, ◌-◌, length}
-use Rattle.lrpar_parse_cpctplus.specs.RoundView.{AreHeldBy, GrowsBy}
+use Rattle.std.proofs.Common.{◌≤◌, ◌-◌, length}
+use Rattle.lrpar_parse_cpctplus.specs.RoundView.{GrowsBy}
 use Rattle.lrpar_parse_cpctplus.specs.SearchRound.{IsShiftWithin}
 use Rattle.lrpar_parse_cpctplus.proofs.search.Search.add_shifts.Given as goal
 
@@ -10,10 +10,8 @@ invariant-shifts g l =
     let parts = g.LexemeT.Lexeme.parts in
     record {
       grows : GrowsBy index parts l.self l.first (IsShiftWithin l.first l.from) l.fn.stacks l.fn.graph l.stacks l.graph;
-      held : AreHeldBy index parts l.self l.stacks l.graph;
       low : l.first ≤ l.from;
       within : length l.graph.configurations.keys ≤ l.self.terms.now.limit;
-      firsts : l.graph.firsts ≡ l.fn.graph.firsts;
     }
 
 -- each configuration is tried once

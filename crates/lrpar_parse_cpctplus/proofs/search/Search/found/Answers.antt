@@ -13,22 +13,6 @@ use Rattle.lrpar_parse_cpctplus.proofs.KnownLemmas.{round_begins}
 use Rattle.lrpar_parse_cpctplus.proofs.NumberLemmas.{single}
 use Rattle.lrpar_parse_cpctplus.proofs.search.Search.found.Goals as goal
 
-pub rounds-requires-clause-held : goal.rounds-requires-clause-held
-rounds-requires-clause-held g c = λ i key is.
-    let at = c.args.self.now.point.now in
-    let stacks = c.in_ok-stacks.stacks in
-    let number = c.number-stack.result in
-    let root : Configuration = record { stack = number; place = c.place-place.result } in
-    let there : stack_at stacks.stacks number ≡ at.stack =
-    ap (λ (n : ℕ). stack_at stacks.stacks n) c.number-stack.ensures.number ∙ c.in_ok-stacks.ensures ∙ c.stack.ensures.stack in
-    let one = single root key i (subst (λ (l : List Configuration). slice_get l i ≡ Some key) c.in_ok-graph.ensures.configurations is) in
-    let held : IsHeld at.checked.table (length at.lexemes) stacks.stacks root = record {
-      within = c.number-stack.ensures.within;
-      stack = subst (IsStack at.checked.table) (sym there) c.stack.ensures.stop.stack;
-      place = omega (arith, c.place-place.ensures.place, c.place-place.ensures.stop.within);
-    } in
-    subst (IsHeld at.checked.table (length at.lexemes) stacks.stacks) one.1 held
-
 pub rounds-requires-clause-round : goal.rounds-requires-clause-round
 rounds-requires-clause-round g c =
     let index = g.StorageT.StorageIndex.index in
@@ -37,14 +21,25 @@ rounds-requires-clause-round g c =
     let at = c.args.self.now.point.now in
     let stacks = c.in_ok-stacks.stacks in
     let graph = c.in_ok-graph.graph in
-    let number = c.number-stack.result in
-    let there : stack_at stacks.stacks number ≡ at.stack =
+    let is = c.in_ok-graph.ensures in
+    let root : Configuration = record { stack = c.number-stack.result; place = c.place-place.result } in
+    let there : stack_at stacks.stacks root.stack ≡ at.stack =
     ap (λ (n : ℕ). stack_at stacks.stacks n) c.number-stack.ensures.number ∙ c.in_ok-stacks.ensures ∙ c.stack.ensures.stack in
-    let root : configured_at stacks.stacks (record { stack = number; place = c.place-place.result }) ≡ root_of at = ap₂ configured there c.place-place.ensures.place in
+    let held : IsHeld at.checked.table (length at.lexemes) stacks.stacks root = record {
+      within = c.number-stack.ensures.within;
+      stack = subst (IsStack at.checked.table) (sym there) c.stack.ensures.stop.stack;
+      place = omega (arith, c.place-place.ensures.place, c.place-place.ensures.stop.within);
+    } in
+    let here : configured_at stacks.stacks root ≡ root_of at = ap₂ configured there c.place-place.ensures.place in
     let nodes : nodes_in stacks.stacks graph.configurations.keys ≡ root_of at ∷ [] =
-    ap (λ (l : List Configuration). nodes_in stacks.stacks l) c.in_ok-graph.ensures.configurations ∙ ap (λ (v : Configured). v ∷ []) root in
-    let links : plain_links index graph.links.items ≡ [] = ap (λ (l : List (Link g.row.StorageT.Denot)). plain_links index l) c.in_ok-graph.ensures.links in
+    ap (λ (l : List Configuration). nodes_in stacks.stacks l) is.configurations ∙ ap (λ (v : Configured). v ∷ []) here in
+    let links : plain_links index graph.links.items ≡ [] = ap (λ (l : List (Link g.row.StorageT.Denot)). plain_links index l) is.links in
     let first = round_begins token costs at c.place-place.ensures.stop c.limit-limit.ensures.costs in
     let second = subst (λ (ls : List PlainLink). IsRound token costs at (root_of at ∷ []) (0 ∷ []) ls) (sym links) first in
-    let third = subst (λ (fs : List ℕ). IsRound token costs at (root_of at ∷ []) fs (plain_links index graph.links.items)) (sym c.in_ok-graph.ensures.firsts) second in
-    subst (λ (ns : List Configured). IsRound token costs at ns graph.firsts.items (plain_links index graph.links.items)) (sym nodes) third
+    let third = subst (λ (fs : List ℕ). IsRound token costs at (root_of at ∷ []) fs (plain_links index graph.links.items)) (sym is.firsts) second in
+    record {
+      held = λ i key at_i.
+          let one = single root key i (subst (λ (l : List Configuration). slice_get l i ≡ Some key) is.configurations at_i) in
+          subst (IsHeld at.checked.table (length at.lexemes) stacks.stacks) one.1 held;
+      known = subst (λ (ns : List Configured). IsRound token costs at ns graph.firsts.items (plain_links index graph.links.items)) (sym nodes) third;
+    }

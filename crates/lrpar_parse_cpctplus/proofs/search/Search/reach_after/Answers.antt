@@ -11,7 +11,7 @@ use Rattle.lrpar_parse_cpctplus.proofs.search.Search.reach_after.Goals as goal
 
 pub returns-in_default-clause-reach : goal.returns-in_default-clause-reach
 returns-in_default-clause-reach g c =
-    let none = rw c.in_default.is at c.in_ok-reached.ensures.taken in
+    let none = rw c.in_default.is at c.in_ok-reached.ensures.leads.leads in
     λ v edge on. none v edge
 
 pub returns-in_ok-reach : goal.returns-in_ok-reach
@@ -21,12 +21,12 @@ returns-in_ok-reach g c =
     let at = c.args.self.now.point.now in
     let mid = c.taken.new.stacks in
     let late = c.goes_on.new.stacks in
-    let held = rw c.in-Some.is at c.in_ok-reached.ensures.held in
+    let held = rw c.in-Some.is at c.in_ok-reached.ensures.leads.held in
     let same = configured_stays at.checked.table (length at.lexemes) mid late c.in_ok-goes_on.ensures.extends c.in-Some.reached held.within in
     record {
       reach = record {
         head = configured_at mid.stacks c.in-Some.reached;
-        edge = rw c.in-Some.is at c.in_ok-reached.ensures.taken;
+        edge = rw c.in-Some.is at c.in_ok-reached.ensures.leads.leads;
         goes_on = c.in_ok-goes_on.ensures.goes_on.0 c.if-branch.true;
         reach = subst (λ (v : Configured). ReachesFrom token at v c.in_ok-reach.field-0) same c.in_ok-reach.ensures.reach;
       };
@@ -40,7 +40,7 @@ returns-else-branch-clause-reach g c =
     let token = token_by index g.LexemeT.Lexeme.parts in
     let at = c.args.self.now.point.now in
     let mid = c.taken.new.stacks in
-    let own = rw c.in-Some.is at c.in_ok-reached.ensures.taken in
+    let own = rw c.in-Some.is at c.in_ok-reached.ensures.leads.leads in
     λ v edge on.
     let same = edge_one token at (configured_at c.args.stacks.now.stacks c.args.at) v (configured_at mid.stacks c.in-Some.reached) (plain_step index c.args.step) edge own in
     let yes_it = c.in_ok-goes_on.ensures.goes_on.1 (subst (λ (w : Configured). GoesOnFrom token at w) same on) in

@@ -1,6 +1,6 @@
 use Rattle.std.proofs.Common.{◌≤◌, ◌+◌, ◌-◌, ◌*◌, length}
 use Rattle.lrpar_parse_lexemes.specs.Views.{token_by}
-use Rattle.lrpar_parse_cpctplus.specs.RoundView.{AreHeldBy, IsRoundBy, nodes_of}
+use Rattle.lrpar_parse_cpctplus.specs.RoundView.{IsRoundBy, nodes_of}
 use Rattle.lrpar_parse_cpctplus.proofs.ResultLemmas.{AreBehind}
 use Rattle.lrpar_parse_cpctplus.proofs.search.Search.rounds.Given as goal
 
@@ -11,7 +11,6 @@ invariant-rounds g l =
     let parts = g.LexemeT.Lexeme.parts in
     record {
       round : IsRoundBy index parts l.self l.stacks l.graph;
-      held : AreHeldBy index parts l.self l.stacks l.graph;
       behind : AreBehind (token_by index parts) l.self.terms.now.costs l.self.point.now (nodes_of l.stacks l.graph) (length l.graph.firsts.items) l.empty;
       within : length l.graph.configurations.keys ≤ l.limit;
       few : l.empty ≤ 255;

@@ -1,4 +1,4 @@
-use Rattle.std.proofs.Common.{◌≡◌, ◌≢◌, ◌<◌, ◌∙◌, ◌↔◌, ℕ, ap, map, subst, sym}
+use Rattle.std.proofs.Common.{◌≡◌, ◌≢◌, ◌<◌, ◌∙◌, ◌↔◌, ap, map, subst, sym}
 use Rattle.std.specs.List.{Contains}
 use Rattle.lrpar_table_check.specs.Checked.{Checked}
 use Rattle.lrpar_table_rows.specs.PlainRows.{plain_action}
@@ -17,27 +17,26 @@ actions_of-requires g c =
     let at = c.args.self.now.point.now in
     let mid = c.go_to.new.self in
     let table : c.stable-table.result.now ≡ at.checked.table = c.stable-table.ensures.table ∙ ap (λ (d : Checked). d.table) c.data.ensures.data in
-    let stack = gone_stack at.checked.table c.args.stacks.now mid c.args.stack c.go_to.ensures.stacks c.go_to.ensures.current c.requires.stack in
+    let stack = gone_stack at.checked.table c.args.stacks.now mid c.args.at.stack c.go_to.ensures.stacks c.go_to.ensures.current c.requires.held.stack in
     subst (λ (t : Table). index c.top.result.0 < states_len t) (sym table)
     (top_known at.checked.table c.data.ensures.stop.checked.closed (current_stack mid) (index c.top.result.0) stack c.top.ensures)
 
-pub returns-clause-exact : goal.returns-clause-exact
-returns-clause-exact g c = λ t.
+pub returns-clause-tokens : goal.returns-clause-tokens
+returns-clause-tokens g c =
     let index = g.StorageT.StorageIndex.index in
     let at = c.args.self.now.point.now in
     let mid = c.go_to.new.self in
+    let number = c.args.at.stack in
     let s = index c.top.result.0 in
     let table : c.stable-table.result.now ≡ at.checked.table = c.stable-table.ensures.table ∙ ap (λ (d : Checked). d.table) c.data.ensures.data in
-    let same : top_action at.checked.table t (stack_at c.args.stacks.now.stacks c.args.stack) ≡ action_of c.stable-table.result.now s t =
-    ap (top_action at.checked.table t) (sym (gone_to c.args.stacks.now mid c.args.stack c.go_to.ensures.stacks c.go_to.ensures.current))
-    ∙ action_by_top at.checked.table t (current_stack mid) s c.top.ensures ∙ ap (λ (b : Table). action_of b s t) (sym table) in
     let by = c.actions_of.ensures in
-    subst (λ (a : TableAction). Contains (map (λ x. index x.0) c.actions_of.result.0.now) t ↔ (a ≢ Fails)) (sym same)
-    (tokens_read index c.stable-table.result.now s c.actions_of.result.0.now c.actions_of.result.1.now by.actions by.entries by.exact t)
-
-pub returns-clause-ascending : goal.returns-clause-ascending
-returns-clause-ascending g c =
-    let index = g.StorageT.StorageIndex.index in
-    let by = c.actions_of.ensures in
-    keys_ascend (λ x. index x.0) (plain_action index) c.actions_of.result.0.now c.actions_of.result.1.now (actions_at c.stable-table.result.now (index c.top.result.0))
-    by.actions by.entries by.ascending
+    record {
+      exact = λ t.
+          let same : top_action at.checked.table t (stack_at c.args.stacks.now.stacks number) ≡ action_of c.stable-table.result.now s t =
+          ap (top_action at.checked.table t) (sym (gone_to c.args.stacks.now mid number c.go_to.ensures.stacks c.go_to.ensures.current))
+          ∙ action_by_top at.checked.table t (current_stack mid) s c.top.ensures ∙ ap (λ (b : Table). action_of b s t) (sym table) in
+          subst (λ (a : TableAction). Contains (map (λ x. index x.0) c.actions_of.result.0.now) t ↔ (a ≢ Fails)) (sym same)
+          (tokens_read index c.stable-table.result.now s c.actions_of.result.0.now c.actions_of.result.1.now by.actions by.entries by.exact t);
+      ascending = keys_ascend (λ x. index x.0) (plain_action index) c.actions_of.result.0.now c.actions_of.result.1.now (actions_at c.stable-table.result.now s)
+          by.actions by.entries by.ascending;
+    }
