@@ -1,20 +1,31 @@
 -- What a recoverer that always repairs gives: each text has a value, and each error lists a repair.
 use Rattle.std.specs.declared.alloc.Global.{Global}
 use Rattle.std.specs.Prelude.{◌≡◌, ◌≢◌, ◌<◌, ℕ, List, [], ◌∷◌, All, map, MatchOption, Option, IsSome, Result, IfOk, Vec}
+use Rattle.lrpar_grammar_places.specs.Span.{Extent}
+use Rattle.lrpar_grammar_places.specs.declared.span.RIdx.{RIdx}
 use Rattle.lrpar_grammar.specs.Sentence.{IsValidList, LexemeFacts}
 use Rattle.lrpar_grammar.specs.Tree.{Tree}
 use Rattle.lrpar_table_check.specs.Checked.{Checked, IsChecked}
 use Rattle.lrpar_table_stacks.specs.Stack.{IsStack}
 use Rattle.lrpar_parse_errors.specs.declared.errors.LexParseError.{LexParseError}
 use Rattle.lrpar_parse_errors.specs.declared.errors.LexParseError.TheVariants.{LexError, ParseError}
+use Rattle.lrpar_parse_lexemes.specs.Lexemes.{LexemeParts}
+use Rattle.lrpar_parse_lexemes.specs.Views.{span_by, token_by}
 use Rattle.lrpar_parse_repair.specs.AlwaysRepairs.{AlwaysRepairs}
 use Rattle.lrpar_parse_repair.specs.Asked.{Asked, allowed_at}
 use Rattle.lrpar_parse_repair.specs.Sequences.{PlainStep}
+use Rattle.lrpar_parse_run.specs.Folds.{Folds}
+use Rattle.lrpar_parse_run.specs.Made.{made_by}
+use Rattle.lrpar_parse_run.specs.Nodes.{IsNonterm, IsTerm}
 use Rattle.lrpar_parse_run.specs.RepairRun.{RepairRun, RepairStop}
 use Rattle.lrpar_parse_run.specs.Subject.{Subject}
+use Rattle.lrpar_parse_run.specs.declared.values.AStackType.{AStackType}
+use Rattle.lrpar_parse.specs.Acted.{IsActedValue}
 use Rattle.lrpar_parse.specs.Lexed.{first_error}
 use Rattle.lrpar_parse.specs.Parse.{ParsesTo, ParsesToErrors}
-use Rattle.lrpar_parse.specs.Values.{ParsesToValue}
+use Rattle.lrpar_parse.specs.Parser.{Parser, subject}
+use Rattle.lrpar_parse.specs.ValueArguments.{ValueArguments}
+use Rattle.lrpar_parse.specs.Values.{IsGivenValue, ParsesToValue}
 use Rattle.lrpar_parse.specs.declared.fault.ParseFault.{ParseFault}
 
 -- Over a checked table over which the recoverer always repairs, a run over a valid list, from a stack of the table, lists a sequence at
@@ -60,3 +71,33 @@ EachOutcomeHasValue {V} {E} {B} {C} S L about lexes converts Evaluates =
 abbrev pub EachHasRepairs : {B C : Type 0} → (S L : Type 0) → Subject B → (List (Result B C) → Type 0) → Type 0
 EachHasRepairs {B} {C} S L about lexes =
     (result : Result (Vec (LexParseError S L B C) Global) ParseFault) → ParsesToErrors about lexes result → HasRepairsOfText lexes result
+
+-- Of a parser: if its recoverer always repairs over its table, each text has a value. `index` gives the number of a value of the storage
+-- type `S`, `parts` the parts of a lexeme, `allows` says which answers the recoverer may give, and `lexes` which answers the lexer allows.
+module _ {S X R C : Type 0} (index : S → ℕ) (parts : X → LexemeParts S) (allows : R → Asked X → List (List PlainStep) → Type 0) (parser : Parser R) (L : Type 0) (lexes : List (Result X C) → Type 0) where
+  -- the recoverer always repairs
+  abbrev RepairsAlways : Type 0
+  RepairsAlways = AlwaysRepairs (token_by index parts) (allows parser.recoverer) parser.checked
+
+  -- a tree
+  abbrev pub EachTextHasTree : Type 0
+  EachTextHasTree = RepairsAlways → EachHasValue S L (subject index parts allows parser) lexes (Folds IsTerm (IsNonterm index) parser.checked.grammar)
+
+  -- errors that each list a repair, if there are any
+  abbrev pub EachTextHasRepairs : Type 0
+  EachTextHasRepairs = RepairsAlways → EachHasRepairs S L (subject index parts allows parser) lexes
+
+  -- a value that two functions make of the tree
+  abbrev pub EachTextHasMapped : {V Y : Type 0} → (X → V → Type 0) → (RIdx S → Vec V Y → V → Type 0) → Type 0
+  EachTextHasMapped fterm fnonterm =
+      RepairsAlways → EachHasValue S L (subject index parts allows parser) lexes (Folds fterm (made_by index fnonterm) parser.checked.grammar)
+
+  -- a value that actions make of it
+  abbrev pub EachTextHasActed : {V K P : Type 0} → (ℕ → ℕ → K → Extent → List (AStackType X V) → P → V → Type 0) → (ℕ → V → Type 0) → K → P → Type 0
+  EachTextHasActed answers fact lexer param =
+      RepairsAlways → EachHasValue S L (subject index parts allows parser) lexes (IsActedValue (span_by parts) answers fact parser.checked.grammar lexer param)
+
+  -- a value that a caller's function makes of it, unless the result is an error of the function
+  abbrev pub EachTextHasGiven : {V E K : Type 0} → (ParseFault → E → Type 0) → (ℕ → ValueArguments K X V → Result V E → Type 0) → K → Type 0
+  EachTextHasGiven converts gives lexer =
+      RepairsAlways → EachOutcomeHasValue S L (subject index parts allows parser) lexes converts (IsGivenValue (span_by parts) gives parser.checked.grammar lexer)

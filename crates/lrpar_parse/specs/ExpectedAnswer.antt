@@ -1,5 +1,5 @@
 -- The answer of `expected`: what may come next after the lexemes of a lexer.
-use Rattle.std.specs.Prelude.{◌≡◌, ◌<◌, ◌≤◌, ◌↔◌, ◌⊎◌, ℕ, List, ◌∷◌, ◌++◌, Bool, true, false, Option, Some, None, Contains, length, take, Result, IfOk, IsErrOf}
+use Rattle.std.specs.Prelude.{◌≡◌, ◌<◌, ◌≤◌, ◌↔◌, ◌⊎◌, ℕ, List, ◌∷◌, ◌++◌, Bool, true, false, Option, Some, None, Contains, length, take, Result, IfOk, IsErrOf, Vec}
 use Rattle.lrpar_grammar.specs.Grammar.{Grammar, end_token}
 use Rattle.lrpar_grammar.specs.Sentence.{LexemeFacts, IsFirstBadToken, IsFirstEarlyStart, IsSentence}
 use Rattle.lrpar_table_check.specs.Checked.{Checked}
@@ -9,7 +9,11 @@ use Rattle.lrpar_table_check.specs.ExpectedRuns.{FeedsFront}
 use Rattle.lrpar_table_stacks.specs.Reduction.{Feeds}
 use Rattle.lrpar_table_rows.specs.Table.{Table}
 use Rattle.lrpar_table_stacks.specs.Run.{token_at}
-use Rattle.lrpar_table_stacks.specs.Stack.{IsStack}
+use Rattle.lrpar_table_stacks.specs.Stack.{IsStack, states_of}
+use Rattle.lrpar_grammar_places.specs.declared.span.StIdx.{StIdx}
+use Rattle.lrpar_grammar_places.specs.declared.span.TIdx.{TIdx}
+use Rattle.lrpar_parse_lexemes.specs.Lexemes.{LexemeParts}
+use Rattle.lrpar_parse_lexemes.specs.Views.{token_by}
 use Rattle.lrpar_parse.specs.Lexed.{first_error, lexemes_of}
 use Rattle.lrpar_parse.specs.Parse.{lexeme_facts}
 use Rattle.lrpar_parse.specs.declared.expected.Expected.{Expected}
@@ -46,6 +50,31 @@ pub record IsExpectedAfter {X : Type 0} (token : X → ℕ) (d : Checked) (lexem
   -- the end token is expected only after a sentence; if the table is complete, all tokens with which sentences go on are expected
   pub sentence : Contains tokens (end_token d.grammar) → IsSentence token d.grammar (take place lexemes)
   pub complete : IsComplete d.grammar d.graph d.table → ListsNext token d.grammar (take place lexemes) tokens
+
+-- Of the program's states and tokens, by their numbers: `index` gives the number of a value of the storage type.
+module _ {S : Type 0} (index : S → ℕ) where
+  module _ (d : Checked) where
+    -- the states are a stack of the table
+    abbrev pub IsStackOf : List (StIdx S) → Type 0
+    IsStackOf stack = IsStack d.table (states_of index stack)
+
+    -- the token is fed, which gives the new stack, or it can't be, and the stack stays
+    abbrev pub MayFeed : TIdx S → List (StIdx S) → List (StIdx S) → Bool → Type 0
+    MayFeed token old new fed = FeedsOrStays d.grammar d.table (index token.0) (states_of index old) fed (states_of index new)
+
+    -- the token is fed, so that this number of states stays with these above them, or it can't be
+    abbrev pub MayFeedOver : TIdx S → List (StIdx S) → List (StIdx S) → Option ℕ → Type 0
+    MayFeedOver token stack above kept = FeedsTo d.grammar d.table (index token.0) (states_of index stack) kept (states_of index above)
+
+  -- `parts` gives the parts of a lexeme
+  module _ {X Z : Type 0} (parts : X → LexemeParts S) (d : Checked) (lexemes : List X) where
+    -- from the start the run feeds this number of lexemes, which leads to this stack; the next one can't be fed
+    abbrev pub FeedsFurthest : ℕ × Vec (StIdx S) Z → Type 0
+    FeedsFurthest fed = ComesFurthest (token_by index parts) d lexemes fed.0 (states_of index fed.1.items)
+
+    -- this number of lexemes is fed, and these tokens may come next there
+    abbrev pub MayComeAfter : ℕ × Vec (TIdx S) Z → Type 0
+    MayComeAfter after = IsExpectedAfter (token_by index parts) d lexemes after.0 (tokens_of index after.1.items)
 
 -- The result for an answer of the lexer. `index` gives the number of a value of the storage type, and `facts` the facts of a lexeme.
 pub record IsExpectedAnswer {S X E : Type 0} (index : S → ℕ) (facts : X → LexemeFacts) (d : Checked) (lexed : List (Result X E)) (result : Result (Expected S E) ParseFault) : Type 0 where

@@ -8,5 +8,6 @@ pub mod ValueArguments
 pub mod Values
 pub mod ExpectedAnswer
 pub mod Parser
+pub mod ParseCalls
 pub mod RepairLaws
 pub mod EveryText

@@ -7,6 +7,8 @@ use Rattle.lrpar_table_rows.specs.Table.{Table, Fails}
 use Rattle.lrpar_table_check.specs.Checked.{Checked, IsChecked}
 use Rattle.lrpar_table_stacks.specs.Reduction.{top_action}
 use Rattle.lrpar_table_stacks.specs.Stack.{IsStack}
+use Rattle.lrpar_parse_repair.specs.AlwaysRepairs.{TwoRecoverers}
+use Rattle.lrpar_parse_repair.specs.Asked.{Asked, allowed_at}
 use Rattle.lrpar_parse_repair.specs.Recovery.{Point}
 use Rattle.lrpar_parse_run.specs.RepairRun.{RepairRun, RepairStop}
 use Rattle.lrpar_table_stacks.specs.Run.{Run, Stop, token_at}
@@ -29,6 +31,17 @@ pub record IsSound (g : Grammar) (lexemes i : ℕ) (steps : List PlainStep) : Ty
 -- the recoverer has at most one answer at each error point
 abbrev pub SuppliesOne : {X : Type 0} → (Point X → List (List PlainStep) → Type 0) → Type 0
 SuppliesOne {X} allows = (point : Point X) (a b : List (List PlainStep)) → allows point a → allows point b → a ≡ b
+
+-- a law of what a recoverer allows at error points holds for each recoverer, each checked table, and each number of lexemes that must
+-- follow a repair; `allows` says which answers a recoverer may give
+abbrev pub OfRecoverers : {R X : Type 0} → (R → Asked X → List (List PlainStep) → Type 0) → ((Point X → List (List PlainStep) → Type 0) → Type 0) → Type 0
+OfRecoverers {R} allows Law = (r : R) (d : Checked) (k : ℕ) → Law (allowed_at (allows r) d k)
+
+-- if each of two recoverers has at most one answer at each error point, so have both in turn; `together` says which answers both may give
+abbrev pub BothSupplyOne : {A B X : Type 0} → (A → Asked X → List (List PlainStep) → Type 0) → (B → Asked X → List (List PlainStep) → Type 0) → (TwoRecoverers A B → Asked X → List (List PlainStep) → Type 0) → Type 0
+BothSupplyOne {A} {B} first second together =
+    (both : TwoRecoverers A B) (d : Checked) (k : ℕ) → SuppliesOne (allowed_at (first both.first) d k) → SuppliesOne (allowed_at (second both.second) d k)
+    → SuppliesOne (allowed_at (together both) d k)
 
 -- runs with repairs over lexemes of this type
 module _ {X : Type 0} (facts : X → LexemeFacts) (allows : Point X → List (List PlainStep) → Type 0) where

@@ -1,5 +1,5 @@
 -- The arguments from which a value is made: each is a lexeme or a value. During the parse a value may be an error, which is carried up.
-use Rattle.std.specs.Prelude.{List, [], ◌∷◌, Option, Some, None, Result, Ok, Err}
+use Rattle.std.specs.Prelude.{◌≡◌, List, [], ◌∷◌, Option, Some, None, Result, Ok, Err}
 use Rattle.lrpar_grammar_places.specs.Span.{Extent}
 use Rattle.lrpar_parse_run.specs.declared.values.AStackType.{AStackType}
 use Rattle.lrpar_parse_run.specs.declared.values.AStackType.TheVariants.{ActionType, Lexeme}
@@ -35,3 +35,15 @@ abbrev pub IsLexemeNext : {X V : Type 0} → List (AStackType X V) → Type 0
 IsLexemeNext [] = ⊥
 IsLexemeNext (Lexeme x ∷ args) = Unit {0}
 IsLexemeNext (ActionType v ∷ args) = ⊥
+
+-- the lexer and the span stay
+abbrev pub KeepsPlace : {L X V : Type 0} → ValueArguments L X V → ValueArguments L X V → Type 0
+KeepsPlace old new = (new.lexer ≡ old.lexer) × (new.span ≡ old.span)
+
+-- the next argument is this value, and is taken
+abbrev pub TakesValue : {L X V : Type 0} → ValueArguments L X V → ValueArguments L X V → V → Type 0
+TakesValue old new value = old.left ≡ ActionType value ∷ new.left
+
+-- the next argument is this lexeme, and is taken
+abbrev pub TakesLexeme : {L X V : Type 0} → ValueArguments L X V → ValueArguments L X V → X → Type 0
+TakesLexeme old new lexeme = old.left ≡ Lexeme lexeme ∷ new.left

@@ -1,5 +1,5 @@
 //! Actions: a caller's values for productions.
-ghost use Rattle.std.specs.Prelude.{◌≡◌, ◌≤◌, ◌-◌, ◌↔◌, ℕ, List, IfOk, IsTrue, OnOk, drop, length, map, take};
+ghost use Rattle.std.specs.Prelude.{◌≡◌, ◌≤◌, ◌↔◌, ℕ, List, IfOk, IsTrue, OnOk, length, map};
 ghost use Rattle.lrpar_grammar_places.specs.Span.{Extent};
 ghost use Rattle.lrpar_grammar.specs.Grammar.{GrammarSymbol};
 ghost use Rattle.lrpar_grammar.specs.Symbols.{symbol_of};
@@ -7,6 +7,7 @@ ghost use Rattle.lrpar_parse_run.specs.declared.values.AStackType.{AStackType};
 ghost use Rattle.lrpar_parse_lexemes.specs.Views.{span_by, token_by};
 ghost use Rattle.lrpar_parse_run.specs.Placed.{IsPlacedLexeme, IsPlacedValue, arguments_of, spans_of};
 ghost use Rattle.lrpar_parse_run.specs.PlacedRising.{placed_rise};
+ghost use Rattle.lrpar_parse_run.specs.RunStack.{Pops, on_top};
 ghost use Rattle.lrpar_parse_run.specs.Spans.{Rise};
 ghost use Rattle.lrpar_parse.specs.Acted.{acts_by};
 ghost use Rattle.lrpar_parse.specs.Arguments.{AreArguments, IsArgument, TakesAll};
@@ -131,8 +132,8 @@ fn arguments_of<T: Drop>(
     entries: &mut Vec<Placed<T>>,
 ) -> Result<Vec<T>, AllocError>
     requires deep { count ≤ length entries.old.items }
-    ensures kept { OnOk result (entries.new.items ≡ take (length entries.old.items - count) entries.old.items) }
-    ensures arguments { IfOk result (λ args. args.items ≡ arguments_of (drop (length entries.old.items - count) entries.old.items)) }
+    ensures kept { OnOk result (Pops count entries.old entries.new) }
+    ensures arguments { IfOk result (λ args. args.items ≡ arguments_of (on_top count entries.old.items)) }
 {
     made_of_top(alloc, count, entries, &|entry: Placed<T>| entry.argument)
 }

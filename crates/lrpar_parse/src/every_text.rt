@@ -1,15 +1,8 @@
 //! Laws: if the recoverer of a parser always repairs, each text has a value, and each error lists a repair. A function states the law for
 //! the parses whose parser and arguments it is given, and does nothing else.
 ghost use Rattle.std.specs.Prelude.{◌<◌};
-ghost use Rattle.lrpar_parse_lexemes.specs.Views.{facts_by, span_by, token_by};
-ghost use Rattle.lrpar_parse_repair.specs.AlwaysRepairs.{AlwaysRepairs};
-ghost use Rattle.lrpar_parse_run.specs.Folds.{Folds};
-ghost use Rattle.lrpar_parse_run.specs.Made.{made_by};
-ghost use Rattle.lrpar_parse_run.specs.Nodes.{IsNonterm, IsTerm};
-ghost use Rattle.lrpar_parse.specs.Acted.{IsActedValue};
-ghost use Rattle.lrpar_parse.specs.EveryText.{AcceptsEveryText, EachHasRepairs, EachHasValue, EachOutcomeHasValue};
-ghost use Rattle.lrpar_parse.specs.Parser.{subject};
-ghost use Rattle.lrpar_parse.specs.Values.{IsGivenValue};
+ghost use Rattle.lrpar_parse_lexemes.specs.Views.{facts_by};
+ghost use Rattle.lrpar_parse.specs.EveryText.{AcceptsEveryText, EachTextHasActed, EachTextHasGiven, EachTextHasMapped, EachTextHasRepairs, EachTextHasTree};
 ghost use Rattle.lrpar_table_check.specs.Checked.{IsChecked};
 
 use crate::actions::Actions;
@@ -38,11 +31,8 @@ pub fn every_text_has_a_tree<
     R: Recoverer<StorageT, LexerTypesT::LexemeT> + Drop,
     L: NonStreamingLexer<'input, LexerTypesT>,
 >(parser: &RTParserBuilder<'_, StorageT, LexerTypesT, R>, _lexer: &L)
-    ensures tree { AlwaysRepairs (token_by StorageT.index LexerTypesT.LexemeT.parts) (R.allows parser.now.recoverer) parser.now.checked
-        → EachHasValue StorageT LexerTypesT (subject StorageT.index LexerTypesT.LexemeT.parts R.allows parser.now) (L.allows _lexer.now)
-        (Folds IsTerm (IsNonterm StorageT.index) parser.now.checked.grammar) }
-    ensures errors { AlwaysRepairs (token_by StorageT.index LexerTypesT.LexemeT.parts) (R.allows parser.now.recoverer) parser.now.checked
-        → EachHasRepairs StorageT LexerTypesT (subject StorageT.index LexerTypesT.LexemeT.parts R.allows parser.now) (L.allows _lexer.now) }
+    ensures tree { EachTextHasTree StorageT.index LexerTypesT.LexemeT.parts R.allows parser.now LexerTypesT (L.allows _lexer.now) }
+    ensures errors { EachTextHasRepairs StorageT.index LexerTypesT.LexemeT.parts R.allows parser.now LexerTypesT (L.allows _lexer.now) }
 {
     is_checked(parser);
 }
@@ -58,9 +48,8 @@ pub fn every_text_has_a_value<
     F: Fn(LexerTypesT::LexemeT) -> V,
     G: Fn(RIdx<StorageT>, Vec<V>) -> V,
 >(parser: &RTParserBuilder<'_, StorageT, LexerTypesT, R>, _lexer: &L, _fterm: &F, _fnonterm: &G)
-    ensures { AlwaysRepairs (token_by StorageT.index LexerTypesT.LexemeT.parts) (R.allows parser.now.recoverer) parser.now.checked
-        → EachHasValue StorageT LexerTypesT (subject StorageT.index LexerTypesT.LexemeT.parts R.allows parser.now) (L.allows _lexer.now)
-        (Folds (F.post _fterm.now) (made_by StorageT.index (G.post _fnonterm.now)) parser.now.checked.grammar) }
+    ensures { EachTextHasMapped StorageT.index LexerTypesT.LexemeT.parts R.allows parser.now LexerTypesT (L.allows _lexer.now)
+        (F.post _fterm.now) (G.post _fnonterm.now) }
 {
     is_checked(parser);
 }
@@ -79,9 +68,8 @@ pub fn every_text_has_an_acted_value<
     _actions: &A,
     _param: &A::ParamT,
 )
-    ensures { AlwaysRepairs (token_by StorageT.index LexerTypesT.LexemeT.parts) (R.allows parser.now.recoverer) parser.now.checked
-        → EachHasValue StorageT LexerTypesT (subject StorageT.index LexerTypesT.LexemeT.parts R.allows parser.now) (L.allows _lexer.now)
-        (IsActedValue (span_by LexerTypesT.LexemeT.parts) (A.answers _actions.now) (A.fact _actions.now) parser.now.checked.grammar _lexer.now _param.now) }
+    ensures { EachTextHasActed StorageT.index LexerTypesT.LexemeT.parts R.allows parser.now LexerTypesT (L.allows _lexer.now)
+        (A.answers _actions.now) (A.fact _actions.now) _lexer.now _param.now }
 {
     is_checked(parser);
 }
@@ -95,9 +83,8 @@ pub fn every_text_has_a_value_or_an_error<
     L: NonStreamingLexer<'input, LexerTypesT>,
     V: Values<LexerTypesT::LexemeT, L>,
 >(parser: &RTParserBuilder<'_, StorageT, LexerTypesT, R>, _lexer: &L, _values: &V)
-    ensures { AlwaysRepairs (token_by StorageT.index LexerTypesT.LexemeT.parts) (R.allows parser.now.recoverer) parser.now.checked
-        → EachOutcomeHasValue StorageT LexerTypesT (subject StorageT.index LexerTypesT.LexemeT.parts R.allows parser.now) (L.allows _lexer.now)
-        V.Error.from_gives (IsGivenValue (span_by LexerTypesT.LexemeT.parts) (V.gives _values.now) parser.now.checked.grammar _lexer.now) }
+    ensures { EachTextHasGiven StorageT.index LexerTypesT.LexemeT.parts R.allows parser.now LexerTypesT (L.allows _lexer.now)
+        V.Error.from_gives (V.gives _values.now) _lexer.now }
 {
     is_checked(parser);
 }

@@ -1,11 +1,10 @@
 //! What may come next after lexemes: how many of them can be fed, and the tokens that can be fed then.
 ghost use Rattle.std.specs.Prelude.{◌≡◌, ◌<◌, ◌++◌, IfOk, OnOk, take};
-ghost use Rattle.lrpar_table_stacks.specs.Expected.{tokens_of};
 ghost use Rattle.lrpar_table_stacks.specs.Overlay.{overlaid};
-ghost use Rattle.lrpar_table_stacks.specs.Stack.{IsStack, states_of};
+ghost use Rattle.lrpar_table_stacks.specs.Stack.{states_of};
 ghost use Rattle.lrpar_grammar.specs.Sentence.{IsValidList};
-ghost use Rattle.lrpar_parse.specs.ExpectedAnswer.{ComesFurthest, FeedsOrStays, FeedsTo, IsExpectedAfter};
-ghost use Rattle.lrpar_parse_lexemes.specs.Views.{known, token_by};
+ghost use Rattle.lrpar_parse.specs.ExpectedAnswer.{FeedsFurthest, IsStackOf, MayComeAfter, MayFeed, MayFeedOver};
+ghost use Rattle.lrpar_parse_lexemes.specs.Views.{known};
 
 use lrpar_grammar::span::{StIdx, StorageIndex, TIdx};
 use lrpar_parse_lexemes::lex_api::Lexeme;
@@ -34,8 +33,7 @@ pub(crate) fn expected_after<StorageT: StorageIndex, LexemeT: Lexeme<StorageT>>(
     lexemes: &[LexemeT],
 ) -> Result<(usize, Vec<TIdx<StorageT>>), AllocError>
     requires valid { IsValidList checked.now.grammar (known StorageT.index LexemeT.parts lexemes.now) }
-    ensures { IfOk result (λ after. IsExpectedAfter (token_by StorageT.index LexemeT.parts) checked.now lexemes.now after.0
-        (tokens_of StorageT.index after.1.items)) }
+    ensures { IfOk result (MayComeAfter StorageT.index LexemeT.parts checked.now lexemes.now) }
 {
     // The contract of `stable` gives that the table is checked.
     let _table = checked.stable();
@@ -52,9 +50,8 @@ fn fed<StorageT: StorageIndex, LexemeT: Lexeme<StorageT>>(
     lexemes: &[LexemeT],
 ) -> Result<(usize, Vec<StIdx<StorageT>>), AllocError>
     requires valid { IsValidList checked.now.grammar (known StorageT.index LexemeT.parts lexemes.now) }
-    ensures furthest { IfOk result (λ fed. ComesFurthest (token_by StorageT.index LexemeT.parts) checked.now lexemes.now fed.0
-        (states_of StorageT.index fed.1.items)) }
-    ensures stack { IfOk result (λ fed. IsStack checked.now.table (states_of StorageT.index fed.1.items)) }
+    ensures furthest { IfOk result (FeedsFurthest StorageT.index LexemeT.parts checked.now lexemes.now) }
+    ensures stack { IfOk result (λ fed. IsStackOf StorageT.index checked.now fed.1.items) }
 {
     // A checked table has the grammar's tokens.
     let start = checked.stable().start_state();
@@ -78,10 +75,9 @@ fn feed_if_expected<StorageT: StorageIndex>(
     token: TIdx<StorageT>,
     above: &mut Vec<StIdx<StorageT>>,
 ) -> Result<bool, AllocError>
-    requires stack { IsStack checked.now.table (states_of StorageT.index stack.old.items) }
+    requires stack { IsStackOf StorageT.index checked.now stack.old.items }
     requires token { StorageT.index token.0 < checked.now.table.tokens }
-    ensures { IfOk result (λ yes. FeedsOrStays checked.now.grammar checked.now.table (StorageT.index token.0)
-        (states_of StorageT.index stack.old.items) yes (states_of StorageT.index stack.new.items)) }
+    ensures { IfOk result (MayFeed StorageT.index checked.now token stack.old.items stack.new.items) }
 {
     let Some(kept) = fed_over(alloc, checked, stack, token, above)? else {
         return Ok(false);
@@ -99,10 +95,9 @@ fn fed_over<StorageT: StorageIndex>(
     token: TIdx<StorageT>,
     above: &mut Vec<StIdx<StorageT>>,
 ) -> Result<Option<usize>, AllocError>
-    requires stack { IsStack checked.now.table (states_of StorageT.index stack.now) }
+    requires stack { IsStackOf StorageT.index checked.now stack.now }
     requires token { StorageT.index token.0 < checked.now.table.tokens }
-    ensures { IfOk result (λ kept. FeedsTo checked.now.grammar checked.now.table (StorageT.index token.0) (states_of StorageT.index stack.now)
-        kept (states_of StorageT.index above.new.items)) }
+    ensures { IfOk result (MayFeedOver StorageT.index checked.now token stack.now above.new.items) }
 {
     let mut overlay = Overlay::new(alloc, stack);
     if !checked.feed_over(&mut overlay, token)? {

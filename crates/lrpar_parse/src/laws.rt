@@ -1,14 +1,11 @@
 //! Laws about the definitions that contracts cite. Each function states one as its contract, and does nothing.
-ghost use Rattle.std.specs.Prelude.{◌≡◌, ◌↔◌, ℕ, IsTrue};
+ghost use Rattle.std.specs.Prelude.{◌≡◌, ◌↔◌, IsTrue};
 ghost use Rattle.lrpar_table_stacks.specs.Chain.{most_productions};
 ghost use Rattle.lrpar_grammar.specs.Sentence.{LexemeFacts};
 ghost use Rattle.lrpar_table_stacks.specs.Run.{RunsOneWay};
 ghost use Rattle.lrpar_parse_lexemes.specs.Views.{facts_by};
-ghost use Rattle.lrpar_parse_repair.specs.AlwaysRepairs.{TwoRecoverers};
-ghost use Rattle.lrpar_parse_repair.specs.Asked.{allowed_at};
-ghost use Rattle.lrpar_table_check.specs.Checked.{Checked};
 ghost use Rattle.lrpar_parse.specs.declared.fault.ParseFault.{ParseFault};
-ghost use Rattle.lrpar_parse.specs.RepairLaws.{AcceptsWhereRepaired, ListsSound, RepairRunsOneWay, RunsWithoutRepairs, StopsAtStacks, StopsByFailing, StopsLieApart, SuppliesOne};
+ghost use Rattle.lrpar_parse.specs.RepairLaws.{AcceptsWhereRepaired, BothSupplyOne, ListsSound, OfRecoverers, RepairRunsOneWay, RunsWithoutRepairs, StopsAtStacks, StopsByFailing, StopsLieApart};
 ghost use Rattle.lrpar_parse_repair.specs.Replays.{ReplaysOneWay, WorksByReplay};
 ghost use Rattle.lrpar_table_stacks.specs.RunLaws.{RunsEndOneWay, RunsGoOnOrEnd, RunsStopByFailing};
 ghost use Rattle.lrpar_parse.specs.SumRun.{SumRunsThrough};
@@ -70,11 +67,11 @@ pub fn runs_with_repairs_are_sound<
     LexemeT: Lexeme<StorageT>,
     R: Recoverer<StorageT, LexemeT>,
 >()
-    ensures sound { (r : R) (d : Checked) (k : ℕ) → ListsSound (facts_by StorageT.index LexemeT.parts) (allowed_at (R.allows r) d k) }
-    ensures apart { (r : R) (d : Checked) (k : ℕ) → StopsLieApart (facts_by StorageT.index LexemeT.parts) (allowed_at (R.allows r) d k) }
-    ensures accepts { (r : R) (d : Checked) (k : ℕ) → AcceptsWhereRepaired (facts_by StorageT.index LexemeT.parts) (allowed_at (R.allows r) d k) }
-    ensures stacks { (r : R) (d : Checked) (k : ℕ) → StopsAtStacks (facts_by StorageT.index LexemeT.parts) (allowed_at (R.allows r) d k) }
-    ensures fails { (r : R) (d : Checked) (k : ℕ) → StopsByFailing (facts_by StorageT.index LexemeT.parts) (allowed_at (R.allows r) d k) }
+    ensures sound { OfRecoverers R.allows (ListsSound (facts_by StorageT.index LexemeT.parts)) }
+    ensures apart { OfRecoverers R.allows (StopsLieApart (facts_by StorageT.index LexemeT.parts)) }
+    ensures accepts { OfRecoverers R.allows (AcceptsWhereRepaired (facts_by StorageT.index LexemeT.parts)) }
+    ensures stacks { OfRecoverers R.allows (StopsAtStacks (facts_by StorageT.index LexemeT.parts)) }
+    ensures fails { OfRecoverers R.allows (StopsByFailing (facts_by StorageT.index LexemeT.parts)) }
 {}
 
 /// If a recoverer has at most one answer at each error point, a run with repairs has one answer: two runs from one stack and place have
@@ -85,7 +82,7 @@ pub fn runs_with_repairs_have_one_answer<
     LexemeT: Lexeme<StorageT>,
     R: Recoverer<StorageT, LexemeT>,
 >()
-    ensures { (r : R) (d : Checked) (k : ℕ) → RepairRunsOneWay (facts_by StorageT.index LexemeT.parts) (allowed_at (R.allows r) d k) }
+    ensures { OfRecoverers R.allows (RepairRunsOneWay (facts_by StorageT.index LexemeT.parts)) }
 {}
 
 /// If each of two recoverers has at most one answer at each error point, so has `first.or(second)`.
@@ -95,8 +92,7 @@ pub fn or_has_one_answer<
     A: Recoverer<StorageT, LexemeT>,
     B: Recoverer<StorageT, LexemeT>,
 >()
-    ensures { (both : TwoRecoverers A B) (d : Checked) (k : ℕ) → SuppliesOne (allowed_at (A.allows both.first) d k) → SuppliesOne (allowed_at (B.allows both.second) d k)
-        → SuppliesOne (allowed_at (⟦<Or<A, B, StorageT, LexemeT> as Recoverer<StorageT, LexemeT>>⟧.allows both) d k) }
+    ensures { BothSupplyOne A.allows B.allows ⟦<Or<A, B, StorageT, LexemeT> as Recoverer<StorageT, LexemeT>>⟧.allows }
 {}
 
 /// If a recoverer supplies nothing, a run with repairs is a run without repairs.

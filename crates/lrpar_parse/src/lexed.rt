@@ -1,6 +1,6 @@
 //! The lexemes and the first error of a lexer's answer.
-ghost use Rattle.std.specs.Prelude.{◌≡◌, IfOk, MatchResult, Some, None};
-ghost use Rattle.lrpar_parse.specs.Lexed.{first_error, lexemes_of};
+ghost use Rattle.std.specs.Prelude.{◌≡◌, IfOk};
+ghost use Rattle.lrpar_parse.specs.Lexed.{LexemesOrError, first_error, lexemes_of};
 
 use std::alloc::{AllocError, Global};
 
@@ -9,9 +9,7 @@ pub(crate) fn lexemes_or_error<LexemeT: Drop, LexErrorT: Drop>(
     alloc: Global,
     answers: Vec<Result<LexemeT, LexErrorT>>,
 ) -> Result<Result<Vec<LexemeT>, LexErrorT>, AllocError>
-    ensures { IfOk result (λ lexed. MatchResult lexed
-        (λ lexemes. (first_error answers.items ≡ None) × (lexemes.items ≡ lexemes_of answers.items))
-        (λ error. first_error answers.items ≡ Some error)) }
+    ensures { IfOk result (LexemesOrError answers.items) }
 {
     let (lexemes, error) = lexemes_before_error(alloc, answers)?;
     match error {

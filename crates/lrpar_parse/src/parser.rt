@@ -2,20 +2,13 @@
 ghost use Rattle.std.specs.Prelude.{◌≡◌, ◌<◌, ◌∷◌, ◌↔◌, [], Result, IfErr, IfOk, IfSome, IsOk, IsTrue, option_map};
 ghost use Rattle.lrpar_table_check.specs.Checked.{IsChecked};
 ghost use Rattle.lrpar_grammar.specs.Sentence.{IsValidList};
-ghost use Rattle.lrpar_parse.specs.Acted.{IsActedValue};
 ghost use Rattle.lrpar_parse.specs.Arguments.{TakesAll};
-ghost use Rattle.lrpar_parse_run.specs.End.{IsOfTree};
 ghost use Rattle.lrpar_parse_run.specs.Entries.{HasValueEntry};
-ghost use Rattle.lrpar_parse.specs.ExpectedAnswer.{Expects};
-ghost use Rattle.lrpar_parse_run.specs.Folds.{Folds};
 ghost use Rattle.lrpar_parse_run.specs.declared.values.AStackType.TheVariants.{ActionType};
-ghost use Rattle.lrpar_parse_lexemes.specs.Views.{facts_by, known, span_by};
-ghost use Rattle.lrpar_parse_run.specs.Made.{made_by};
-ghost use Rattle.lrpar_parse_run.specs.Nodes.{IsNonterm, IsTerm};
-ghost use Rattle.lrpar_parse.specs.Parse.{ParsesTo, ParsesToErrors};
+ghost use Rattle.lrpar_parse_lexemes.specs.Views.{known};
+ghost use Rattle.lrpar_parse.specs.ParseCalls.{ExpectsNext, ParsesForErrors, ParsesToActed, ParsesToEntry, ParsesToGiven, ParsesToMapped, ParsesToTree};
 ghost use Rattle.lrpar_parse.specs.Parser.{subject};
 ghost use Rattle.lrpar_parse_run.specs.TreeAnswer.{IsTreeAnswer};
-ghost use Rattle.lrpar_parse.specs.Values.{IsGivenValue, ParsesToValue};
 
 use crate::actions::Acting;
 pub use crate::actions::Actions;
@@ -183,8 +176,8 @@ impl<
         requires fterm { F.IsAlwaysCallable fterm }
         requires fnonterm { G.IsAlwaysCallable fnonterm }
         // Out of memory, or the lexer allows an answer, and the result is that of the parse over this answer.
-        ensures parse { ParsesTo (subject StorageT.index LexerTypesT.LexemeT.parts R.allows self.now) (L.allows lexer.now)
-            (Folds (F.post fterm) (made_by StorageT.index (G.post fnonterm)) self.now.checked.grammar) result }
+        ensures parse { ParsesToMapped StorageT.index LexerTypesT.LexemeT.parts R.allows self.now (L.allows lexer.now)
+            (F.post fterm) (G.post fnonterm) result }
     {
         let functions = Functions {
             fterm: &fterm,
@@ -220,9 +213,8 @@ impl<
     ) -> Result<Answer<StorageT, LexerTypesT, A::ActionT>, ParseFault>
         requires taken { TakesAll (A.taken actions.now) self.now.checked.grammar }
         // Out of memory, or the lexer allows an answer, and the result is that of the parse over this answer.
-        ensures parse { ParsesTo (subject StorageT.index LexerTypesT.LexemeT.parts R.allows self.now) (L.allows lexer.now)
-            (IsActedValue (span_by LexerTypesT.LexemeT.parts) (A.answers actions.now) (A.fact actions.now) self.now.checked.grammar lexer.now param.now)
-            result }
+        ensures parse { ParsesToActed StorageT.index LexerTypesT.LexemeT.parts R.allows self.now (L.allows lexer.now)
+            (A.answers actions.now) (A.fact actions.now) lexer.now param.now result }
     {
         let acting = Acting {
             actions,
@@ -274,8 +266,8 @@ impl<
         values: &V,
     ) -> Result<Answer<StorageT, LexerTypesT, V::Value>, V::Error>
         // A parse to a value or an error, as that of `parse_actions`, and the result is what comes out of it.
-        ensures parse { ParsesToValue (subject StorageT.index LexerTypesT.LexemeT.parts R.allows self.now) (L.allows lexer.now) V.Error.from_gives
-            (IsGivenValue (span_by LexerTypesT.LexemeT.parts) (V.gives values.now) self.now.checked.grammar lexer.now) result }
+        ensures parse { ParsesToGiven StorageT.index LexerTypesT.LexemeT.parts R.allows self.now (L.allows lexer.now)
+            V.Error.from_gives (V.gives values.now) lexer.now result }
     {
         come_out(self.parse_actions(alloc, lexer, &Valued { values }, &()))
     }
@@ -295,8 +287,7 @@ impl<
         lexer: &L,
     ) -> Result<Answer<StorageT, LexerTypesT, Node<LexerTypesT::LexemeT, StorageT>>, ParseFault>
         // Out of memory, or the lexer allows an answer, and the result is that of the parse over this answer.
-        ensures parse { ParsesTo (subject StorageT.index LexerTypesT.LexemeT.parts R.allows self.now) (L.allows lexer.now)
-            (Folds IsTerm (IsNonterm StorageT.index) self.now.checked.grammar) result }
+        ensures parse { ParsesToTree StorageT.index LexerTypesT.LexemeT.parts R.allows self.now (L.allows lexer.now) result }
     {
         self.parsed(alloc, lexer, &Trees)
     }
@@ -310,7 +301,7 @@ impl<
         lexer: &L,
     ) -> Result<Vec<LexParseError<StorageT, LexerTypesT>>, ParseFault>
         // Out of memory, or the lexer allows an answer, and the result has the errors of the parse over this answer.
-        ensures parse { ParsesToErrors (subject StorageT.index LexerTypesT.LexemeT.parts R.allows self.now) (L.allows lexer.now) result }
+        ensures parse { ParsesForErrors StorageT.index LexerTypesT.LexemeT.parts R.allows self.now (L.allows lexer.now) result }
     {
         match self.parsed(alloc, lexer, &Nothing) {
             Ok((_, errors)) => Ok(errors),
@@ -334,7 +325,7 @@ impl<
         lexer: &L,
     ) -> Result<Expected<StorageT, LexerTypesT::LexErrorT>, ParseFault>
         // Out of memory, or the lexer allows an answer, and the result says what may come next after its lexemes.
-        ensures expected { Expects StorageT.index (facts_by StorageT.index LexerTypesT.LexemeT.parts) self.now.checked (L.allows lexer.now) result }
+        ensures expected { ExpectsNext StorageT.index LexerTypesT.LexemeT.parts self.now (L.allows lexer.now) result }
     {
         let answers = lexer.iter(alloc)?;
         let (lexemes, lexing_error) = lexemes_before_error(alloc, answers)?;
@@ -368,8 +359,8 @@ impl<
         build: &B,
     ) -> Result<Answer<StorageT, LexerTypesT, B::Entry>, ParseFault>
         requires can { (B.builds build.now).can_build self.now.checked.grammar }
-        ensures parse { ParsesTo (subject StorageT.index LexerTypesT.LexemeT.parts R.allows self.now) (L.allows lexer.now)
-            (IsOfTree (B.builds build.now) self.now.checked) result }
+        ensures parse { ParsesToEntry StorageT.index LexerTypesT.LexemeT.parts R.allows self.now (L.allows lexer.now)
+            (B.builds build.now) result }
     {
         let answers = lexer.iter(alloc)?;
         match lexemes_or_error(alloc, answers)? {

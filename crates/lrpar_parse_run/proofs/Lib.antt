@@ -3,6 +3,7 @@ pub mod ReadLemmas
 pub mod RunStackLemmas
 pub mod RisingLemmas
 pub mod MovesLemmas
+pub mod RunningLemmas
 pub mod FarLemmas
 pub mod PlacedLemmas
 pub mod StartLemmas

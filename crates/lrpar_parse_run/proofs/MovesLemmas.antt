@@ -141,6 +141,13 @@ module _ {X E : Type 0} (facts : X → LexemeFacts) (builds : Building X E) (d :
         let next = starts i (rw length-map within) in
         (start x, omega (arith, start_is, next), rise_by_shift (token x) x old new s (low, omega (arith, start_is, least), rise))
 
+    -- if lexeme i is passed over, they are in order up to the next one
+    pub rise_past : (lexemes : List X) (i : ℕ) (entries : List E) → StartsRise (map facts lexemes) → i < length lexemes
+        → RiseUpTo builds.rises entries (start_at (map facts lexemes) i) → RiseUpTo builds.rises entries (start_at (map facts lexemes) (i + 1))
+    rise_past lexemes i entries starts within (low, least, rise) =
+        let next = starts i (rw length-map within) in
+        (low, omega (arith, next, least), rise)
+
     -- if a lexeme is shifted that starts where lexeme i does, they are in order up to there
     pub rise_to_same : (most : ℕ) (x : X) (old new : Stacked E) → start x ≡ most
         → Shifts builds d (token x) x old new → RiseUpTo builds.rises old.entries most → RiseUpTo builds.rises new.entries most

@@ -1,13 +1,12 @@
 -- The stacks of a run, settled by the one loop over stacks of states.
-use Rattle.std.proofs.Common.{◌≡◌, ◌-◌, ◌∙◌, ℕ, List, [], ◌∷◌, None, length, drop, take, ap, refl, subst, sym}
-use Rattle.std.specs.List.{last_or}
+use Rattle.std.proofs.Common.{◌≡◌, ◌∙◌, ℕ, List, [], ◌∷◌, ap, refl, subst, sym}
 use Rattle.lrpar_grammar.specs.Grammar.{Grammar, Nonterminal, prod_len, rule_of}
 use Rattle.lrpar_table_rows.specs.Table.{Table}
 use Rattle.lrpar_table_check.specs.Checked.{Checked}
 use Rattle.lrpar_table_stacks.specs.Reduction.{IsSettled, Settles}
 use Rattle.lrpar_table_stacks.specs.StackReduction.{IsStackSettledBy, StackReducesBy}
 use Rattle.lrpar_parse_run.specs.Building.{Building}
-use Rattle.lrpar_parse_run.specs.Reducing.{Builds, Built, KeepsRest, SuitsRun}
+use Rattle.lrpar_parse_run.specs.Reducing.{Builds, Built, IsNode, KeepsRest, SuitsRun}
 use Rattle.lrpar_parse_run.specs.Stacked.{SettlesTo}
 use Rattle.lrpar_parse_run.specs.RunStack.{IsRunStack, ReducesAllTo, ReducesTo, Stacked}
 
@@ -30,8 +29,8 @@ module _ {V B X E : Type 0} (built : V → Built B E) (builds : B → Building X
       let step : ReducesTo ((builds from.build).node g) (builds from.build).suits g table t (built old).stack p (built next).stack = record {
         of_states = all.1.of_states;
         entry = made.entry;
-        made = subst (λ (h : Grammar). (builds from.build).node h p (last_or None (take (length (built old).stack.entries - prod_len g p) (built old).stack.entries)) (drop (length (built old).stack.entries - prod_len g p) (built old).stack.entries) made.entry) (same.grammar ∙ is)
-            (subst (λ (b : B). (builds b).node (built old).grammar p (last_or None (take (length (built old).stack.entries - prod_len g p) (built old).stack.entries)) (drop (length (built old).stack.entries - prod_len g p) (built old).stack.entries) made.entry) same.build made.made);
+        made = subst (λ (h : Grammar). IsNode (builds from.build) h p (prod_len g p) (built old).stack.entries made.entry) (same.grammar ∙ is)
+            (subst (λ (b : B). IsNode (builds b) (built old).grammar p (prod_len g p) (built old).stack.entries made.entry) same.build made.made);
         suit = subst (λ (b : B). (builds b).suits (Nonterminal (rule_of g p)) made.entry) same.build made.suit;
         of_entries = made.of_entries;
       } in

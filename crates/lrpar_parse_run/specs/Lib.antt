@@ -8,6 +8,7 @@ pub mod Spans
 pub mod Placed
 pub mod PlacedRising
 pub mod Subject
+pub mod Running
 pub mod CompleteAnswer
 pub mod RepairAnswer
 pub mod TreeAnswer

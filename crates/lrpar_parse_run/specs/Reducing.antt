@@ -1,11 +1,12 @@
 -- The stacks of a run during reductions, each of which also builds an entry.
-use Rattle.std.specs.Prelude.{◌≡◌, ◌<◌, ◌≤◌, ◌-◌, ℕ, List, [], ◌∷◌, ◌++◌, length, take, drop, None}
+use Rattle.std.specs.Prelude.{◌≡◌, ◌<◌, ◌≤◌, ℕ, List, [], ◌∷◌, ◌++◌, length, None}
 use Rattle.std.specs.List.{AllZip, last_or}
 use Rattle.lrpar_grammar.specs.Grammar.{Grammar, Nonterminal, prod_len, rule_of, start_prod, symbols_of}
 use Rattle.lrpar_table_stacks.specs.Path.{NeverSticks}
 use Rattle.lrpar_table_rows.specs.Table.{Table}
+use Rattle.lrpar_table_stacks.specs.declared.state_stack.Reduction.{Reduction}
 use Rattle.lrpar_parse_run.specs.Building.{Building}
-use Rattle.lrpar_parse_run.specs.RunStack.{IsRunStack, Stacked}
+use Rattle.lrpar_parse_run.specs.RunStack.{IsRunStack, Stacked, below_top, on_top}
 
 -- a grammar, a builder, the stacks, and the name of the borrow of the stacks
 pub record Built (B E : Type 0) : Type 0 where
@@ -20,12 +21,34 @@ pub record KeepsRest {B E : Type 0} (old new : Built B E) : Type 0 where
   pub build : new.build ≡ old.build
   pub lender : new.lender ≡ old.lender
 
+-- The builder can make an entry of production p of the n top entries: it can build for the grammar; the production isn't the start
+-- production; the entries are those of its n symbols, and suit them; and all entries are in order.
+pub record CanReduce {X E : Type 0} (builds : Building X E) (g : Grammar) (p n : ℕ) (entries : List E) : Type 0 where
+  pub can : builds.can_build g
+  pub listed : p < start_prod g
+  pub count : n ≡ prod_len g p
+  pub deep : n ≤ length entries
+  pub suit : AllZip builds.suits (symbols_of g p) (on_top n entries)
+  pub rises : (start : ℕ) × builds.rises entries start
+
+-- the entry is one of a node of production p over the n top entries
+abbrev pub IsNode : {X E : Type 0} → Building X E → Grammar → ℕ → ℕ → List E → E → Type 0
+IsNode builds g p n entries entry = builds.node g p (last_or None (below_top n entries)) (on_top n entries) entry
+
 -- the n top entries are replaced by one of production p, of rule r, that is built of them
 pub record IsBuiltOf {X E : Type 0} (builds : Building X E) (g : Grammar) (p r n : ℕ) (old new : List E) : Type 0 where
   pub entry : E
-  pub made : builds.node g p (last_or None (take (length old - n) old)) (drop (length old - n) old) entry
+  pub made : IsNode builds g p n old entry
   pub suit : builds.suits (Nonterminal r) entry
-  pub of_entries : new ≡ take (length old - n) old ++ entry ∷ []
+  pub of_entries : new ≡ below_top n old ++ entry ∷ []
+
+-- the states after the reduction; `index` gives the number of a value of the storage type
+abbrev pub reduced_by : {S : Type 0} → (S → ℕ) → Reduction S → List ℕ → List ℕ
+reduced_by index by states = below_top by.symbols states ++ index by.next.0 ∷ []
+
+-- the entries are replaced by that of the reduction, which is built of them
+abbrev pub IsReducedBy : {S X E : Type 0} → (S → ℕ) → Building X E → Grammar → Reduction S → List E → List E → Type 0
+IsReducedBy index builds g by old new = IsBuiltOf builds g (index by.prod.0) (rule_of g (index by.prod.0)) by.symbols old new
 
 -- `builds` says what a builder builds
 module _ {B X E : Type 0} (builds : B → Building X E) where
@@ -45,10 +68,5 @@ module _ {B X E : Type 0} (builds : B → Building X E) where
 
   -- an entry of production p, of rule r with n symbols, can be built of the top entries
   pub record CanBuild (s : Built B E) (p r n : ℕ) : Type 0 where
-    pub can : (builds s.build).can_build s.grammar
-    pub listed : p < start_prod s.grammar
     pub rule : r ≡ rule_of s.grammar p
-    pub symbols : n ≡ prod_len s.grammar p
-    pub deep : n ≤ length s.stack.entries
-    pub suit : AllZip (builds s.build).suits (symbols_of s.grammar p) (drop (length s.stack.entries - n) s.stack.entries)
-    pub rising : (start : ℕ) × (builds s.build).rises s.stack.entries start
+    pub of_top : CanReduce (builds s.build) s.grammar p n s.stack.entries

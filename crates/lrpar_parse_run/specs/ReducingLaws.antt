@@ -45,13 +45,15 @@ module _ {B X E : Type 0} (builds : B → Building X E) (g : Grammar) (table : T
       let differ = along.listed in
       let same = is.grammar in
       record {
-        can = rw same is.can;
-        listed = rw same (omega (arith, known, differ));
         rule = rw same refl;
-        symbols = rw same refl;
-        deep = omega (arith, len);
-        suit = rw same (popped_suit (builds s.build).suits g table s.stack is.run_stack t p along);
-        rising = is.rising;
+        of_top = record {
+          can = rw same is.can;
+          listed = rw same (omega (arith, known, differ));
+          count = rw same refl;
+          deep = omega (arith, len);
+          suit = rw same (popped_suit (builds s.build).suits g table s.stack is.run_stack t p along);
+          rises = is.rising;
+        };
       }
 
   module _ (start : X → ℕ) (keeps : (b : B) (h : Grammar) → KeepsRising start (builds b).leaf ((builds b).node h) (builds b).rises) where

@@ -1,8 +1,9 @@
 -- The stack of a run, as plain lists, bottom first: its states, and entries that represent the trees between them. Three relations
 -- say what a parse builds. `leaf x e`: entry e may represent lexeme x. `node p before es e`: e may represent a node of production p
 -- whose children have the entries es, and which has `before` to its left. `suits s e`: e may be an entry of symbol s.
-use Rattle.std.specs.Prelude.{◌≡◌, ◌-◌, ℕ, List, [], ◌∷◌, ◌++◌, length, take, drop, Option, Some, None}
+use Rattle.std.specs.Prelude.{◌≡◌, ◌-◌, ℕ, List, [], ◌∷◌, ◌++◌, length, take, drop, Option, Some, None, Vec}
 use Rattle.std.specs.List.{AllZip, last_or}
+use Rattle.lrpar_grammar_places.specs.declared.span.StIdx.{StIdx}
 use Rattle.lrpar_grammar.specs.Grammar.{Grammar, GrammarSymbol, Nonterminal, rule_of, prod_len}
 use Rattle.lrpar_grammar.specs.Tree.{Tree, Forest, Leaf, Branch, Nil, Cons}
 use Rattle.lrpar_table_rows.specs.Table.{Table}
@@ -14,13 +15,34 @@ pub record Stacked (E : Type 0) : Type 0 where
   pub states : List ℕ
   pub entries : List E
 
+-- the stacks with this state and no entry
+abbrev pub begun : {E : Type 0} → ℕ → Stacked E
+begun state = record { states = state ∷ []; entries = [] }
+
+-- a state is pushed, with the entry of the symbol that led to it; `index` gives the number of a value of the storage type
+pub record IsPushed {S E : Type 0} (index : S → ℕ) (state : StIdx S) (entry : E) (old new : Stacked E) : Type 0 where
+  pub states : new.states ≡ old.states ++ index state.0 ∷ []
+  pub entries : new.entries ≡ old.entries ++ entry ∷ []
+
+-- the n elements on top of a stack
+abbrev pub on_top : {E : Type 0} → ℕ → List E → List E
+on_top n stack = drop (length stack - n) stack
+
+-- the elements below them
+abbrev pub below_top : {E : Type 0} → ℕ → List E → List E
+below_top n stack = take (length stack - n) stack
+
+-- the n elements on top are popped
+abbrev pub Pops : {E Z : Type 0} → ℕ → Vec E Z → Vec E Z → Type 0
+Pops n old new = new.items ≡ below_top n old.items
+
 -- the entries that a reduction by p leaves
 abbrev pub kept_by : {E : Type 0} → Grammar → ℕ → List E → List E
-kept_by g p entries = take (length entries - prod_len g p) entries
+kept_by g p entries = below_top (prod_len g p) entries
 
 -- the entries that a reduction by p pops
 abbrev pub popped_by : {E : Type 0} → Grammar → ℕ → List E → List E
-popped_by g p entries = drop (length entries - prod_len g p) entries
+popped_by g p entries = on_top (prod_len g p) entries
 
 module _ {X E : Type 0} (leaf : X → E → Type 0) (node : ℕ → Option E → List E → E → Type 0) where
   -- the entry represents the tree, with `before` to its left

@@ -1,9 +1,10 @@
 //! What a parse builds: an entry on the run's stack for each lexeme that is shifted and for each reduction.
-ghost use Rattle.std.specs.Prelude.{◌≡◌, ◌<◌, ◌≤◌, ◌-◌, ℕ, None, OnOk, IfOk, length, take, drop};
-ghost use Rattle.std.specs.List.{AllZip, last_or};
+ghost use Rattle.std.specs.Prelude.{OnOk, IfOk};
 ghost use Rattle.lrpar_parse_run.specs.Building.{Building};
+ghost use Rattle.lrpar_parse_run.specs.Reducing.{CanReduce, IsNode};
 ghost use Rattle.lrpar_parse_run.specs.Rising.{KeepsRising};
-ghost use Rattle.lrpar_grammar.specs.Grammar.{Grammar, Nonterminal, Terminal, prod_len, rule_of, start_prod, symbols_of};
+ghost use Rattle.lrpar_parse_run.specs.RunStack.{Pops};
+ghost use Rattle.lrpar_grammar.specs.Grammar.{Grammar, Nonterminal, Terminal, rule_of};
 
 use lrpar_grammar::grammar::YaccGrammar;
 use lrpar_grammar::span::{PIdx, StorageIndex};
@@ -34,16 +35,9 @@ pub trait Build<StorageT: StorageIndex, LexemeT: Lexeme<StorageT>> {
         count: usize,
         entries: &mut Vec<Self::Entry>,
     ) -> Result<Self::Entry, AllocError>
-        requires can { (builds self.now).can_build grm.now }
-        requires listed { StorageT.index pidx.now.0 < start_prod grm.now }
-        requires count { count ≡ prod_len grm.now (StorageT.index pidx.now.0) }
-        requires deep { count ≤ length entries.old.items }
-        requires suit { AllZip (builds self.now).suits (symbols_of grm.now (StorageT.index pidx.now.0)) (drop (length entries.old.items - count) entries.old.items) }
-        requires rises { (start : ℕ) × (builds self.now).rises entries.old.items start }
-        ensures kept { OnOk result (entries.new.items ≡ take (length entries.old.items - count) entries.old.items) }
-        ensures node { IfOk result ((builds self.now).node grm.now (StorageT.index pidx.now.0)
-            (last_or None (take (length entries.old.items - count) entries.old.items))
-            (drop (length entries.old.items - count) entries.old.items)) }
+        requires { CanReduce (builds self.now) grm.now (StorageT.index pidx.now.0) count entries.old.items }
+        ensures kept { OnOk result (Pops count entries.old entries.new) }
+        ensures node { IfOk result (IsNode (builds self.now) grm.now (StorageT.index pidx.now.0) count entries.old.items) }
         ensures suit { IfOk result ((builds self.now).suits (Nonterminal (rule_of grm.now (StorageT.index pidx.now.0)))) };
 
     ghost rising: { (b : Self) (g : Grammar) → KeepsRising (λ x. (LexemeT.parts x).span.start) (builds b).leaf ((builds b).node g) (builds b).rises };

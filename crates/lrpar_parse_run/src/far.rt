@@ -1,10 +1,6 @@
 //! How far a run goes from a place, without repairs.
-ghost use Rattle.std.specs.Prelude.{◌<◌, ◌≤◌, IfOk, IfSome, OnOk, length};
-ghost use Rattle.lrpar_grammar.specs.Sentence.{IsValidList};
-ghost use Rattle.lrpar_parse_lexemes.specs.Views.{facts_by, known};
-ghost use Rattle.lrpar_parse_lexemes.specs.Lexemes.{start_at};
-ghost use Rattle.lrpar_parse_run.specs.Moves.{GoesFar, RiseUpTo, StartsRise};
-ghost use Rattle.lrpar_parse_run.specs.RunStack.{IsRunStack};
+ghost use Rattle.std.specs.Prelude.{IfOk};
+ghost use Rattle.lrpar_parse_run.specs.Running.{HasGoneFar, IsRunAt};
 
 use crate::building::Build;
 use crate::run::Run;
@@ -29,18 +25,8 @@ impl<'a, StorageT: StorageIndex, LexemeT: Lexeme<StorageT>, B: Build<StorageT, L
         stack: &mut Stack<StorageT, B::Entry>,
         place: usize,
     ) -> Result<Option<usize>, AllocError>
-        requires can { (B.builds self.now.build.now).can_build self.now.checked.now.grammar }
-        requires valid { IsValidList self.now.checked.now.grammar (known StorageT.index LexemeT.parts lexemes.now) }
-        requires starts { StartsRise (known StorageT.index LexemeT.parts lexemes.now) }
-        requires run_stack { IsRunStack (B.builds self.now.build.now).suits self.now.checked.now.table stack.old }
-        requires rises { RiseUpTo (B.builds self.now.build.now).rises stack.old.entries (start_at (known StorageT.index LexemeT.parts lexemes.now) place) }
-        requires within { place ≤ length lexemes.now }
-        ensures run_stack { OnOk result (IsRunStack (B.builds self.now.build.now).suits self.now.checked.now.table stack.new) }
-        ensures rises { IfOk result (λ stop. IfSome stop (λ next. RiseUpTo (B.builds self.now.build.now).rises stack.new.entries
-            (start_at (known StorageT.index LexemeT.parts lexemes.now) next))) }
-        ensures within { IfOk result (λ stop. IfSome stop (λ next. next ≤ length lexemes.now)) }
-        ensures far { IfOk result (λ stop. GoesFar (facts_by StorageT.index LexemeT.parts) (B.builds self.now.build.now) self.now.checked.now lexemes.now
-            stack.old place stop stack.new) }
+        requires { IsRunAt StorageT.index LexemeT.parts B.builds self.now lexemes.now stack.old place }
+        ensures { IfOk result (HasGoneFar StorageT.index LexemeT.parts B.builds self.now lexemes.now stack.old place stack.new) }
     {
         // A checked table never sticks.
         let _table = self.checked.stable();

@@ -1,5 +1,6 @@
 //! Building nothing, for a parse that gives errors alone.
-ghost use Rattle.std.specs.Prelude.{◌≡◌, ◌≤◌, ◌-◌, OnOk, length, take};
+ghost use Rattle.std.specs.Prelude.{◌≤◌, OnOk, length};
+ghost use Rattle.lrpar_parse_run.specs.RunStack.{Pops};
 
 use crate::building::Build;
 use lrpar_grammar::grammar::YaccGrammar;
@@ -33,7 +34,7 @@ impl<StorageT: StorageIndex, LexemeT: Lexeme<StorageT>> Build<StorageT, LexemeT>
         entries: &mut Vec<()>,
     ) -> Result<(), AllocError>
         requires deep { count ≤ length entries.old.items }
-        ensures kept { OnOk result (entries.new.items ≡ take (length entries.old.items - count) entries.old.items) }
+        ensures kept { OnOk result (Pops count entries.old entries.new) }
     {
         entries.truncate(entries.len() - count);
         Ok(())

@@ -1,5 +1,5 @@
 //! The stacks of a run during reductions: a `StateStack` in which each reduction also builds an entry.
-ghost use Rattle.std.specs.Prelude.{◌≡◌, ◌<◌, ◌-◌, [], ◌∷◌, ◌++◌, length, take, OnOk, OnErr};
+ghost use Rattle.std.specs.Prelude.{◌≡◌};
 
 use crate::building::Build;
 use crate::run_stack::Stack;
@@ -55,10 +55,10 @@ impl<'a, StorageT: StorageIndex, LexemeT: Lexeme<StorageT>, B: Build<StorageT, L
 impl<'a, StorageT: StorageIndex, LexemeT: Lexeme<StorageT>, B: Build<StorageT, LexemeT>> StateStack<
     StorageT,
 > for Reducing<'a, StorageT, LexemeT, B> {
-    ghost use Rattle.std.specs.Prelude.{◌≡◌, ◌<◌, ◌-◌, [], ◌∷◌, ◌++◌, length, take, OnErr, OnOk};
-    ghost use Rattle.lrpar_parse_run.specs.Reducing.{Builds, CanBuild, KeepsRest, SuitsRun};
+    ghost use Rattle.std.specs.Prelude.{◌≡◌, ◌<◌, length, OnErr, OnOk};
+    ghost use Rattle.lrpar_parse_run.specs.Reducing.{Builds, CanBuild, KeepsRest, SuitsRun, reduced_by};
     ghost use Rattle.lrpar_parse_run.specs.ReducingLaws.{builds_suit, due_can_build};
-    ghost use Rattle.lrpar_parse_run.specs.ReducingView.{built};
+    ghost use Rattle.lrpar_parse_run.specs.ReducingView.{BuildsBy, CanBuildBy, built};
 
     ghost states = { λ s. s.stack.now.states };
 
@@ -83,11 +83,10 @@ impl<'a, StorageT: StorageIndex, LexemeT: Lexeme<StorageT>, B: Build<StorageT, L
     }
 
     fn reduce(&mut self, by: Reduction<StorageT>) -> Result<(), AllocError>
-        requires can { CanBuild B.builds (built self.old) (StorageT.index by.prod.0) (StorageT.index by.rule.0) by.symbols }
+        requires can { CanBuildBy StorageT.index B.builds self.old by }
         requires deep { by.symbols < length self.old.stack.now.states }
-        ensures states { OnOk result (self.new.stack.now.states
-            ≡ take (length self.old.stack.now.states - by.symbols) self.old.stack.now.states ++ StorageT.index by.next.0 ∷ []) }
-        ensures reduces { OnOk result (Builds B.builds (built self.old) (StorageT.index by.prod.0) (StorageT.index by.rule.0) by.symbols (built self.new)) }
+        ensures states { OnOk result (self.new.stack.now.states ≡ reduced_by StorageT.index by self.old.stack.now.states) }
+        ensures reduces { OnOk result (BuildsBy StorageT.index B.builds self.old by self.new) }
         ensures unchanged { OnErr result (self.new.stack.now.states ≡ self.old.stack.now.states) }
         ensures fails { OnErr result (KeepsRest (built self.old) (built self.new)) }
     {

@@ -1,11 +1,5 @@
 //! The run: shifts and reductions over valid lexemes, by a checked table.
-ghost use Rattle.std.specs.Prelude.{◌≡◌, ◌≢◌, ◌<◌, ℕ, IfOk, OnOk, IsTrue, IsFalse};
-ghost use Rattle.lrpar_grammar.specs.Grammar.{end_token};
-ghost use Rattle.lrpar_table_stacks.specs.Path.{NeverSticks};
-ghost use Rattle.lrpar_table_stacks.specs.Reduction.{top_action};
-ghost use Rattle.lrpar_table_rows.specs.PlainRows.{plain_action};
-ghost use Rattle.lrpar_parse_run.specs.RunStack.{IsRunStack};
-ghost use Rattle.lrpar_parse_run.specs.Stacked.{SettlesTo, Shifts, Sticks};
+ghost use Rattle.std.specs.Prelude.{◌≡◌, ◌<◌, IfOk};
 
 use crate::building::Build;
 use crate::reducing::Reducing;
@@ -31,6 +25,8 @@ impl<'a, StorageT: StorageIndex, LexemeT: Lexeme<StorageT>, B: Build<StorageT, L
     LexemeT,
     B,
 > {
+    ghost use Rattle.lrpar_parse_run.specs.Running.{CanTake, HasSettled, IsReady, IsTaken, NeverSticksOver};
+
     pub fn new(checked: &'a ParserData<StorageT>, build: &'a B) -> Self
         ensures checked { result.checked.now ≡ checked.now }
         ensures build { result.build.now ≡ build.now }
@@ -50,18 +46,10 @@ impl<'a, StorageT: StorageIndex, LexemeT: Lexeme<StorageT>, B: Build<StorageT, L
         stack: &mut Stack<StorageT, B::Entry>,
         lexeme: LexemeT,
     ) -> Result<bool, AllocError>
-        requires can { (B.builds self.now.build.now).can_build self.now.checked.now.grammar }
-        requires runs { NeverSticks self.now.checked.now.grammar self.now.checked.now.table }
-        requires token { StorageT.index (LexemeT.parts lexeme).token < self.now.checked.now.table.tokens }
-        requires inner { StorageT.index (LexemeT.parts lexeme).token ≢ end_token self.now.checked.now.grammar }
-        requires run_stack { IsRunStack (B.builds self.now.build.now).suits self.now.checked.now.table stack.old }
-        requires rises { (start : ℕ) × (B.builds self.now.build.now).rises stack.old.entries start }
-        ensures run_stack { OnOk result (IsRunStack (B.builds self.now.build.now).suits self.now.checked.now.table stack.new) }
-        ensures shifts { IfOk result (λ shifted. IsTrue shifted → Shifts (B.builds self.now.build.now) self.now.checked.now
-            (StorageT.index (LexemeT.parts lexeme).token) lexeme stack.old stack.new) }
-        ensures sticks { IfOk result (λ shifted. IsFalse shifted → Sticks
-            (B.builds self.now.build.now) self.now.checked.now
-            (StorageT.index (LexemeT.parts lexeme).token) stack.old stack.new) }
+        requires ready { IsReady B.builds self.now stack.old }
+        requires runs { NeverSticksOver self.now.checked.now }
+        requires lexeme { CanTake StorageT.index LexemeT.parts self.now lexeme }
+        ensures { IfOk result (IsTaken StorageT.index LexemeT.parts B.builds self.now lexeme stack.old stack.new) }
     {
         match self.settle(alloc, stack, TIdx(lexeme.tok_id()))? {
             Action::Shift(state) => {
@@ -80,13 +68,9 @@ impl<'a, StorageT: StorageIndex, LexemeT: Lexeme<StorageT>, B: Build<StorageT, L
         stack: &mut Stack<StorageT, B::Entry>,
         token: TIdx<StorageT>,
     ) -> Result<Action<StorageT>, AllocError>
-        requires can { (B.builds self.now.build.now).can_build self.now.checked.now.grammar }
+        requires ready { IsReady B.builds self.now stack.old }
         requires token { StorageT.index token.0 < self.now.checked.now.table.tokens }
-        requires run_stack { IsRunStack (B.builds self.now.build.now).suits self.now.checked.now.table stack.old }
-        requires rises { (start : ℕ) × (B.builds self.now.build.now).rises stack.old.entries start }
-        ensures run_stack { OnOk result (IsRunStack (B.builds self.now.build.now).suits self.now.checked.now.table stack.new) }
-        ensures settles { OnOk result (SettlesTo (B.builds self.now.build.now) self.now.checked.now (StorageT.index token.0) stack.old stack.new) }
-        ensures action { IfOk result (λ action. plain_action StorageT.index action ≡ top_action self.now.checked.now.table (StorageT.index token.0) stack.new.states) }
+        ensures { IfOk result (HasSettled B.builds self.now StorageT.index token stack.old stack.new) }
     {
         let stable = self.checked.stable();
         // The table has entries for these numbers of tokens and rules only, so that a path is a stack.

@@ -1,9 +1,8 @@
 //! The stacks of a run: the states, and an entry for each state but the lowest.
-ghost use Rattle.std.specs.Prelude.{◌≡◌, ◌<◌, ◌≤◌, ◌-◌, ℕ, [], ◌∷◌, ◌++◌, length, take, drop, slice_get, Some, OnErr, OnOk, IfOk};
-ghost use Rattle.std.specs.List.{AllZip};
+ghost use Rattle.std.specs.Prelude.{◌≡◌, ◌<◌, [], ◌∷◌, length, slice_get, Some, OnErr, OnOk, IfOk};
 ghost use Rattle.lrpar_table_stacks.specs.Stack.{states_of, top_of};
-ghost use Rattle.lrpar_grammar.specs.Grammar.{prod_len, rule_of, start_prod, symbols_of};
-ghost use Rattle.lrpar_parse_run.specs.Reducing.{IsBuiltOf};
+ghost use Rattle.lrpar_parse_run.specs.Reducing.{CanReduce, IsReducedBy, reduced_by};
+ghost use Rattle.lrpar_parse_run.specs.RunStack.{IsPushed, begun};
 
 use crate::building::Build;
 use lrpar_grammar::grammar::YaccGrammar;
@@ -32,7 +31,7 @@ impl<StorageT: StorageIndex, E: Drop> Model for Stack<StorageT, E> {
 impl<StorageT: StorageIndex, E: Drop> Stack<StorageT, E> {
     /// The stack with one state and no entry. `Err`: out of memory.
     pub fn new(alloc: Global, start: StIdx<StorageT>) -> Result<Self, AllocError>
-        ensures { IfOk result (λ stack. stack ≡ record { states = StorageT.index start.0 ∷ []; entries = [] }) }
+        ensures { IfOk result (λ stack. stack ≡ begun (StorageT.index start.0)) }
     {
         let mut states = Vec::new(alloc);
         states.push(start)?;
@@ -74,8 +73,7 @@ impl<StorageT: StorageIndex, E: Drop> Stack<StorageT, E> {
 
     /// Pushes a state, with the entry of the symbol that led to it. `Err`: out of memory.
     pub fn push(&mut self, state: StIdx<StorageT>, entry: E) -> Result<(), AllocError>
-        ensures states { OnOk result (self.new.states ≡ self.old.states ++ StorageT.index state.0 ∷ []) }
-        ensures entries { OnOk result (self.new.entries ≡ self.old.entries ++ entry ∷ []) }
+        ensures { OnOk result (IsPushed StorageT.index state entry self.old self.new) }
     {
         self.states.push(state)?;
         self.entries.push(entry)?;
@@ -91,16 +89,10 @@ impl<StorageT: StorageIndex, E: Drop> Stack<StorageT, E> {
         grm: &YaccGrammar<StorageT>,
         by: Reduction<StorageT>,
     ) -> Result<(), AllocError>
-        requires can { (B.builds build.now).can_build grm.now }
-        requires listed { StorageT.index by.prod.0 < start_prod grm.now }
-        requires symbols { by.symbols ≡ prod_len grm.now (StorageT.index by.prod.0) }
-        requires states { by.symbols < length self.old.states }
-        requires entries { by.symbols ≤ length self.old.entries }
-        requires suit { AllZip (B.builds build.now).suits (symbols_of grm.now (StorageT.index by.prod.0)) (drop (length self.old.entries - by.symbols) self.old.entries) }
-        requires rises { (start : ℕ) × (B.builds build.now).rises self.old.entries start }
-        ensures states { OnOk result (self.new.states ≡ take (length self.old.states - by.symbols) self.old.states ++ StorageT.index by.next.0 ∷ []) }
-        ensures entries { OnOk result (IsBuiltOf (B.builds build.now) grm.now (StorageT.index by.prod.0)
-            (rule_of grm.now (StorageT.index by.prod.0)) by.symbols self.old.entries self.new.entries) }
+        requires can { CanReduce (B.builds build.now) grm.now (StorageT.index by.prod.0) by.symbols self.old.entries }
+        requires deep { by.symbols < length self.old.states }
+        ensures states { OnOk result (self.new.states ≡ reduced_by StorageT.index by self.old.states) }
+        ensures entries { OnOk result (IsReducedBy StorageT.index (B.builds build.now) grm.now by self.old.entries self.new.entries) }
         ensures unchanged { OnErr result (self.new.states ≡ self.old.states) }
     {
         let entry = build.reduced(alloc, grm, &by.prod, by.symbols, &mut self.entries)?;

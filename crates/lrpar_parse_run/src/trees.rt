@@ -1,7 +1,8 @@
 //! Building the tree of a parse.
-ghost use Rattle.std.specs.Prelude.{◌≡◌, ◌<◌, ◌≤◌, ◌-◌, IfOk, OnOk, length, take, drop};
+ghost use Rattle.std.specs.Prelude.{◌<◌, ◌≤◌, IfOk, OnOk, length};
 ghost use Rattle.lrpar_grammar.specs.Grammar.{rule_of, start_prod};
 ghost use Rattle.lrpar_parse_run.specs.Nodes.{IsNonterm, IsTerm};
+ghost use Rattle.lrpar_parse_run.specs.RunStack.{Pops, on_top};
 
 use crate::building::Build;
 use lrpar_grammar::grammar::YaccGrammar;
@@ -39,9 +40,8 @@ impl<StorageT: StorageIndex, LexemeT: Lexeme<StorageT>> Build<StorageT, LexemeT>
     ) -> Result<Node<LexemeT, StorageT>, AllocError>
         requires listed { StorageT.index pidx.now.0 < start_prod grm.now }
         requires deep { count ≤ length entries.old.items }
-        ensures kept { OnOk result (entries.new.items ≡ take (length entries.old.items - count) entries.old.items) }
-        ensures node { IfOk result (IsNonterm StorageT.index (rule_of grm.now (StorageT.index pidx.now.0))
-            (drop (length entries.old.items - count) entries.old.items)) }
+        ensures kept { OnOk result (Pops count entries.old entries.new) }
+        ensures node { IfOk result (IsNonterm StorageT.index (rule_of grm.now (StorageT.index pidx.now.0)) (on_top count entries.old.items)) }
     {
         let ridx = grm.prod_to_rule(*pidx);
         let nodes = entries.split_off(entries.len() - count)?;

@@ -1,19 +1,9 @@
 //! The whole run of a parse with repairs. At each error point the recoverer is called once, and the first of its sequences that
 //! works is replayed; then the run goes on.
-ghost use Rattle.std.specs.Prelude.{◌≡◌, ◌<◌, ◌≤◌, IfOk, IfSome, OnOk, length};
+ghost use Rattle.std.specs.Prelude.{◌<◌, ◌≤◌, IfOk, length};
 ghost use Rattle.lrpar_grammar.specs.Sentence.{IsValidList};
-ghost use Rattle.lrpar_table_stacks.specs.Stack.{IsStack};
-ghost use Rattle.lrpar_table_stacks.specs.Reduction.{top_action};
-ghost use Rattle.lrpar_parse_lexemes.specs.Views.{token_by, known};
-ghost use Rattle.lrpar_parse_lexemes.specs.Lexemes.{start_at};
-ghost use Rattle.lrpar_parse_run.specs.Recovering.{IsListedBy, IsRecovered, IsRecorded};
-ghost use Rattle.lrpar_parse_run.specs.Moves.{RiseUpTo, StartsRise};
-ghost use Rattle.lrpar_parse_repair.specs.PlainSteps.{plain_sequences};
-ghost use Rattle.lrpar_parse_run.specs.RepairAnswer.{IsRepairErrorOf};
-ghost use Rattle.lrpar_table_stacks.specs.Run.{stop_at, token_at};
-ghost use Rattle.lrpar_table_rows.specs.Table.{Fails};
-ghost use Rattle.lrpar_parse_run.specs.RunStack.{IsRunStack};
-ghost use Rattle.lrpar_parse_run.specs.TreeAnswer.{IsTreeAnswer};
+ghost use Rattle.lrpar_parse_lexemes.specs.Views.{known};
+ghost use Rattle.lrpar_parse_run.specs.Moves.{StartsRise};
 
 use crate::building::Build;
 use crate::run::Run;
@@ -51,7 +41,7 @@ impl<
     B: Build<StorageT, LexerTypesT::LexemeT>,
     R: Recoverer<StorageT, LexerTypesT::LexemeT>,
 > WholeRun<'a, StorageT, LexerTypesT, B, R> {
-    ghost use Rattle.lrpar_parse_run.specs.WholeRunView.{subject};
+    ghost use Rattle.lrpar_parse_run.specs.WholeRunView.{CanBegin, HasStopped, IsAnswerOf, IsErrorAt, IsStopOf, ListsAt, RecordsAt, Resumes};
 
     /// Runs from the first lexeme until the table accepts, or until an error point at which no sequence works. Returns the entry of
     /// the whole, if the table accepts, and the errors. `Err`: out of memory.
@@ -61,11 +51,8 @@ impl<
         &self,
         alloc: Global,
     ) -> Result<(Option<B::Entry>, Vec<LexParseError<StorageT, LexerTypesT>>), AllocError>
-        requires can { (B.builds self.now.run.build.now).can_build self.now.run.checked.now.grammar }
-        requires valid { IsValidList self.now.run.checked.now.grammar (known StorageT.index LexerTypesT.LexemeT.parts self.now.lexemes.now) }
-        requires shifts { 0 < self.now.shifts }
-        ensures { IfOk result (IsTreeAnswer (subject StorageT.index LexerTypesT.LexemeT.parts R.allows self.now)
-            (B.builds self.now.run.build.now) self.now.lexemes.now) }
+        requires { CanBegin StorageT.index LexerTypesT.LexemeT.parts B.builds self.now }
+        ensures { IfOk result (IsAnswerOf StorageT.index LexerTypesT.LexemeT.parts R.allows B.builds self.now) }
     {
         starts_rise::<StorageT, LexerTypesT::LexemeT>(self.run.checked.grm(), self.lexemes);
         let stable = self.run.checked.stable();
@@ -92,22 +79,9 @@ impl<
         stop: usize,
         errors: &mut Vec<LexParseError<StorageT, LexerTypesT>>,
     ) -> Result<Option<usize>, AllocError>
-        requires can { (B.builds self.now.run.build.now).can_build self.now.run.checked.now.grammar }
-        requires valid { IsValidList self.now.run.checked.now.grammar (known StorageT.index LexerTypesT.LexemeT.parts self.now.lexemes.now) }
-        requires starts { StartsRise (known StorageT.index LexerTypesT.LexemeT.parts self.now.lexemes.now) }
-        requires run_stack { IsRunStack (B.builds self.now.run.build.now).suits self.now.run.checked.now.table stack.old }
-        requires rises { RiseUpTo (B.builds self.now.run.build.now).rises stack.old.entries
-            (start_at (known StorageT.index LexerTypesT.LexemeT.parts self.now.lexemes.now) stop) }
-        requires shifts { 0 < self.now.shifts }
-        requires fails { top_action self.now.run.checked.now.table (token_at (token_by StorageT.index LexerTypesT.LexemeT.parts)
-            self.now.run.checked.now.grammar self.now.lexemes.now stop) stack.old.states ≡ Fails }
-        requires within { stop ≤ length self.now.lexemes.now }
-        ensures run_stack { OnOk result (IsRunStack (B.builds self.now.run.build.now).suits self.now.run.checked.now.table stack.new) }
-        ensures rises { IfOk result (λ next. IfSome next (λ place. RiseUpTo (B.builds self.now.run.build.now).rises stack.new.entries
-            (start_at (known StorageT.index LexerTypesT.LexemeT.parts self.now.lexemes.now) place))) }
-        ensures within { IfOk result (λ next. IfSome next (λ place. place ≤ length self.now.lexemes.now)) }
-        ensures recovered { IfOk result (IsRecovered (subject StorageT.index LexerTypesT.LexemeT.parts R.allows self.now) (B.builds self.now.run.build.now)
-            self.now.lexemes.now stack.old stop errors.old.items stack.new errors.new.items) }
+        requires { HasStopped StorageT.index LexerTypesT.LexemeT.parts B.builds self.now stack.old stop }
+        ensures { IfOk result (Resumes StorageT.index LexerTypesT.LexemeT.parts R.allows B.builds self.now
+            stack.old stop errors.old.items stack.new errors.new.items) }
     {
         // The table has entries for these numbers of tokens and rules only, so that a path is a stack.
         let stable = self.run.checked.stable();
@@ -128,15 +102,10 @@ impl<
         place: usize,
         errors: &mut Vec<LexParseError<StorageT, LexerTypesT>>,
     ) -> Result<Vec<Vec<RepairStep<StorageT>>>, AllocError>
-        requires valid { IsValidList self.now.run.checked.now.grammar (known StorageT.index LexerTypesT.LexemeT.parts self.now.lexemes.now) }
-        requires shifts { 0 < self.now.shifts }
-        requires stack { IsStack self.now.run.checked.now.table stack.now.states }
-        requires fails { top_action self.now.run.checked.now.table (token_at (token_by StorageT.index LexerTypesT.LexemeT.parts)
-            self.now.run.checked.now.grammar self.now.lexemes.now place) stack.now.states ≡ Fails }
+        requires stop { IsStopOf StorageT.index LexerTypesT.LexemeT.parts self.now stack.now.states place }
         requires some { 0 < length stack.now.states }
-        requires within { place ≤ length self.now.lexemes.now }
-        ensures recorded { IfOk result (λ listed. IsRecorded (subject StorageT.index LexerTypesT.LexemeT.parts R.allows self.now) self.now.lexemes.now
-            (stop_at stack.now.states place) errors.old.items errors.new.items (plain_sequences StorageT.index listed.items)) }
+        ensures { IfOk result (RecordsAt StorageT.index LexerTypesT.LexemeT.parts R.allows self.now
+            stack.now.states place errors.old.items errors.new.items) }
     {
         let listed = self.listed(alloc, stack, place)?;
         errors.push(self.error(alloc, stack, place, &listed)?)?;
@@ -150,14 +119,8 @@ impl<
         stack: &Stack<StorageT, B::Entry>,
         place: usize,
     ) -> Result<Vec<Vec<RepairStep<StorageT>>>, AllocError>
-        requires valid { IsValidList self.now.run.checked.now.grammar (known StorageT.index LexerTypesT.LexemeT.parts self.now.lexemes.now) }
-        requires shifts { 0 < self.now.shifts }
-        requires stack { IsStack self.now.run.checked.now.table stack.now.states }
-        requires fails { top_action self.now.run.checked.now.table (token_at (token_by StorageT.index LexerTypesT.LexemeT.parts)
-            self.now.run.checked.now.grammar self.now.lexemes.now place) stack.now.states ≡ Fails }
-        requires within { place ≤ length self.now.lexemes.now }
-        ensures listed { IfOk result (λ listed. IsListedBy (subject StorageT.index LexerTypesT.LexemeT.parts R.allows self.now) self.now.lexemes.now
-            (stop_at stack.now.states place) (plain_sequences StorageT.index listed.items)) }
+        requires { IsStopOf StorageT.index LexerTypesT.LexemeT.parts self.now stack.now.states place }
+        ensures { IfOk result (ListsAt StorageT.index LexerTypesT.LexemeT.parts R.allows self.now stack.now.states place) }
     {
         // The table is a checked one.
         let _table = self.run.checked.stable();
@@ -179,8 +142,7 @@ impl<
     ) -> Result<LexParseError<StorageT, LexerTypesT>, AllocError>
         requires some { 0 < length stack.now.states }
         requires within { place ≤ length self.now.lexemes.now }
-        ensures error { IfOk result (IsRepairErrorOf (subject StorageT.index LexerTypesT.LexemeT.parts R.allows self.now) self.now.lexemes.now
-            (record { stop = stop_at stack.now.states place; listed = plain_sequences StorageT.index listed.now })) }
+        ensures { IfOk result (IsErrorAt StorageT.index LexerTypesT.LexemeT.parts R.allows self.now stack.now.states place listed.now) }
     {
         let repairs = listed_repairs(alloc, &self.lexemes[place..], listed)?;
         let lexeme = match self.lexemes.get(place) {

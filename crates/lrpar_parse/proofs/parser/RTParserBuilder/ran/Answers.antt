@@ -1,10 +1,14 @@
 use Rattle.std.proofs.Common.{◌≡◌, ap}
 use Rattle.lrpar_parse.proofs.parser.RTParserBuilder.ran.Goals as goal
 
-pub over-requires-clause-can : goal.over-requires-clause-can
-over-requires-clause-can g c =
+pub over-requires : goal.over-requires
+over-requires g c =
     let checked : c.self.inside.checked.now ≡ c.args.self.now.checked = ap (λ v. v.checked) c.self.view_is in
-    rw (c.new.ensures.build, c.new.ensures.checked, checked) c.requires.can
+    record {
+      can = rw (c.new.ensures.build, c.new.ensures.checked, checked) c.requires.can;
+      valid = rw (c.new.ensures.checked, checked) c.requires.valid;
+      shifts = c.shift_count.ensures.some;
+    }
 
 pub returns : goal.returns
 returns g c =

@@ -12,9 +12,7 @@ loop-step-init g c =
     let d = c.args.self.now.checked.now in
     let builds = g.B.Build.builds c.args.self.now.build.now in
     record {
-      run_stack = c.requires.run_stack;
-      rises = c.requires.rises;
-      within = c.requires.within;
+      there = c.requires.there;
       done = replayed_none facts builds d c.args.lexemes.now c.args.stack.now c.args.place;
       left = c.requires.works;
     }
@@ -44,20 +42,17 @@ loop-step-preserved g c =
     let rest = replay_left facts builds d lexemes l.stack c.step.new.stack l.at _ (plain_step index step)
     (plain_steps index (drop (l.step-index + 1) steps)) left.0 left.1 left.2 by left.3 in
     record {
-      run_stack = c.in_ok-at.ensures.run_stack;
-      rises = c.in_ok-at.ensures.rises;
-      within = c.in_ok-at.ensures.within;
+      there = c.in_ok-at.ensures.there;
       done = rw more
           (replayed_then facts builds d lexemes c.args.stack.now l.stack c.step.new.stack c.args.place l.at _
           (plain_steps index (take l.step-index steps)) (plain_step index step ∷ []) l.invariant.done by);
       left = (rest.0, left.1, left.2, rest.1);
     }
 
-pub returns-clause-replayed : goal.returns-clause-replayed
-returns-clause-replayed g c =
-    let index = g.StorageT.StorageIndex.index in
+pub returns : goal.returns
+returns g c =
     let l = c.loop-step in
     let steps = c.args.steps.now in
     let last : length steps ≡ l.step-index = omega (arith, c.loop-step-test.false, l.auto.step-index-end) in
     let all : take l.step-index steps ≡ steps = take_all l.step-index steps (omega (arith, last)) in
-    rw all at l.invariant.done
+    record { there = l.invariant.there; replayed = rw all at l.invariant.done }

@@ -7,7 +7,7 @@ use Rattle.lrpar_parse_run.proofs.run.Run.settle.Goals as goal
 pub settle_on-requires-clause-stack : goal.settle_on-requires-clause-stack
 settle_on-requires-clause-stack g c =
     let d = c.args.self.now.checked.now in
-    let run_stack = c.requires.run_stack in
+    let run_stack = c.requires.ready.run_stack in
     let stack : c.new-reducing.result.stack.now ≡ c.args.stack.now = ap (λ s. s.stack) c.new-reducing.ensures in
     rw stack
     (path_is_stack d.table (rw c.stable-stable.ensures.table at c.tokens_len-tokens.ensures.end) (rw c.stable-stable.ensures.table at c.rules_len-rules.ensures.end)
@@ -24,5 +24,5 @@ returns g c =
     record {
       run_stack = grind (arith, settled.same, settled.run_stack);
       settles = grind (arith, settled.same, settled.settles);
-      action = grind (arith, settled.same, c.in_ok-settle_on.ensures.action);
+      action_is = grind (arith, settled.same, c.in_ok-settle_on.ensures.action);
     }

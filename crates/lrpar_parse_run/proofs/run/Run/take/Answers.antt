@@ -13,7 +13,7 @@ returns-in_ok-push-in-Shift g c =
     let token = (g.LexemeT.Lexeme.parts c.args.lexeme).token in
     let pushed = c.in_ok-push-in-Shift.ensures in
     let shifts : top_action d.table (index token) settled.states ≡ ShiftTo (index c.in-Shift.state.0) =
-    sym (rw c.tok_id.ensures.token at c.in_ok-state.ensures.action) ∙ ap (plain_action index) c.in-Shift.is in
+    sym (rw c.tok_id.ensures.token at c.in_ok-state.ensures.action_is) ∙ ap (plain_action index) c.in-Shift.is in
     record {
       run_stack = run_stack_shift (g.B.Build.builds c.args.self.now.build.now).suits d (index token) _ settled c.push.new.self c.shifted.result c.requires.runs
           c.in_ok-state.ensures.run_stack shifts pushed.states pushed.entries c.shifted.ensures.suit;
@@ -38,7 +38,7 @@ returns-in-Error g c =
     let d = c.args.self.now.checked.now in
     let token = (g.LexemeT.Lexeme.parts c.args.lexeme).token in
     let fails : top_action d.table (index token) c.settle.new.stack.states ≡ Fails =
-    sym (rw c.tok_id.ensures.token at c.in_ok-state.ensures.action) ∙ ap (plain_action index) c.in-Error.is in
+    sym (rw c.tok_id.ensures.token at c.in_ok-state.ensures.action_is) ∙ ap (plain_action index) c.in-Error.is in
     record {
       run_stack = c.in_ok-state.ensures.run_stack;
       shifts = λ no. absurd (cc);

@@ -21,19 +21,17 @@ returns g c =
     let i = c.args.place in
     let failure = c.new.result in
     record {
-      error = record {
-        state = c.top.ensures ∙ ap Some (sym c.new.ensures.state);
-        lexeme = elim c.match-get.branch as (λ _. IsLexemeAt facts grammar lexemes i failure.lexeme) [
-          | in-Some w ↦
-              let y = w.in-Some.lexeme.now in
-              let is = slice_get_read lexemes (length lexemes) i y refl (ltb-true i (length lexemes) (sym w.in-Some.ensures.lookup.0)) w.in-Some.ensures.lookup.1 in
-              lexeme_there facts grammar lexemes i failure.lexeme y is (c.new.ensures.lexeme ∙ w.lexeme-is)
-          | in-None w ↦
-              let past : length lexemes ≤ i = ltb-false i (length lexemes) (sym w.in-None.ensures.lookup.0) in
-              let end : index w.eof_token_idx.result.0 ≡ end_token grammar = rw w.grm.ensures at w.eof_token_idx.ensures in
-              lexeme_none facts grammar lexemes i failure.lexeme (slice_get_past lexemes i past)
-              (ap facts (c.new.ensures.lexeme ∙ w.lexeme-is) ∙ (rw end at w.end_lexeme-lexeme.ensures))
-        ];
-        repairs = c.new.ensures.repairs ∙ (c.in_ok-repairs.ensures.repairs ∙ ap (λ left. map (repairs_over left) (plain_sequences index c.args.listed.now)) (take_rest lexemes i));
-      };
+      state = c.top.ensures ∙ ap Some (sym c.new.ensures.state);
+      lexeme = elim c.match-get.branch as (λ _. IsLexemeAt facts grammar lexemes i failure.lexeme) [
+        | in-Some w ↦
+            let y = w.in-Some.lexeme.now in
+            let is = slice_get_read lexemes (length lexemes) i y refl (ltb-true i (length lexemes) (sym w.in-Some.ensures.lookup.0)) w.in-Some.ensures.lookup.1 in
+            lexeme_there facts grammar lexemes i failure.lexeme y is (c.new.ensures.lexeme ∙ w.lexeme-is)
+        | in-None w ↦
+            let past : length lexemes ≤ i = ltb-false i (length lexemes) (sym w.in-None.ensures.lookup.0) in
+            let end : index w.eof_token_idx.result.0 ≡ end_token grammar = rw w.grm.ensures at w.eof_token_idx.ensures in
+            lexeme_none facts grammar lexemes i failure.lexeme (slice_get_past lexemes i past)
+            (ap facts (c.new.ensures.lexeme ∙ w.lexeme-is) ∙ (rw end at w.end_lexeme-lexeme.ensures))
+      ];
+      repairs = c.new.ensures.repairs ∙ (c.in_ok-repairs.ensures.repairs ∙ ap (λ left. map (repairs_over left) (plain_sequences index c.args.listed.now)) (take_rest lexemes i));
     }

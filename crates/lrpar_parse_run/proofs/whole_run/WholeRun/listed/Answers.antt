@@ -37,4 +37,4 @@ returns g c =
     rw c.states-states.ensures at c.new-point.ensures in
     let allowed = subst (λ p. g.R.Recoverer.allows self.recoverer.now p answer) point c.in_ok-answer.ensures.allowed in
     let those = rw (c.new.ensures.checked, c.new.ensures.lexemes, c.new.ensures.shifts, c.states-states.ensures) at c.listed.ensures.listed in
-    record { listed = listed_ok about self.lexemes.now index c.args.stack.now.states c.args.place answer c.listed.result allowed those }
+    listed_ok about self.lexemes.now index c.args.stack.now.states c.args.place answer c.listed.result allowed those

@@ -20,15 +20,20 @@ stops-init g c =
     let first = there_first about (g.B.Build.builds build) self.lexemes.now c.in_ok-stack.stack is in
     let none : c.new-errors.result.items ≡ [] = c.new-errors.ensures.items in
     record {
-      run_stack = record { symbols = first.represents.symbols; path = first.represents.path; suit = first.represents.suit };
-      rises = (0, omega arith, subst (λ (es : List g.row.B-Entry.Denot). (g.B.Build.builds build).rises es 0) (sym (ap (λ (s : Stacked g.row.B-Entry.Denot). s.entries) is)) (g.met.B.Build.rising build d.grammar).with_none);
-      within = omega arith;
+      here = record {
+        can = c.requires.can;
+        valid = c.requires.valid;
+        starts = c.starts_rise.ensures;
+        run_stack = record { symbols = first.represents.symbols; path = first.represents.path; suit = first.represents.suit };
+        rises = (0, omega arith, subst (λ (es : List g.row.B-Entry.Denot). (g.B.Build.builds build).rises es 0) (sym (ap (λ (s : Stacked g.row.B-Entry.Denot). s.entries) is)) (g.met.B.Build.rising build d.grammar).with_none);
+        within = omega arith;
+      };
       there = ([], first, subst (AllZip (IsRepairErrorOf about self.lexemes.now) []) (sym none) tt);
       on = λ some. absurd (omega (arith, some, ap length none));
     }
 
-pub far-requires-clause-rises : goal.far-requires-clause-rises
-far-requires-clause-rises g c = c.stops.invariant.rises
+pub far-requires : goal.far-requires
+far-requires g c = c.stops.invariant.here
 
 pub into_entry-requires : goal.into_entry-requires
 into_entry-requires g c =
@@ -48,21 +53,16 @@ returns-in_default g c =
     accepted_answer about (g.B.Build.builds self.run.build.now) self.lexemes.now (Some c.into_entry.result, c.stops.errors) c.stable-stable.ensures.checked c.stable-stable.ensures.runs c.stops.stack c.stops.place there.0 there.1 c.far.new.stack
     far c.into_entry.result c.into_entry.ensures refl there.2
 
-pub resume-requires-clause-run_stack : goal.resume-requires-clause-run_stack
-resume-requires-clause-run_stack g c = c.in_ok-stop.ensures.run_stack
-
-pub resume-requires-clause-rises : goal.resume-requires-clause-rises
-resume-requires-clause-rises g c = rw c.in-Some.is at c.in_ok-stop.ensures.rises
-
-pub resume-requires-clause-fails : goal.resume-requires-clause-fails
-resume-requires-clause-fails g c =
+pub resume-requires : goal.resume-requires
+resume-requires g c =
     let self = c.args.self.now in
     let far = rw c.in-Some.is at c.in_ok-stop.ensures.far in
-    far_fails (facts_by g.StorageT.StorageIndex.index g.LexerTypesT.LexemeT.Lexeme.parts) (g.B.Build.builds self.run.build.now) self.run.checked.now self.lexemes.now
-    c.stops.stack c.stops.place c.in-Some.stop c.far.new.stack c.stable-stable.ensures.runs c.requires.valid c.stops.invariant.run_stack far
-
-pub resume-requires-clause-within : goal.resume-requires-clause-within
-resume-requires-clause-within g c = rw c.in-Some.is at c.in_ok-stop.ensures.within
+    record {
+      there = rw c.in-Some.is at c.in_ok-stop.ensures.there;
+      shifts = c.requires.shifts;
+      fails = far_fails (facts_by g.StorageT.StorageIndex.index g.LexerTypesT.LexemeT.Lexeme.parts) (g.B.Build.builds self.run.build.now) self.run.checked.now self.lexemes.now
+          c.stops.stack c.stops.place c.in-Some.stop c.far.new.stack c.stable-stable.ensures.runs c.requires.valid c.stops.invariant.here.run_stack far;
+    }
 
 pub returns-in_default-2 : goal.returns-in_default-2
 returns-in_default-2 g c =
@@ -81,7 +81,7 @@ stops-smaller g c =
     let far = rw c.in-Some.is at c.in_ok-stop.ensures.far in
     stop_smaller about (g.B.Build.builds self.run.build.now) self.lexemes.now c.stable-stable.ensures.runs c.stops.stack c.stops.place there.0 there.1 c.far.new.stack c.in-Some.stop far
     c.stops.errors.items c.resume.new.errors.items there.2 c.resume.new.stack c.in_ok-next.field-0 c.in_ok-next.ensures.recovered c.in-Some-2.next c.in-Some-2.is
-    c.requires.shifts (rw c.in-Some-2.is at c.in_ok-next.ensures.within) c.stops.invariant.on
+    c.requires.shifts (rw c.in-Some-2.is at c.in_ok-next.ensures.there).within c.stops.invariant.on
 
 pub stops-preserved : goal.stops-preserved
 stops-preserved g c =
@@ -91,9 +91,7 @@ stops-preserved g c =
     let there = c.stops.invariant.there in
     let far = rw c.in-Some.is at c.in_ok-stop.ensures.far in
     record {
-      run_stack = c.in_ok-next.ensures.run_stack;
-      rises = rw c.in-Some-2.is at c.in_ok-next.ensures.rises;
-      within = rw c.in-Some-2.is at c.in_ok-next.ensures.within;
+      here = rw c.in-Some-2.is at c.in_ok-next.ensures.there;
       there =
           stop_goes_on about builds self.lexemes.now c.stable-stable.ensures.runs c.stops.stack c.stops.place there.0 there.1 c.far.new.stack c.in-Some.stop far
           c.stops.errors.items c.resume.new.errors.items there.2 c.resume.new.stack c.in_ok-next.field-0 c.in_ok-next.ensures.recovered c.in-Some-2.next c.in-Some-2.is;

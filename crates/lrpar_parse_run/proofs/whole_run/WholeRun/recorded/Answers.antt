@@ -10,10 +10,8 @@ returns g c =
     let listed = c.in_ok-listed.listed.items in
     let error = c.in_ok-error.field-0 in
     record {
-      recorded = record {
-        is = c.in_ok-listed.ensures.listed;
-        error = error;
-        error_is = error_of_listed about self.lexemes.now index c.args.stack.now.states c.args.place listed c.deref.result.now c.deref.ensures.value error c.in_ok-error.ensures.error;
-        added = c.in_ok-push.ensures.items;
-      };
+      is = c.in_ok-listed.ensures;
+      error = error;
+      error_is = error_of_listed about self.lexemes.now index c.args.stack.now.states c.args.place listed c.deref.result.now c.deref.ensures.value error c.in_ok-error.ensures;
+      added = c.in_ok-push.ensures.items;
     }

@@ -7,25 +7,30 @@ use Rattle.lrpar_parse_repair.specs.Sequences.{PlainStep}
 use Rattle.lrpar_parse_run.proofs.WholeRunLemmas.{first_replays, first_sequence, no_sequence}
 use Rattle.lrpar_parse_run.proofs.whole_run.WholeRun.resume.Goals as goal
 
-pub recorded-requires-clause-stack : goal.recorded-requires-clause-stack
-recorded-requires-clause-stack g c =
-    let run_stack = c.requires.run_stack in
+pub recorded-requires-clause-stop : goal.recorded-requires-clause-stop
+recorded-requires-clause-stop g c =
+    let run_stack = c.requires.there.run_stack in
     let table = c.stable-stable.ensures.table in
-    path_is_stack c.args.self.now.run.checked.now.table (rw table at c.tokens_len-tokens.ensures.end) (rw table at c.rules_len-rules.ensures.end) run_stack.symbols c.args.stack.now.states run_stack.path
+    let stack = path_is_stack c.args.self.now.run.checked.now.table (rw table at c.tokens_len-tokens.ensures.end) (rw table at c.rules_len-rules.ensures.end) run_stack.symbols c.args.stack.now.states run_stack.path in
+    record { valid = c.requires.there.valid; shifts = c.requires.shifts; stack = stack; fails = c.requires.fails; within = c.requires.there.within }
 
-pub returns-in_default-clause-recovered : goal.returns-in_default-clause-recovered
-returns-in_default-clause-recovered g c =
+pub returns-in_default : goal.returns-in_default
+returns-in_default g c =
     let index = g.StorageT.StorageIndex.index in
     let self = c.args.self.now in
     let about = subject index g.LexerTypesT.LexemeT.Lexeme.parts g.R.Recoverer.allows self in
     let old = c.args.stack.now in
     let empty = no_sequence index c.in_ok-listed.listed.items c.deref.result.now c.deref.ensures.value (rw c.in_default.is at c.first.ensures.value) in
     record {
-      listed = plain_sequences index c.in_ok-listed.listed.items;
-      recorded = c.in_ok-listed.ensures.recorded;
-      goes_on =
-          let Goes : List (List PlainStep) → Type 0 = λ l. GoesOnBy about (g.B.Build.builds self.run.build.now) self.lexemes.now l old c.args.stop old None in
-          subst Goes (sym empty) refl;
+      run_stack = c.requires.there.run_stack;
+      there = tt;
+      recovered = record {
+        listed = plain_sequences index c.in_ok-listed.listed.items;
+        recorded = c.in_ok-listed.ensures;
+        goes_on =
+            let Goes : List (List PlainStep) → Type 0 = λ l. GoesOnBy about (g.B.Build.builds self.run.build.now) self.lexemes.now l old c.args.stop old None in
+            subst Goes (sym empty) refl;
+      };
     }
 
 pub replay-requires-clause-works : goal.replay-requires-clause-works
@@ -38,10 +43,10 @@ replay-requires-clause-works g c =
     let are = first_sequence index c.in_ok-listed.listed.items c.deref.result.now first c.deref-2.result.now c.deref.ensures.value c.in-Some.ensures.value c.deref-2.ensures.value in
     let Lists : List (List PlainStep) → Type 0 = λ l. IsListedBy about self.lexemes.now (record { stack = old.states; place = c.args.stop }) l in
     first_replays about (g.B.Build.builds self.run.build.now) self.lexemes.now old old c.args.stop c.args.stop
-    (plain_steps index c.deref-2.result.now) are.0 (subst Lists are.1 c.in_ok-listed.ensures.recorded.is)
+    (plain_steps index c.deref-2.result.now) are.0 (subst Lists are.1 c.in_ok-listed.ensures.is)
 
-pub returns-clause-recovered : goal.returns-clause-recovered
-returns-clause-recovered g c =
+pub returns : goal.returns
+returns g c =
     let index = g.StorageT.StorageIndex.index in
     let self = c.args.self.now in
     let about = subject index g.LexerTypesT.LexemeT.Lexeme.parts g.R.Recoverer.allows self in
@@ -49,10 +54,14 @@ returns-clause-recovered g c =
     let first = c.in-Some.first.now in
     let are = first_sequence index c.in_ok-listed.listed.items c.deref.result.now first c.deref-2.result.now c.deref.ensures.value c.in-Some.ensures.value c.deref-2.ensures.value in
     record {
-      listed = plain_sequences index c.in_ok-listed.listed.items;
-      recorded = c.in_ok-listed.ensures.recorded;
-      goes_on =
-          let Goes : List (List PlainStep) → Type 0 =
-          λ l. GoesOnBy about (g.B.Build.builds self.run.build.now) self.lexemes.now l old c.args.stop c.replay.new.stack (Some c.in_ok-next.next) in
-          subst Goes (sym are.1) c.in_ok-next.ensures.replayed;
+      run_stack = c.in_ok-next.ensures.there.run_stack;
+      there = c.in_ok-next.ensures.there;
+      recovered = record {
+        listed = plain_sequences index c.in_ok-listed.listed.items;
+        recorded = c.in_ok-listed.ensures;
+        goes_on =
+            let Goes : List (List PlainStep) → Type 0 =
+            λ l. GoesOnBy about (g.B.Build.builds self.run.build.now) self.lexemes.now l old c.args.stop c.replay.new.stack (Some c.in_ok-next.next) in
+            subst Goes (sym are.1) c.in_ok-next.ensures.replayed;
+      };
     }
