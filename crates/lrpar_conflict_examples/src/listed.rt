@@ -88,7 +88,8 @@ pub(crate) fn examples_of<StorageT: StorageIndex>(
     ensures refused { IfErr result (IsExampleFault StorageT.index grm.now) }
 {
     let shared = Examples::new(alloc, grm, sgraph, stable)?;
-    Ok(each_example(alloc, grm, sgraph, stable, &shared, conflicts, bound)?)
+    let examples = each_example(alloc, grm, sgraph, stable, &shared, conflicts, bound)?;
+    Ok(examples)
 }
 
 // The same, with what counterexamples need.
