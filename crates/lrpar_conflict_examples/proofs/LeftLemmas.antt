@@ -82,32 +82,32 @@ module _ {U : Type 0} (shown : U → ConflictOf) (marks : List Bool) (p : Preced
   Parted first second = (map shown first ≡ marked_ones marks after) × (map shown second ≡ other_ones marks after)
 
   grown : is_left p (shown x) ≡ true → before ++ shown x ∷ [] ≡ after
-  grown yes = sym (ap (filter (is_left p)) (map-take_more shown xs i x low is) ∙ filter_yes (is_left p) (map shown (take i xs)) (shown x) yes)
+  grown passed = sym (ap (filter (is_left p)) (map-take_more shown xs i x low is) ∙ filter_yes (is_left p) (map shown (take i xs)) (shown x) passed)
 
   pushed : (q : ConflictOf → Bool) (old new : List U) → map shown old ≡ filter q before → new ≡ old ++ x ∷ [] → is_left p (shown x) ≡ true
       → q (shown x) ≡ true → map shown new ≡ filter q after
-  pushed q old new are put yes passes =
+  pushed q old new are put passed passes =
       ap (map shown) put ∙ map-append shown old (x ∷ []) ∙ ap (λ l. l ++ shown x ∷ []) are ∙ sym (filter_yes q before (shown x) passes)
-      ∙ ap (filter q) (grown yes)
+      ∙ ap (filter q) (grown passed)
 
   stays : (q : ConflictOf → Bool) (old : List U) → map shown old ≡ filter q before → is_left p (shown x) ≡ true → q (shown x) ≡ false
       → map shown old ≡ filter q after
-  stays q old are yes fails = are ∙ sym (filter_no q before (shown x) fails) ∙ ap (filter q) (grown yes)
+  stays q old are passed fails = are ∙ sym (filter_no q before (shown x) fails) ∙ ap (filter q) (grown passed)
 
   pub one_met : (new : List U) → new ≡ met ++ x ∷ [] → is_left p (shown x) ≡ true → is_marked marks (shown x).state ≡ true → Parted new other
-  one_met new put yes marked = (
-    pushed (λ (c : ConflictOf). is_marked marks c.state) met new met_are put yes marked,
-    stays (λ (c : ConflictOf). not (is_marked marks c.state)) other others_are yes (ap not marked),
+  one_met new put passed marked = (
+    pushed (λ (c : ConflictOf). is_marked marks c.state) met new met_are put passed marked,
+    stays (λ (c : ConflictOf). not (is_marked marks c.state)) other others_are passed (ap not marked),
   )
 
   pub one_unmet : (new : List U) → new ≡ other ++ x ∷ [] → is_left p (shown x) ≡ true → is_marked marks (shown x).state ≡ false → Parted met new
-  one_unmet new put yes unmarked = (
-    stays (λ (c : ConflictOf). is_marked marks c.state) met met_are yes unmarked,
-    pushed (λ (c : ConflictOf). not (is_marked marks c.state)) other new others_are put yes (ap not unmarked),
+  one_unmet new put passed unmarked = (
+    stays (λ (c : ConflictOf). is_marked marks c.state) met met_are passed unmarked,
+    pushed (λ (c : ConflictOf). not (is_marked marks c.state)) other new others_are put passed (ap not unmarked),
   )
 
   pub none_left : is_left p (shown x) ≡ false → Parted met other
-  none_left no =
+  none_left failed =
       let same : before ≡ after =
-      sym (ap (filter (is_left p)) (map-take_more shown xs i x low is) ∙ filter_no (is_left p) (map shown (take i xs)) (shown x) no) in
+      sym (ap (filter (is_left p)) (map-take_more shown xs i x low is) ∙ filter_no (is_left p) (map shown (take i xs)) (shown x) failed) in
       (met_are ∙ ap (marked_ones marks) same, others_are ∙ ap (other_ones marks) same)
