@@ -2,7 +2,7 @@ use Rattle.std.proofs.Common.{sym, subst}
 use Rattle.std.proofs.lemmas.Result.{on_ok_weaker}
 use Rattle.lrpar_table_rows.proofs.ItemLemmas.{Contains-image}
 use Rattle.lrpar_table_build.specs.BuilderLaws.{lists_in}
-use Rattle.lrpar_conflict_examples.specs.Conflicts.{unmet_in, unmet_of}
+use Rattle.lrpar_conflict_examples.specs.Conflicts.{unmet_of}
 use Rattle.lrpar_conflict_examples.specs.ExamplesFit.{ExampleFits}
 use Rattle.std.specs.List.{Contains}
 use Rattle.lrpar_conflict_examples.proofs.DealtLemmas.{fit_more}
