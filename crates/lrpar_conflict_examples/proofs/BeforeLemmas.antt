@@ -1,6 +1,7 @@
 -- The text of a derivation, cut at the conflict.
 use Rattle.std.proofs.Common.{◌≡◌, ◌<◌, ◌≤◌, ◌∙◌, refl, sym, ap, subst, arith, ℕ, zero, suc, List, [], ◌∷◌, ◌++◌, append_assoc, drop, length, length-append}
 use Rattle.std.proofs.lemmas.List.{append-nil, length-map, nil_from_length}
+use Rattle.lrpar_grammar_places.proofs.ListLemmas.{all_back, all_front}
 use Rattle.lrpar_grammar_places.specs.declared.span.TIdx.{TIdx}
 use Rattle.lrpar_grammar.specs.Grammar.{Grammar, IsWellFormed, Nonterminal, tokens_len}
 use Rattle.lrpar_grammar.specs.Tree.{Tree, leaves}
@@ -10,7 +11,7 @@ use Rattle.lrpar_conflict_examples.specs.Conflicts.{ConflictExampleOf}
 use Rattle.lrpar_conflict_examples.specs.ExamplesFit.{DerivesFrom}
 use Rattle.lrpar_conflict_examples.specs.Fits.{AreMovesOf, AreTokensOf}
 use Rattle.lrpar_conflict_examples.specs.Texts.{AreExampleTexts, IsExampleText}
-use Rattle.lrpar_conflict_examples.proofs.KnownLemmas.{all_back, all_front, leaves_known, tokens_of_tree}
+use Rattle.lrpar_conflict_examples.proofs.KnownLemmas.{leaves_known, tokens_of_tree}
 
 -- the moves of a tree shift its text
 tokens_text : (g : Grammar) (moves : List MoveOf) (tree : Tree ℕ) → AreMovesOf g moves tree → tokens_in moves ≡ leaves tree

@@ -3,25 +3,13 @@ use Rattle.std.proofs.Common.{◌≡◌, ◌<◌, ◌∙◌, refl, sym, ap, subs
 use Rattle.std.specs.List.{All, AllByRecursion}
 use Rattle.std.proofs.lemmas.Bool.{cases_lt}
 use Rattle.std.proofs.lemmas.List.{append-nil}
+use Rattle.lrpar_grammar_places.proofs.ListLemmas.{all_both}
 use Rattle.lrpar_grammar.specs.Grammar.{Grammar, GrammarSymbol, IsListedSymbol, IsWellFormed, Nonterminal, Terminal, end_token, prods_len, rules_len, start_prod, symbols_of, tokens_len}
 use Rattle.lrpar_grammar.specs.Tree.{Forest, Tree, Branch, Cons, Leaf, Nil, forest_leaves, leaves}
 use Rattle.lrpar_table_sentences.specs.Moves.{MoveOf, Makes, Takes, forest_moves, moves_of}
 use Rattle.lrpar_table_sentences.specs.Texts.{AreTreesOf, IsTreeOf}
 use Rattle.lrpar_conflict_derivations.specs.Texts.{tokens_in}
 use Rattle.lrpar_conflict_examples.specs.Fits.{AreTokensOf, IsSymbolOf}
-
--- what holds of two lists holds of both together, and conversely
-pub all_both : {A : Type 0} (P : A → Type 0) (xs ys : List A) → AllByRecursion P xs → AllByRecursion P ys → AllByRecursion P (xs ++ ys)
-all_both P [] ys one other = other
-all_both P (x ∷ xs) ys one other = (one.0, all_both P xs ys one.1 other)
-
-pub all_front : {A : Type 0} (P : A → Type 0) (xs ys : List A) → AllByRecursion P (xs ++ ys) → AllByRecursion P xs
-all_front P [] ys both = tt
-all_front P (x ∷ xs) ys both = (both.0, all_front P xs ys both.1)
-
-pub all_back : {A : Type 0} (P : A → Type 0) (xs ys : List A) → AllByRecursion P (xs ++ ys) → AllByRecursion P ys
-all_back P [] ys both = both
-all_back P (x ∷ xs) ys both = all_back P xs ys both.1
 
 -- a listed symbol is one of the grammar
 listed : (g : Grammar) (s : GrammarSymbol) → IsListedSymbol (rules_len g) (end_token g) s → IsSymbolOf g s

@@ -1,25 +1,23 @@
 -- The conflicts that precedences leave: those in marked states, and the others.
-use Rattle.std.proofs.Common.{◌≡◌, ◌∙◌, refl, sym, ap, subst, ℕ, Bool, true, false, cond, List, [], ◌∷◌, ◌++◌, Option, Some, None, map, not}
+use Rattle.std.proofs.Common.{◌≡◌, ◌<◌, ◌+◌, ◌∙◌, refl, sym, ap, subst, ℕ, Bool, true, false, cond, List, [], ◌∷◌, ◌++◌, Option, Some, None, get_or, length, map, not, take}
 use Rattle.std.specs.Option.{is_none, is_some}
 use Rattle.std.proofs.lemmas.Bool.{false≢true}
 use Rattle.std.specs.List.{Contains, filter}
-use Rattle.std.proofs.lemmas.List.{append-nil, append_assoc, map-append}
+use Rattle.std.proofs.lemmas.List.{append-nil, map-append}
 use Rattle.std.proofs.lemmas.List.Elements.{filter-append}
-use Rattle.lrpar_grammar_places.specs.declared.span.PIdx.{PIdx}
-use Rattle.lrpar_grammar_places.specs.declared.span.StIdx.{StIdx}
-use Rattle.lrpar_grammar_places.specs.declared.span.TIdx.{TIdx}
-use Rattle.lrpar_table_rows.specs.PlainConflicts.{reduce_reduce_of, shift_reduce_of}
-use Rattle.lrpar_table_rows.specs.Table.{ReduceReduce, ShiftReduce}
+use Rattle.lrpar_grammar_places.proofs.ListLemmas.{map-take_more}
+use Rattle.lrpar_table_precedence.specs.Precedence.{PrecedenceLists}
+use Rattle.lrpar_table_rows.specs.Table.{ConflictLists, ReduceReduce}
 use Rattle.lrpar_table_build.proofs.MemberLemmas.{filter_member}
 use Rattle.lrpar_table_sentences.specs.Reachable.{is_marked}
-use Rattle.lrpar_conflict_examples.specs.Conflicts.{AreAmong, ConflictOf, of_reductions, of_shift}
-use Rattle.lrpar_conflict_examples.specs.Met.{marked_ones, other_ones}
+use Rattle.lrpar_conflict_examples.specs.Conflicts.{AreAmong, ConflictOf, conflicts_in, of_reductions, of_shift}
+use Rattle.lrpar_conflict_examples.specs.Met.{conflicts_left, is_left, marked_ones, other_ones}
 
 -- one element more, which passes the test or doesn't
-pub filter_yes : {X : Type 0} (p : X → Bool) (xs : List X) (y : X) → p y ≡ true → filter p (xs ++ y ∷ []) ≡ filter p xs ++ y ∷ []
+filter_yes : {X : Type 0} (p : X → Bool) (xs : List X) (y : X) → p y ≡ true → filter p (xs ++ y ∷ []) ≡ filter p xs ++ y ∷ []
 filter_yes p xs y is = filter-append p xs (y ∷ []) ∙ ap (λ b. filter p xs ++ cond b (y ∷ []) []) is
 
-pub filter_no : {X : Type 0} (p : X → Bool) (xs : List X) (y : X) → p y ≡ false → filter p (xs ++ y ∷ []) ≡ filter p xs
+filter_no : {X : Type 0} (p : X → Bool) (xs : List X) (y : X) → p y ≡ false → filter p (xs ++ y ∷ []) ≡ filter p xs
 filter_no p xs y is = filter-append p xs (y ∷ []) ∙ ap (λ b. filter p xs ++ cond b (y ∷ []) []) is ∙ append-nil (filter p xs)
 
 -- whether there is nothing, by whether there is something
@@ -38,78 +36,78 @@ filter_image f p (x ∷ xs) =
       | false ↦ filter_image f p xs
     ]
 
-module _ {A B U : Type 0} (plain : A → B) (own : B → ConflictOf) (shown : U → ConflictOf) (marks : List Bool) (before after : List B) (x : A)
-    (more : after ≡ before ++ plain x ∷ []) (met : List A) (other : List U) (old : List ConflictOf)
-    (met_are : map plain met ≡ filter (λ b. is_marked marks (own b).state) before)
-    (others_are : map shown other ≡ old ++ other_ones marks (map own before)) where
-  owned : map own after ≡ map own before ++ own (plain x) ∷ []
-  owned = ap (map own) more ∙ map-append own before (plain x ∷ [])
+-- the conflicts that precedences leave are those of all that pass the test
+reductions_left : (p : PrecedenceLists) (xs : List ReduceReduce) → filter (is_left p) (map of_reductions xs) ≡ map of_reductions xs
+reductions_left p [] = refl
+reductions_left p (x ∷ xs) = ap (λ l. of_reductions x ∷ l) (reductions_left p xs)
 
-  -- one more conflict in a marked state
-  pub met_more : (new : List A) → new ≡ met ++ x ∷ [] → is_marked marks (own (plain x)).state ≡ true
-      → (map plain new ≡ filter (λ b. is_marked marks (own b).state) after) × (map shown other ≡ old ++ other_ones marks (map own after))
-  met_more new put marked =
-      let p : B → Bool = λ b. is_marked marks (own b).state in
-      let no : ConflictOf → Bool = λ (c : ConflictOf). not (is_marked marks c.state) in (
-        ap (map plain) put ∙ map-append plain met (x ∷ []) ∙ ap (λ s. s ++ plain x ∷ []) met_are
-            ∙ sym (ap (filter p) more ∙ filter_yes p before (plain x) marked),
-        others_are ∙ ap (λ s. old ++ s) (sym (ap (filter no) owned ∙ filter_no no (map own before) (own (plain x)) (ap not marked))),
-      )
+pub all_left : (p : PrecedenceLists) (lists : ConflictLists) → filter (is_left p) (conflicts_in lists) ≡ conflicts_left p lists
+all_left p lists =
+    filter-append (is_left p) (map of_reductions lists.reduce_reduce) (map of_shift lists.shift_reduce)
+    ∙ ap (λ l. l ++ filter (is_left p) (map of_shift lists.shift_reduce)) (reductions_left p lists.reduce_reduce)
+    ∙ ap (λ l. map of_reductions lists.reduce_reduce ++ l) (sym (filter_image of_shift (is_left p) lists.shift_reduce))
 
-  -- or in another one
-  pub other_more : (new : List U) (u : U) → new ≡ other ++ u ∷ [] → shown u ≡ own (plain x) → is_marked marks (own (plain x)).state ≡ false
-      → (map plain met ≡ filter (λ b. is_marked marks (own b).state) after) × (map shown new ≡ old ++ other_ones marks (map own after))
-  other_more new u put is marked =
-      let p : B → Bool = λ b. is_marked marks (own b).state in
-      let no : ConflictOf → Bool = λ (c : ConflictOf). not (is_marked marks c.state) in (
-        met_are ∙ sym (ap (filter p) more ∙ filter_no p before (plain x) marked),
-        ap (map shown) put ∙ map-append shown other (u ∷ []) ∙ ap (λ s. s ++ shown u ∷ []) others_are
-            ∙ append_assoc old (other_ones marks (map own before)) (shown u ∷ [])
-            ∙ ap (λ c. old ++ (other_ones marks (map own before) ++ c ∷ [])) is
-            ∙ ap (λ s. old ++ s) (sym (ap (filter no) owned ∙ filter_yes no (map own before) (own (plain x)) (ap not marked))),
-      )
+-- so those of them that pass another test are among all
+pub among_left : (p : PrecedenceLists) (marks : List Bool) (lists : ConflictLists) (xs : List ConflictOf) → xs ≡ marked_ones marks (conflicts_left p lists)
+    → AreAmong xs (conflicts_in lists)
+among_left p marks lists xs are = λ x there.
+    let marked = filter_member (λ (c : ConflictOf). is_marked marks c.state) (conflicts_left p lists) x (subst (λ l. Contains l x) are there) in
+    (filter_member (is_left p) (conflicts_in lists) x (subst (λ l. Contains l x) (sym (all_left p lists)) marked.0)).0
 
--- those of both lists
-left_marked : (marks : List Bool) (reductions : List ReduceReduce) (shifts : List ShiftReduce)
-    → map of_reductions (filter (λ x. is_marked marks x.state) reductions) ++ map of_shift (filter (λ x. is_marked marks x.state) shifts)
-    ≡ marked_ones marks (map of_reductions reductions ++ map of_shift shifts)
-left_marked marks reductions shifts =
-    let p : ConflictOf → Bool = λ (c : ConflictOf). is_marked marks c.state in
-    ap (λ s. s ++ map of_shift (filter (λ x. is_marked marks x.state) shifts)) (filter_image of_reductions p reductions)
-    ∙ ap (λ s. filter p (map of_reductions reductions) ++ s) (filter_image of_shift p shifts)
-    ∙ sym (filter-append p (map of_reductions reductions) (map of_shift shifts))
+-- at first there are none
+pub none_parted : {U : Type 0} (shown : U → ConflictOf) (marks : List Bool) (p : PrecedenceLists) (xs met other : List U) → met ≡ [] → other ≡ []
+    → (map shown met ≡ marked_ones marks (filter (is_left p) (map shown (take 0 xs))))
+    × (map shown other ≡ other_ones marks (filter (is_left p) (map shown (take 0 xs))))
+none_parted shown marks p xs met other first second =
+    let none : map shown (take 0 xs) ≡ [] =
+    elim xs as (λ l. map shown (take 0 l) ≡ []) [
+      | [] ↦ refl
+      | y ∷ ys ↦ refl
+    ] in (
+      ap (map shown) first ∙ sym (ap (λ l. marked_ones marks (filter (is_left p) l)) none),
+      ap (map shown) second ∙ sym (ap (λ l. other_ones marks (filter (is_left p) l)) none),
+    )
 
-pub listed_marked : {S : Type 0} (index : S → ℕ) (marks : List Bool) (reductions read : List (TIdx S × PIdx S × PIdx S × StIdx S)) (shifts read_shifts : List (TIdx S × PIdx S × StIdx S))
-    (all : List ReduceReduce) (left : List ShiftReduce) → read ≡ reductions → read_shifts ≡ shifts
-    → map (reduce_reduce_of index) reductions ≡ filter (λ x. is_marked marks x.state) all
-    → map (shift_reduce_of index) shifts ≡ filter (λ x. is_marked marks x.state) left
-    → map of_reductions (map (reduce_reduce_of index) read) ++ map of_shift (map (shift_reduce_of index) read_shifts)
-    ≡ marked_ones marks (map of_reductions all ++ map of_shift left)
-listed_marked index marks reductions read shifts read_shifts all left read_is shifts_is first second =
-    ap (λ xs. map of_reductions (map (reduce_reduce_of index) xs) ++ map of_shift (map (shift_reduce_of index) read_shifts)) read_is
-    ∙ ap (λ xs. map of_reductions (map (reduce_reduce_of index) reductions) ++ map of_shift (map (shift_reduce_of index) xs)) shifts_is
-    ∙ ap (λ xs. map of_reductions xs ++ map of_shift (map (shift_reduce_of index) shifts)) first
-    ∙ ap (λ xs. map of_reductions (filter (λ x. is_marked marks x.state) all) ++ map of_shift xs) second
-    ∙ left_marked marks all left
+-- one conflict more: in the first list if it is left and its state is marked, in the second if it is left and its state isn't marked
+module _ {U : Type 0} (shown : U → ConflictOf) (marks : List Bool) (p : PrecedenceLists) (xs : List U) (i : ℕ) (x : U) (low : i < length xs) (is : x ≡ get_or xs i x)
+    (met other : List U) (met_are : map shown met ≡ marked_ones marks (filter (is_left p) (map shown (take i xs))))
+    (others_are : map shown other ≡ other_ones marks (filter (is_left p) (map shown (take i xs)))) where
+  abbrev before : List ConflictOf
+  before = filter (is_left p) (map shown (take i xs))
 
-left_others : (marks : List Bool) (reductions : List ReduceReduce) (shifts : List ShiftReduce)
-    → other_ones marks (map of_reductions reductions) ++ other_ones marks (map of_shift shifts)
-    ≡ other_ones marks (map of_reductions reductions ++ map of_shift shifts)
-left_others marks reductions shifts =
-    sym (filter-append (λ (c : ConflictOf). not (is_marked marks c.state)) (map of_reductions reductions) (map of_shift shifts))
+  abbrev after : List ConflictOf
+  after = filter (is_left p) (map shown (take (i + 1) xs))
 
-pub listed_others : (marks read read_too : List Bool) (reductions : List ReduceReduce) (shifts : List ShiftReduce) → read ≡ marks → read_too ≡ marks
-    → other_ones read (map of_reductions reductions) ++ other_ones read_too (map of_shift shifts)
-    ≡ other_ones marks (map of_reductions reductions ++ map of_shift shifts)
-listed_others marks read read_too reductions shifts first second =
-    ap (λ m. other_ones m (map of_reductions reductions) ++ other_ones read_too (map of_shift shifts)) first
-    ∙ ap (λ m. other_ones marks (map of_reductions reductions) ++ other_ones m (map of_shift shifts)) second ∙ left_others marks reductions shifts
+  abbrev Parted : List U → List U → Type 0
+  Parted first second = (map shown first ≡ marked_ones marks after) × (map shown second ≡ other_ones marks after)
 
--- those that pass a test are among all
-pub among_filtered : {X : Type 0} (p : X → Bool) (xs ys all : List X) → xs ≡ filter p ys → ys ≡ all → AreAmong xs all
-among_filtered p xs ys all are same = λ x there.
-    subst (λ l. Contains l x) same (filter_member p ys x (subst (λ l. Contains l x) are there)).0
+  grown : is_left p (shown x) ≡ true → before ++ shown x ∷ [] ≡ after
+  grown passed = sym (ap (filter (is_left p)) (map-take_more shown xs i x low is) ∙ filter_yes (is_left p) (map shown (take i xs)) (shown x) passed)
 
-pub among_left : {X : Type 0} (p q : X → Bool) (xs ys all : List X) → xs ≡ filter p (filter q ys) → ys ≡ all → AreAmong xs all
-among_left p q xs ys all are same = λ x there.
-    subst (λ l. Contains l x) same (filter_member q ys x (filter_member p (filter q ys) x (subst (λ l. Contains l x) are there)).0).0
+  pushed : (q : ConflictOf → Bool) (old new : List U) → map shown old ≡ filter q before → new ≡ old ++ x ∷ [] → is_left p (shown x) ≡ true
+      → q (shown x) ≡ true → map shown new ≡ filter q after
+  pushed q old new are put passed passes =
+      ap (map shown) put ∙ map-append shown old (x ∷ []) ∙ ap (λ l. l ++ shown x ∷ []) are ∙ sym (filter_yes q before (shown x) passes)
+      ∙ ap (filter q) (grown passed)
+
+  stays : (q : ConflictOf → Bool) (old : List U) → map shown old ≡ filter q before → is_left p (shown x) ≡ true → q (shown x) ≡ false
+      → map shown old ≡ filter q after
+  stays q old are passed fails = are ∙ sym (filter_no q before (shown x) fails) ∙ ap (filter q) (grown passed)
+
+  pub one_met : (new : List U) → new ≡ met ++ x ∷ [] → is_left p (shown x) ≡ true → is_marked marks (shown x).state ≡ true → Parted new other
+  one_met new put passed marked = (
+    pushed (λ (c : ConflictOf). is_marked marks c.state) met new met_are put passed marked,
+    stays (λ (c : ConflictOf). not (is_marked marks c.state)) other others_are passed (ap not marked),
+  )
+
+  pub one_unmet : (new : List U) → new ≡ other ++ x ∷ [] → is_left p (shown x) ≡ true → is_marked marks (shown x).state ≡ false → Parted met new
+  one_unmet new put passed unmarked = (
+    stays (λ (c : ConflictOf). is_marked marks c.state) met met_are passed unmarked,
+    pushed (λ (c : ConflictOf). not (is_marked marks c.state)) other new others_are put passed (ap not unmarked),
+  )
+
+  pub none_left : is_left p (shown x) ≡ false → Parted met other
+  none_left failed =
+      let same : before ≡ after =
+      sym (ap (filter (is_left p)) (map-take_more shown xs i x low is) ∙ filter_no (is_left p) (map shown (take i xs)) (shown x) failed) in
+      (met_are ∙ ap (marked_ones marks) same, others_are ∙ ap (other_ones marks) same)

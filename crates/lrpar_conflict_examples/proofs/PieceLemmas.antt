@@ -8,7 +8,7 @@ use Rattle.std.proofs.lemmas.List.{append-nil, append_assoc, map-append}
 use Rattle.lrpar_grammar_places.specs.declared.span.PIdx.{PIdx}
 use Rattle.lrpar_grammar.specs.Grammar.{Grammar, GrammarSymbol, IsWellFormed, Nonterminal, Terminal, prods_len, symbols_of, tokens_len}
 use Rattle.lrpar_grammar.specs.Tree.{Forest, Tree, Branch, Cons, Leaf, Nil}
-use Rattle.lrpar_grammar_places.proofs.ListLemmas.{map-take_more}
+use Rattle.lrpar_grammar_places.proofs.ListLemmas.{all_back, all_both, all_front, map-take_more}
 use Rattle.lrpar_table_sentences.specs.Moves.{MoveOf, Makes, Takes, forest_moves, move_of, moves_in, moves_of}
 use Rattle.lrpar_table_sentences.specs.Texts.{AreTreesOf, IsTreeOf}
 use Rattle.lrpar_table_sentences.specs.declared.moves.Move.{Move}
@@ -20,7 +20,7 @@ use Rattle.lrpar_conflict_examples.specs.declared.pieces.Piece.{Piece}
 use Rattle.lrpar_conflict_examples.specs.declared.pieces.Piece.TheVariants.{End, Word}
 use Rattle.lrpar_conflict_examples.specs.declared.pieces.Waiting.{Waiting}
 use Rattle.lrpar_conflict_examples.specs.declared.pieces.Waiting.TheVariants as waits
-use Rattle.lrpar_conflict_examples.proofs.KnownLemmas.{all_back, all_both, all_front, symbols_known}
+use Rattle.lrpar_conflict_examples.proofs.KnownLemmas.{symbols_known}
 
 -- what an entry that waits represents: a tree, or the front of a node
 pub data Represented (S : Type 0) : Type 0 where

@@ -3,9 +3,12 @@ use Rattle.std.specs.Prelude.{◌≡◌, ℕ, List, ◌++◌, map}
 use Rattle.std.specs.List.{AllByRecursion, Contains}
 use Rattle.lrpar_grammar.specs.Grammar.{Grammar}
 use Rattle.lrpar_table_rows.specs.Graph.{Graph}
-use Rattle.lrpar_table_rows.specs.Table.{ConflictLists, ReduceReduce, ShiftReduce}
-use Rattle.lrpar_table_sentences.specs.Moves.{MoveOf, Makes, Takes}
-use Rattle.lrpar_conflict_derivations.specs.Example.{ExampleOf, IsExample}
+use Rattle.lrpar_table_rows.specs.Table.{ConflictLists, ReduceReduce, ShiftReduce, Table}
+use Rattle.lrpar_table_build.specs.Built.{IsBuilt}
+use Rattle.lrpar_table_build.specs.BuilderLaws.{lists_in}
+use Rattle.lrpar_table_sentences.specs.Moves.{MoveOf, Makes, Takes, move_of}
+use Rattle.lrpar_conflict_derivations.specs.Example.{AreExamplesFor, ExampleOf, ExamplesOf, IsExample}
+use Rattle.lrpar_conflict_examples.specs.declared.unresolved.UnmetConflict.{UnmetConflict}
 
 -- a conflict: a state, a token, and the moves by which two derivations go on there
 pub record ConflictOf : Type 0 where
@@ -22,6 +25,19 @@ of_reductions x = record { token = x.token; state = x.state; first = Makes x.fir
 abbrev pub of_shift : ShiftReduce → ConflictOf
 of_shift x = record { token = x.token; state = x.state; first = Makes x.prod; second = Takes x.token }
 
+-- a conflict of the code, and conflicts in order
+abbrev pub unmet_of : {S : Type 0} → (S → ℕ) → UnmetConflict S → ConflictOf
+unmet_of index x = record { token = index x.token.0; state = index x.state.0; first = move_of index x.first; second = move_of index x.second }
+
+abbrev pub unmet_in : {S : Type 0} → (S → ℕ) → List (UnmetConflict S) → List ConflictOf
+unmet_in index conflicts = map (unmet_of index) conflicts
+
+-- the conflicts are at the same token, with the same moves
+pub record AreAlike (one other : ConflictOf) : Type 0 where
+  pub token : one.token ≡ other.token
+  pub first : one.first ≡ other.first
+  pub second : one.second ≡ other.second
+
 -- each of the first list is in the second
 abbrev pub AreAmong : {X : Type 0} → List X → List X → Type 0
 AreAmong {X} xs all = (x : X) → Contains xs x → Contains all x
@@ -30,23 +46,28 @@ AreAmong {X} xs all = (x : X) → Contains xs x → Contains all x
 abbrev pub conflicts_in : ConflictLists → List ConflictOf
 conflicts_in lists = map of_reductions lists.reduce_reduce ++ map of_shift lists.shift_reduce
 
+-- those that a table lists
+abbrev pub listed_of : Table → List ConflictOf
+listed_of table = conflicts_in (lists_in table.conflicts)
+
 -- a conflict with its counterexample
 pub record ConflictExampleOf : Type 0 where
   pub conflict : ConflictOf
   pub example : ExampleOf
 
 -- the counterexample is one of the conflict, and its search had this bound
+abbrev pub IsCounterexample : Grammar → Graph → ℕ → ConflictOf → ExampleOf → Type 0
+IsCounterexample g graph bound c x = IsExample g graph c.state c.token c.first c.second x × (x.bound ≡ bound)
+
 abbrev pub IsExampleOf : Grammar → Graph → ℕ → ConflictExampleOf → Type 0
-IsExampleOf g graph bound x =
-    IsExample g graph x.conflict.state x.conflict.token x.conflict.first x.conflict.second x.example × (x.example.bound ≡ bound)
+IsExampleOf g graph bound x = IsCounterexample g graph bound x.conflict x.example
 
 -- a counterexample of each conflict, in order
 pub record AreExamplesOf (g : Grammar) (graph : Graph) (bound : ℕ) (conflicts : List ConflictOf) (examples : List ConflictExampleOf) : Type 0 where
   pub conflicts_are : map (λ (x : ConflictExampleOf). x.conflict) examples ≡ conflicts
   pub each : AllByRecursion (IsExampleOf g graph bound) examples
 
--- counterexamples were appended, one of each of these conflicts, in order
-pub record AddsExamples (g : Grammar) (graph : Graph) (bound : ℕ) (conflicts : List ConflictOf) (old new : List ConflictExampleOf) : Type 0 where
-  pub more : List ConflictExampleOf
-  pub put : new ≡ old ++ more
-  pub are : AreExamplesOf g graph bound conflicts more
+-- a table that was built of the grammar, and what counterexamples of its conflicts need
+pub record IsReady (g : Grammar) (graph : Graph) (table : Table) (largest : ℕ) (shared : ExamplesOf) : Type 0 where
+  pub built : IsBuilt g graph table
+  pub made : AreExamplesFor g graph table largest shared

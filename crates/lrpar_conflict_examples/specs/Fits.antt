@@ -15,6 +15,9 @@ abbrev pub IsSymbolOf : Grammar → GrammarSymbol → Type 0
 IsSymbolOf g (Nonterminal r) = r < rules_len g
 IsSymbolOf g (Terminal t) = t < tokens_len g
 
+abbrev pub AreSymbolsOf : Grammar → List GrammarSymbol → Type 0
+AreSymbolsOf g symbols = AllByRecursion (IsSymbolOf g) symbols
+
 -- the move shifts a token of the grammar, or reduces a production of it
 abbrev pub IsMoveOf : Grammar → MoveOf → Type 0
 IsMoveOf g (Takes t) = t < tokens_len g

@@ -1,7 +1,8 @@
 -- The states that a parse can meet if precedences resolve conflicts: those that lie on a path of shifts and gotos from the start, without
 -- the shifts that precedences take away.
-use Rattle.std.specs.Prelude.{◌≡◌, ◌<◌, ◌↔◌, ◌&&◌, ◌==◌, ℕ, Bool, true, false, Contains, IsTrue, List, [], ◌∷◌, ◌++◌, Option, Some, None, filter, length, map, not, if◌then◌else◌}
+use Rattle.std.specs.Prelude.{◌≡◌, ◌≢◌, ◌<◌, ◌↔◌, ◌&&◌, ◌||◌, ◌==◌, ℕ, All, Bool, true, false, Contains, IsTrue, List, [], ◌∷◌, ◌++◌, Option, Some, None, filter, length, map, not, if◌then◌else◌}
 use Rattle.std.specs.List.{flat_map, list_any, range_with_len}
+use Rattle.std.specs.Option.{is_none}
 use Rattle.lrpar_grammar.specs.Grammar.{Grammar}
 use Rattle.lrpar_grammar.specs.Tokens.{has}
 use Rattle.lrpar_table_first.specs.FirstRows.{row_at}
@@ -12,9 +13,9 @@ use Rattle.lrpar_table_rows.specs.Graph.{Graph}
 use Rattle.lrpar_table_rows.specs.Table.{ConflictLists, ShiftReduce, Table, TableAction, ShiftTo, ReduceBy, Accepts, Fails, action_of, actions_at, goto_of, gotos_at, states_len}
 use Rattle.lrpar_table_build.specs.BuilderLaws.{lists_in}
 use Rattle.lrpar_table_items.specs.Resolution.{unresolved}
-use Rattle.lrpar_table_sentences.specs.Moves.{move_of}
+use Rattle.lrpar_table_sentences.specs.Moves.{MoveOf, Makes, Takes}
 use Rattle.lrpar_table_sentences.specs.Reachable.{is_marked}
-use Rattle.lrpar_conflict_examples.specs.Conflicts.{AreExamplesOf, ConflictOf, of_reductions, of_shift}
+use Rattle.lrpar_conflict_examples.specs.Conflicts.{AreExamplesOf, ConflictOf, of_reductions, of_shift, unmet_in}
 use Rattle.lrpar_conflict_examples.specs.declared.unresolved.ConflictsLeft.{ConflictsLeft}
 use Rattle.lrpar_conflict_examples.specs.declared.unresolved.UnmetConflict.{UnmetConflict}
 
@@ -29,9 +30,13 @@ loses_shift (Some Error) = true
 abbrev pub takes_away : PrecedenceLists → ℕ → ℕ → ShiftReduce → Bool
 takes_away precedences s t x = loses_shift (resolution_of precedences x.prod x.token) && ((x.state == s) && (x.token == t))
 
+-- whether precedences take away the shift of token t in state s, by one of these conflicts
+abbrev pub take_away : PrecedenceLists → List ShiftReduce → ℕ → ℕ → Bool
+take_away precedences conflicts s t = list_any (takes_away precedences s t) conflicts
+
 -- whether precedences take away the shift of token t in state s
 abbrev pub is_taken_away : PrecedenceLists → Table → ℕ → ℕ → Bool
-is_taken_away precedences table s t = list_any (takes_away precedences s t) (lists_in table.conflicts).shift_reduce
+is_taken_away precedences table s t = take_away precedences (lists_in table.conflicts).shift_reduce s t
 
 -- a step from state s to state next: a shift that precedences leave, or a goto
 pub data IsStep (precedences : PrecedenceLists) (table : Table) (s next : ℕ) : Type 0 where
@@ -49,14 +54,51 @@ pub record AreMarks (precedences : PrecedenceLists) (table : Table) (marks : Lis
   pub start : IsTrue (is_marked marks table.start)
   pub met : (s : ℕ) → IsTrue (is_marked marks s) → IsMet precedences table s
 
+-- whatever the precedences are
+abbrev pub AreMarksByAny : Table → List Bool → Type 0
+AreMarksByAny table marks = (precedences : PrecedenceLists) → AreMarks precedences table marks
+
 -- the states that can be met are marked, and no others
 pub record AreMet (precedences : PrecedenceLists) (table : Table) (marks : List Bool) : Type 0 where
   pub states : length marks ≡ states_len table
   pub exact : (s : ℕ) → IsTrue (is_marked marks s) ↔ IsMet precedences table s
 
+-- a step between two states of the table
+pub record IsStepOf (precedences : PrecedenceLists) (table : Table) (edge : ℕ × ℕ) : Type 0 where
+  pub from : edge.0 < states_len table
+  pub next : edge.1 < states_len table
+  pub step : IsStep precedences table edge.0 edge.1
+
+-- the steps of a table, and no others
+pub record AreSteps (precedences : PrecedenceLists) (table : Table) (edges : List (ℕ × ℕ)) : Type 0 where
+  pub sound : (edge : ℕ × ℕ) → Contains edges edge → IsStepOf precedences table edge
+  pub all : (s next : ℕ) → s < states_len table → IsStep precedences table s next → Contains edges (s, next)
+
+-- if these are a table's steps, and the old list has marks of its states, so does the new one
+abbrev pub KeepsMarks : List (ℕ × ℕ) → List Bool → List Bool → Type 0
+KeepsMarks edges old new =
+    (precedences : PrecedenceLists) (table : Table) → AreSteps precedences table edges → AreMarks precedences table old → AreMarks precedences table new
+
+-- the same, if this is one of its steps
+abbrev pub StepKeepsMarks : ℕ → ℕ → List Bool → List Bool → Type 0
+StepKeepsMarks s next old new =
+    (precedences : PrecedenceLists) (table : Table) → AreMarks precedences table old → IsStep precedences table s next → AreMarks precedences table new
+
 -- a step whose first state is marked leads to a marked one
 abbrev pub MarksNext : List Bool → ℕ × ℕ → Type 0
 MarksNext marks edge = IsTrue (is_marked marks edge.0) → IsTrue (is_marked marks edge.1)
+
+-- both ends of each step are below n
+abbrev pub AreWithin : ℕ → List (ℕ × ℕ) → Type 0
+AreWithin n edges = All (λ edge. (edge.0 < n) × (edge.1 < n)) edges
+
+-- the rows are as long as before
+abbrev pub HasRoomOf : List (List Bool) → List (List Bool) → Type 0
+HasRoomOf old new = map (λ row. length row) new ≡ map (λ row. length row) old
+
+-- the rows have what they had, and each token that passes the test for its row
+abbrev pub AddsTokens : List (List Bool) → List (List Bool) → (ℕ → ℕ → Bool) → Type 0
+AddsTokens old new test = (s t : ℕ) → t < length (row_at old s) → has (row_at new s) t ≡ (has (row_at old s) t || test s t)
 
 -- for each state the tokens whose shift precedences take away
 pub record AreTakenAway (precedences : PrecedenceLists) (table : Table) (rows : List (List Bool)) : Type 0 where
@@ -77,23 +119,29 @@ shift_steps taken s entries = flat_map (λ entry. shift_step taken s entry.0 ent
 abbrev pub goto_steps : ℕ → List (ℕ × ℕ) → List (ℕ × ℕ)
 goto_steps s entries = flat_map (λ entry. (s, entry.1) ∷ []) entries
 
+abbrev pub shift_steps_of : List Bool → Table → ℕ → List (ℕ × ℕ)
+shift_steps_of taken table s = shift_steps taken s (actions_at table s)
+
+abbrev pub goto_steps_of : Table → ℕ → List (ℕ × ℕ)
+goto_steps_of table s = goto_steps s (gotos_at table s)
+
+abbrev pub steps_of : List Bool → Table → ℕ → List (ℕ × ℕ)
+steps_of taken table s = shift_steps_of taken table s ++ goto_steps_of table s
+
+-- what is stored for state s are its actions, and its gotos
+abbrev pub StoresActions : Table → ℕ → Type 0
+StoresActions table s =
+    (t : ℕ) (action : TableAction) → Contains (actions_at table s) (t, action) ↔ ((action_of table s t ≡ action) × (action ≢ Fails))
+
+abbrev pub StoresGotos : Table → ℕ → Type 0
+StoresGotos table s = (r next : ℕ) → Contains (gotos_at table s) (r, next) ↔ (goto_of table s r ≡ Some next)
+
 -- all steps of the states below n, state by state
 abbrev pub steps_at : Table → List (List Bool) → ℕ → List (ℕ × ℕ)
-steps_at table rows s = shift_steps (row_at rows s) s (actions_at table s) ++ goto_steps s (gotos_at table s)
+steps_at table rows s = steps_of (row_at rows s) table s
 
 abbrev pub steps_below : Table → List (List Bool) → ℕ → List (ℕ × ℕ)
 steps_below table rows n = flat_map (steps_at table rows) (range_with_len 0 n)
-
--- a step between two states of the table
-pub record IsStepOf (precedences : PrecedenceLists) (table : Table) (edge : ℕ × ℕ) : Type 0 where
-  pub from : edge.0 < states_len table
-  pub next : edge.1 < states_len table
-  pub step : IsStep precedences table edge.0 edge.1
-
--- the steps of a table, and no others
-pub record AreSteps (precedences : PrecedenceLists) (table : Table) (edges : List (ℕ × ℕ)) : Type 0 where
-  pub sound : (edge : ℕ × ℕ) → Contains edges edge → IsStepOf precedences table edge
-  pub all : (s next : ℕ) → s < states_len table → IsStep precedences table s next → Contains edges (s, next)
 
 -- the conflicts that precedences don't resolve, those between two reductions first
 abbrev pub conflicts_left : PrecedenceLists → ConflictLists → List ConflictOf
@@ -107,9 +155,19 @@ marked_ones marks conflicts = filter (λ (x : ConflictOf). is_marked marks x.sta
 abbrev pub other_ones : List Bool → List ConflictOf → List ConflictOf
 other_ones marks conflicts = filter (λ (x : ConflictOf). not (is_marked marks x.state)) conflicts
 
--- a conflict that no parse meets
-abbrev pub unmet_of : {S : Type 0} → (S → ℕ) → UnmetConflict S → ConflictOf
-unmet_of index x = record { token = index x.token.0; state = index x.state.0; first = move_of index x.first; second = move_of index x.second }
+-- precedences don't resolve the conflict: it is one between two reductions, or they have no answer
+abbrev pub is_left_between : PrecedenceLists → MoveOf → MoveOf → Bool
+is_left_between precedences (Makes p) (Takes t) = is_none (resolution_of precedences p t)
+is_left_between precedences (Makes p) (Makes q) = true
+is_left_between precedences (Takes t) second = true
+
+abbrev pub is_left : PrecedenceLists → ConflictOf → Bool
+is_left precedences x = is_left_between precedences x.first x.second
+
+-- the conflicts that precedences leave are in two lists: those in states that are marked, and the others
+pub record AreParted {S : Type 0} (index : S → ℕ) (precedences : PrecedenceLists) (table : Table) (marks : List Bool) (first second : List (UnmetConflict S)) : Type 0 where
+  pub met : unmet_in index first ≡ marked_ones marks (conflicts_left precedences (lists_in table.conflicts))
+  pub unmet : unmet_in index second ≡ other_ones marks (conflicts_left precedences (lists_in table.conflicts))
 
 -- the conflicts that precedences leave: a counterexample of each in a state that can be met, and the others
 pub record AreConflictsLeft {S : Type 0} (index : S → ℕ) (g : Grammar) (precedences : PrecedenceLists) (graph : Graph) (table : Table) (bound : ℕ)
@@ -117,4 +175,4 @@ pub record AreConflictsLeft {S : Type 0} (index : S → ℕ) (g : Grammar) (prec
   pub marks : List Bool
   pub met : AreMet precedences table marks
   pub examples : AreExamplesOf g graph bound (marked_ones marks (conflicts_left precedences (lists_in table.conflicts))) left.examples.items
-  pub unmet : map (unmet_of index) left.unmet.items ≡ other_ones marks (conflicts_left precedences (lists_in table.conflicts))
+  pub unmet : unmet_in index left.unmet.items ≡ other_ones marks (conflicts_left precedences (lists_in table.conflicts))

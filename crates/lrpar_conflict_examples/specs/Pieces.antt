@@ -1,13 +1,16 @@
 -- The pieces of the text of a tree, from right to left.
 use Rattle.std.specs.Prelude.{◌≡◌, ◌<◌, ℕ, List, [], ◌∷◌, ◌++◌, codes, replicate}
 use Rattle.lrpar_grammar.specs.Grammar.{Grammar, prod_len, prods_len, tokens_len}
+use Rattle.lrpar_grammar.specs.Tree.{Tree}
+use Rattle.lrpar_table_sentences.specs.Moves.{MoveOf}
 use Rattle.lrpar_table_sentences.specs.declared.moves.Move.{Move}
 use Rattle.lrpar_table_sentences.specs.declared.moves.Move.TheVariants.{Make, Take}
-use Rattle.lrpar_conflict_examples.specs.Words.{front_text, word_text}
+use Rattle.lrpar_conflict_examples.specs.Fits.{AreMovesOf}
+use Rattle.lrpar_conflict_examples.specs.Words.{front_text, tree_text, word_text}
 use Rattle.lrpar_conflict_examples.specs.declared.pieces.Piece.{Piece}
 use Rattle.lrpar_conflict_examples.specs.declared.pieces.Piece.TheVariants.{End, Front, Word}
 use Rattle.lrpar_conflict_examples.specs.declared.pieces.Waiting.{Waiting}
-use Rattle.lrpar_conflict_examples.specs.declared.pieces.Waiting.TheVariants.{Before, Tree}
+use Rattle.lrpar_conflict_examples.specs.declared.pieces.Waiting.TheVariants as waits
 
 -- a piece is of the grammar
 abbrev pub PieceFits : {S : Type 0} → (S → ℕ) → Grammar → Piece S → Type 0
@@ -26,9 +29,13 @@ abbrev pub backward_text : {S : Type 0} → (S → ℕ) → Grammar → List (Pi
 backward_text index g [] = []
 backward_text index g (x ∷ xs) = backward_text index g xs ++ piece_text index g x
 
+-- they are the text of the tree that has these moves
+abbrev pub AreTextOf : {S : Type 0} → (S → ℕ) → Grammar → List MoveOf → List (Piece S) → Type 0
+AreTextOf index g moves pieces = (tree : Tree ℕ) → AreMovesOf g moves tree → backward_text index g pieces ≡ tree_text g tree
+
 -- a tree whose last move is this one is taken up: a token is all of it; of a node there is the end, and its trees wait, and before them its
 -- front
 abbrev pub Meets : {S : Type 0} → (S → ℕ) → Grammar → Move S → List (Piece S) → List (Piece S) → List (Waiting S) → List (Waiting S) → Type 0
-Meets index g (Take t) old new waits waiting = (new ≡ old ++ Word t ∷ []) × (waiting ≡ waits)
-Meets index g (Make p) old new waits waiting =
-    (new ≡ old ++ End ∷ []) × (waiting ≡ (waits ++ Before p ∷ []) ++ replicate (prod_len g (index p.0)) Tree)
+Meets index g (Take t) old new left waiting = (new ≡ old ++ Word t ∷ []) × (waiting ≡ left)
+Meets index g (Make p) old new left waiting =
+    (new ≡ old ++ End ∷ []) × (waiting ≡ (left ++ waits.Before p ∷ []) ++ replicate (prod_len g (index p.0)) waits.Tree)

@@ -1,12 +1,13 @@
 -- The texts of counterexamples.
-use Rattle.std.specs.Prelude.{◌≡◌, ℕ, List, [], ◌∷◌, ◌++◌, codes, if◌then◌else◌}
+use Rattle.std.specs.Prelude.{◌≡◌, ℕ, List, [], ◌∷◌, ◌++◌, String, codes, if◌then◌else◌}
 use Rattle.std.specs.Fmt.{decimal}
 use Rattle.lrpar_grammar.specs.Grammar.{Grammar}
 use Rattle.lrpar_grammar.specs.Tree.{Tree, leaves}
+use Rattle.lrpar_table_sentences.specs.Moves.{MoveOf}
 use Rattle.lrpar_conflict_derivations.specs.Example.{ExampleOf}
 use Rattle.lrpar_conflict_examples.specs.Conflicts.{ConflictExampleOf}
 use Rattle.lrpar_conflict_examples.specs.Fits.{AreMovesOf}
-use Rattle.lrpar_conflict_examples.specs.Words.{derivation_text, shown_name, text_line}
+use Rattle.lrpar_conflict_examples.specs.Words.{Appends, derivation_text, shown_name, text_line}
 
 -- that the derivations have two texts, and the bound of the search for one
 abbrev pub bound_text : ℕ → List ℕ
@@ -24,11 +25,18 @@ title_text g x = codes "'" ++ shown_name g x.conflict.token ++ codes "' in state
 abbrev pub other_line : Grammar → ExampleOf → List ℕ → List ℕ
 other_line g x text = if x.ambiguous then [] else text_line g x.before text
 
+-- the lines of the texts of trees
+abbrev pub tree_line : Grammar → List ℕ → Tree ℕ → List ℕ
+tree_line g before tree = text_line g before (leaves tree)
+
+abbrev pub other_tree_line : Grammar → ExampleOf → Tree ℕ → List ℕ
+other_tree_line g x tree = other_line g x (leaves tree)
+
 -- a counterexample whose derivations are those of these trees
 abbrev pub example_text : Grammar → ConflictExampleOf → Tree ℕ → Tree ℕ → List ℕ
 example_text g x first second =
-    title_text g x ++ text_line g x.example.before (leaves first) ++ derivation_text g x.conflict.first first
-    ++ other_line g x.example (leaves second) ++ derivation_text g x.conflict.second second ++ 10 ∷ []
+    title_text g x ++ tree_line g x.example.before first ++ derivation_text g x.conflict.first first
+    ++ other_tree_line g x.example second ++ derivation_text g x.conflict.second second ++ 10 ∷ []
 
 -- the text of a counterexample: that of the trees whose moves its derivations are
 pub record IsExampleText (g : Grammar) (x : ConflictExampleOf) (text : List ℕ) : Type 0 where
@@ -37,6 +45,14 @@ pub record IsExampleText (g : Grammar) (x : ConflictExampleOf) (text : List ℕ)
   pub second : Tree ℕ
   pub of_second : AreMovesOf g x.example.second second
   pub is : text ≡ example_text g x first second
+
+-- such a text was added at the end
+abbrev pub AppendsExample : {A : Type 0} → Grammar → ConflictExampleOf → String A → String A → Type 0
+AppendsExample g x old new = (text : List ℕ) × IsExampleText g x text × Appends old new text
+
+-- the text of the tree that has these moves was added at the end
+abbrev pub AppendsOfTree : {A : Type 0} → Grammar → List MoveOf → (Tree ℕ → List ℕ) → String A → String A → Type 0
+AppendsOfTree g moves text old new = (tree : Tree ℕ) → AreMovesOf g moves tree → Appends old new (text tree)
 
 -- the texts of counterexamples, one after the other
 abbrev pub AreExampleTexts : Grammar → List ConflictExampleOf → List ℕ → Type 0

@@ -1,9 +1,13 @@
 -- The texts of tokens, symbols, moves and trees.
-use Rattle.std.specs.Prelude.{ℕ, List, [], ◌∷◌, ◌++◌, codes, drop, length, unwrap_or}
+use Rattle.std.specs.Prelude.{◌≡◌, ℕ, List, [], ◌∷◌, ◌++◌, String, codes, drop, length, string_bytes, unwrap_or}
 use Rattle.std.specs.List.{flat_map}
 use Rattle.lrpar_grammar.specs.Grammar.{Grammar, GrammarSymbol, Nonterminal, Terminal, rule_name, rule_of, symbols_of, token_name}
 use Rattle.lrpar_grammar.specs.Tree.{Forest, Tree, Branch, Cons, Leaf, Nil}
 use Rattle.lrpar_table_sentences.specs.Moves.{MoveOf, Makes, Takes}
+
+-- the text was added at the end
+abbrev pub Appends : {A : Type 0} → String A → String A → List ℕ → Type 0
+Appends old new text = string_bytes new ≡ string_bytes old ++ text
 
 -- a token as conflicts name it: by its name, and the end token by `$`
 abbrev pub shown_name : Grammar → ℕ → List ℕ
@@ -35,9 +39,12 @@ abbrev pub symbol_text : Grammar → GrammarSymbol → List ℕ
 symbol_text g (Nonterminal r) = 32 ∷ rule_name g r
 symbol_text g (Terminal t) = codes " '" ++ shown_name g t ++ codes "'"
 
+abbrev pub symbols_text : Grammar → List GrammarSymbol → List ℕ
+symbols_text g symbols = flat_map (symbol_text g) symbols
+
 -- a production is reduced: `reduce S: 'i' S`
 abbrev pub reduce_text : Grammar → ℕ → List ℕ
-reduce_text g p = codes "reduce " ++ rule_name g (rule_of g p) ++ codes ":" ++ flat_map (symbol_text g) (symbols_of g p)
+reduce_text g p = codes "reduce " ++ rule_name g (rule_of g p) ++ codes ":" ++ symbols_text g (symbols_of g p)
 
 -- what a move does: that, or `shift 'e'`
 abbrev pub move_text : Grammar → MoveOf → List ℕ

@@ -1,11 +1,11 @@
 //! A conflict with its counterexample.
 ghost use Rattle.std.specs.Prelude.{◌≡◌};
-ghost use Rattle.lrpar_table_rows.specs.PlainConflicts.{reduce_reduce_of, shift_reduce_of};
 ghost use Rattle.lrpar_table_sentences.specs.Moves.{move_of};
-ghost use Rattle.lrpar_conflict_examples.specs.Conflicts.{of_reductions, of_shift};
+ghost use Rattle.lrpar_conflict_examples.specs.Conflicts.{unmet_of};
 
+use crate::unresolved::UnmetConflict;
 use lrpar_conflict_derivations::examples::Example;
-use lrpar_grammar::span::{PIdx, StIdx, StorageIndex, TIdx};
+use lrpar_grammar::span::{StIdx, StorageIndex, TIdx};
 use lrpar_table_sentences::moves::Move;
 use std::marker::Model;
 
@@ -29,41 +29,21 @@ impl<StorageT: StorageIndex> Model for ConflictExample<StorageT> {
 }
 
 impl<StorageT: StorageIndex> ConflictExample<StorageT> {
-    // A reduce/reduce conflict.
-    pub(crate) fn of_reductions(
-        conflict: &(
-            TIdx<StorageT>,
-            PIdx<StorageT>,
-            PIdx<StorageT>,
-            StIdx<StorageT>,
-        ),
-        example: Example<StorageT>,
-    ) -> Self
-        ensures { result ≡ record { conflict = of_reductions (reduce_reduce_of StorageT.index conflict.now); example = example } }
+    // The conflict with this counterexample.
+    pub(crate) fn new(conflict: UnmetConflict<StorageT>, example: Example<StorageT>) -> Self
+        ensures { result ≡ record { conflict = unmet_of StorageT.index conflict; example = example } }
     {
-        let (token, first, second, state) = *conflict;
+        let UnmetConflict {
+            token,
+            state,
+            first,
+            second,
+        } = conflict;
         ConflictExample {
             token,
             state,
-            first: Move::Make(first),
-            second: Move::Make(second),
-            example,
-        }
-    }
-
-    // A shift/reduce conflict.
-    pub(crate) fn of_shift(
-        conflict: &(TIdx<StorageT>, PIdx<StorageT>, StIdx<StorageT>),
-        example: Example<StorageT>,
-    ) -> Self
-        ensures { result ≡ record { conflict = of_shift (shift_reduce_of StorageT.index conflict.now); example = example } }
-    {
-        let (token, prod, state) = *conflict;
-        ConflictExample {
-            token,
-            state,
-            first: Move::Make(prod),
-            second: Move::Take(token),
+            first,
+            second,
             example,
         }
     }

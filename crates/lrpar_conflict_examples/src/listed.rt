@@ -1,17 +1,17 @@
 //! Counterexamples of all conflicts of a table.
-ghost use Rattle.std.specs.Prelude.{◌++◌, IfErr, IfOk, OnOk, map};
+ghost use Rattle.std.specs.Prelude.{◌≡◌, Contains, IfErr, IfOk};
 ghost use Rattle.lrpar_table_build.specs.Built.{IsBuilt};
-ghost use Rattle.lrpar_table_build.specs.BuilderLaws.{lists_in};
-ghost use Rattle.lrpar_table_rows.specs.PlainConflicts.{reduce_reduce_of, shift_reduce_of};
-ghost use Rattle.lrpar_conflict_derivations.specs.Example.{AreExamplesFor, IsExampleFault};
-ghost use Rattle.lrpar_conflict_examples.specs.Conflicts.{AddsExamples, AreAmong, AreExamplesOf, conflicts_in, of_reductions, of_shift};
+ghost use Rattle.lrpar_conflict_derivations.specs.Example.{IsExampleFault};
+ghost use Rattle.lrpar_conflict_examples.specs.Conflicts.{AreAmong, AreExamplesOf, IsCounterexample, IsReady, listed_of, unmet_in, unmet_of};
 ghost use Rattle.lrpar_conflict_examples.specs.ExamplesFit.{ExamplesFit};
 
 use crate::conflict::ConflictExample;
-use lrpar_conflict_derivations::examples::{ExampleFault, Examples};
+use crate::unresolved::UnmetConflict;
+use lrpar_conflict_derivations::examples::{Example, ExampleFault, Examples};
 use lrpar_grammar::grammar::YaccGrammar;
-use lrpar_grammar::span::{PIdx, StIdx, StorageIndex, TIdx};
+use lrpar_grammar::span::StorageIndex;
 use lrpar_table_rows::table::{StateGraph, StateTable};
+use lrpar_table_sentences::moves::Move;
 use std::alloc::{AllocError, Global};
 
 /// A counterexample of each conflict of a table that was built of the grammar: first those of reduce/reduce conflicts, then those of
@@ -29,17 +29,47 @@ pub fn conflict_examples<StorageT: StorageIndex>(
     bound: usize,
 ) -> Result<Vec<ConflictExample<StorageT>>, ExampleFault<StorageT>>
     requires built { IsBuilt grm.now sgraph.now stable.now }
-    ensures examples { IfOk result (λ examples. AreExamplesOf grm.now sgraph.now bound (conflicts_in (lists_in stable.now.conflicts)) examples.items) }
+    ensures examples { IfOk result (λ examples. AreExamplesOf grm.now sgraph.now bound (listed_of stable.now) examples.items) }
     ensures fit { IfOk result (λ examples. ExamplesFit grm.now examples.items) }
     ensures refused { IfErr result (IsExampleFault StorageT.index grm.now) }
 {
-    match stable.conflicts() {
-        Some(conflicts) => {
-            let (reductions, shifts) = (conflicts.rr_conflicts(), conflicts.sr_conflicts());
-            examples_of(alloc, grm, sgraph, stable, reductions, shifts, bound)
-        }
-        None => Ok(Vec::new(alloc)),
+    let Some(_) = stable.conflicts() else {
+        return Ok(Vec::new(alloc));
+    };
+    let listed = listed_in(alloc, stable)?;
+    examples_of(alloc, grm, sgraph, stable, &listed, bound)
+}
+
+// The conflicts of a table, those between two reductions first.
+pub(crate) fn listed_in<StorageT: StorageIndex>(
+    alloc: Global,
+    stable: &StateTable<StorageT>,
+) -> Result<Vec<UnmetConflict<StorageT>>, AllocError>
+    ensures { IfOk result (λ listed. unmet_in StorageT.index listed.items ≡ listed_of stable.now) }
+{
+    let mut listed = Vec::new(alloc);
+    let Some(conflicts) = stable.conflicts() else {
+        return Ok(listed);
+    };
+    'reductions: for conflict in conflicts.rr_conflicts() {
+        let (token, first, second, state) = *conflict;
+        listed.push(UnmetConflict {
+            token,
+            state,
+            first: Move::Make(first),
+            second: Move::Make(second),
+        })?;
     }
+    'shifts: for conflict in conflicts.sr_conflicts() {
+        let (token, prod, state) = *conflict;
+        listed.push(UnmetConflict {
+            token,
+            state,
+            first: Move::Make(prod),
+            second: Move::Take(token),
+        })?;
+    }
+    Ok(listed)
 }
 
 // A counterexample of each of these conflicts of the table.
@@ -48,97 +78,66 @@ pub(crate) fn examples_of<StorageT: StorageIndex>(
     grm: &YaccGrammar<StorageT>,
     sgraph: &StateGraph<StorageT>,
     stable: &StateTable<StorageT>,
-    reductions: &[(
-        TIdx<StorageT>,
-        PIdx<StorageT>,
-        PIdx<StorageT>,
-        StIdx<StorageT>,
-    )],
-    shifts: &[(TIdx<StorageT>, PIdx<StorageT>, StIdx<StorageT>)],
+    conflicts: &[UnmetConflict<StorageT>],
     bound: usize,
 ) -> Result<Vec<ConflictExample<StorageT>>, ExampleFault<StorageT>>
     requires built { IsBuilt grm.now sgraph.now stable.now }
-    requires reductions { AreAmong (map (reduce_reduce_of StorageT.index) reductions.now) (lists_in stable.now.conflicts).reduce_reduce }
-    requires shifts { AreAmong (map (shift_reduce_of StorageT.index) shifts.now) (lists_in stable.now.conflicts).shift_reduce }
-    ensures examples { IfOk result (λ examples. AreExamplesOf grm.now sgraph.now bound
-        (map of_reductions (map (reduce_reduce_of StorageT.index) reductions.now) ++ map of_shift (map (shift_reduce_of StorageT.index) shifts.now)) examples.items) }
+    requires listed { AreAmong (unmet_in StorageT.index conflicts.now) (listed_of stable.now) }
+    ensures examples { IfOk result (λ examples. AreExamplesOf grm.now sgraph.now bound (unmet_in StorageT.index conflicts.now) examples.items) }
     ensures fit { IfOk result (λ examples. ExamplesFit grm.now examples.items) }
     ensures refused { IfErr result (IsExampleFault StorageT.index grm.now) }
 {
     let shared = Examples::new(alloc, grm, sgraph, stable)?;
-    let mut examples = Vec::new(alloc);
-    push_reductions(
-        alloc,
-        grm,
-        sgraph,
-        stable,
-        &shared,
-        reductions,
-        bound,
-        &mut examples,
-    )?;
-    push_shifts(
-        alloc,
-        grm,
-        sgraph,
-        stable,
-        &shared,
-        shifts,
-        bound,
-        &mut examples,
-    )?;
+    let examples = each_example(alloc, grm, sgraph, stable, &shared, conflicts, bound)?;
     Ok(examples)
 }
 
-// Adds a counterexample of each of these reduce/reduce conflicts.
-fn push_reductions<StorageT: StorageIndex>(
+// The same, with what counterexamples need.
+fn each_example<StorageT: StorageIndex>(
     alloc: Global,
     grm: &YaccGrammar<StorageT>,
     sgraph: &StateGraph<StorageT>,
     stable: &StateTable<StorageT>,
     shared: &Examples<StorageT>,
-    conflicts: &[(
-        TIdx<StorageT>,
-        PIdx<StorageT>,
-        PIdx<StorageT>,
-        StIdx<StorageT>,
-    )],
+    conflicts: &[UnmetConflict<StorageT>],
     bound: usize,
-    examples: &mut Vec<ConflictExample<StorageT>>,
-) -> Result<(), AllocError>
-    requires built { IsBuilt grm.now sgraph.now stable.now }
-    requires shared { AreExamplesFor grm.now sgraph.now stable.now usize.MAX shared.now }
-    requires conflicts { AreAmong (map (reduce_reduce_of StorageT.index) conflicts.now) (lists_in stable.now.conflicts).reduce_reduce }
-    ensures { OnOk result (AddsExamples grm.now sgraph.now bound (map of_reductions (map (reduce_reduce_of StorageT.index) conflicts.now))
-        examples.old.items examples.new.items) }
+) -> Result<Vec<ConflictExample<StorageT>>, AllocError>
+    requires ready { IsReady grm.now sgraph.now stable.now usize.MAX shared.now }
+    requires listed { AreAmong (unmet_in StorageT.index conflicts.now) (listed_of stable.now) }
+    ensures { IfOk result (λ examples. AreExamplesOf grm.now sgraph.now bound (unmet_in StorageT.index conflicts.now) examples.items) }
 {
+    let mut examples = Vec::new(alloc);
     for conflict in conflicts {
-        let example = shared.of_reduce_reduce(alloc, grm, sgraph, stable, conflict, bound)?;
-        examples.push(ConflictExample::of_reductions(conflict, example))?;
+        let example = example_of(alloc, grm, sgraph, stable, shared, *conflict, bound)?;
+        examples.push(ConflictExample::new(*conflict, example))?;
     }
-    Ok(())
+    Ok(examples)
 }
 
-// Adds a counterexample of each of these shift/reduce conflicts.
-fn push_shifts<StorageT: StorageIndex>(
+// A counterexample of a conflict of the table.
+pub(crate) fn example_of<StorageT: StorageIndex>(
     alloc: Global,
     grm: &YaccGrammar<StorageT>,
     sgraph: &StateGraph<StorageT>,
     stable: &StateTable<StorageT>,
     shared: &Examples<StorageT>,
-    conflicts: &[(TIdx<StorageT>, PIdx<StorageT>, StIdx<StorageT>)],
+    conflict: UnmetConflict<StorageT>,
     bound: usize,
-    examples: &mut Vec<ConflictExample<StorageT>>,
-) -> Result<(), AllocError>
-    requires built { IsBuilt grm.now sgraph.now stable.now }
-    requires shared { AreExamplesFor grm.now sgraph.now stable.now usize.MAX shared.now }
-    requires conflicts { AreAmong (map (shift_reduce_of StorageT.index) conflicts.now) (lists_in stable.now.conflicts).shift_reduce }
-    ensures { OnOk result (AddsExamples grm.now sgraph.now bound (map of_shift (map (shift_reduce_of StorageT.index) conflicts.now))
-        examples.old.items examples.new.items) }
+) -> Result<Example<StorageT>, AllocError>
+    requires ready { IsReady grm.now sgraph.now stable.now usize.MAX shared.now }
+    requires listed { Contains (listed_of stable.now) (unmet_of StorageT.index conflict) }
+    ensures { IfOk result (IsCounterexample grm.now sgraph.now bound (unmet_of StorageT.index conflict)) }
 {
-    for conflict in conflicts {
-        let example = shared.of_shift_reduce(alloc, grm, sgraph, stable, conflict, bound)?;
-        examples.push(ConflictExample::of_shift(conflict, example))?;
+    let (token, state) = (conflict.token, conflict.state);
+    match (conflict.first, conflict.second) {
+        (Move::Make(first), Move::Make(second)) => {
+            let own = (token, first, second, state);
+            shared.of_reduce_reduce(alloc, grm, sgraph, stable, &own, bound)
+        }
+        (Move::Make(prod), Move::Take(_)) => {
+            let own = (token, prod, state);
+            shared.of_shift_reduce(alloc, grm, sgraph, stable, &own, bound)
+        }
+        (Move::Take(_), _) => unreachable!(),
     }
-    Ok(())
 }

@@ -1,19 +1,19 @@
 //! Counterexamples of the conflicts of a table with merged item sets.
-ghost use Rattle.std.specs.Prelude.{◌≡◌, ◌++◌, ◌∷◌, [], Contains, IfOk, IfSome, IsPermutation, OnOk, map};
-ghost use Rattle.lrpar_table_rows.specs.PlainConflicts.{reduce_reduce_of, shift_reduce_of};
-ghost use Rattle.lrpar_table_build.specs.BuilderLaws.{lists_in};
-ghost use Rattle.lrpar_conflict_examples.specs.Conflicts.{conflicts_in, of_reductions, of_shift};
+ghost use Rattle.std.specs.Prelude.{◌≡◌, ◌++◌, ◌∷◌, [], IfOk, IfSome, IsPermutation, OnOk};
+ghost use Rattle.std.specs.Bool.{OnTrue};
+ghost use Rattle.lrpar_table_sentences.specs.Moves.{move_of};
+ghost use Rattle.lrpar_conflict_examples.specs.Conflicts.{AreAlike, listed_of, unmet_of};
 ghost use Rattle.lrpar_conflict_examples.specs.ExamplesFit.{ExamplesFit};
-ghost use Rattle.lrpar_conflict_examples.specs.Merged.{IsCanonicalOf, conflicts_of};
-ghost use Rattle.lrpar_conflict_examples.specs.Met.{unmet_of};
+ghost use Rattle.lrpar_conflict_examples.specs.Merged.{AddsConflict, IsCanonicalOf, IsLike, conflicts_of};
 
 use crate::conflict::ConflictExample;
+use crate::listed::{example_of, listed_in};
 use crate::met::met_states;
 use crate::paired::Pairs;
 use crate::unresolved::{UnmetConflict, is_met};
 use lrpar_conflict_derivations::examples::{ExampleFault, Examples};
 use lrpar_grammar::grammar::YaccGrammar;
-use lrpar_grammar::span::{PIdx, RIdx, StIdx, StorageIndex, TIdx};
+use lrpar_grammar::span::{RIdx, StIdx, StorageIndex};
 use lrpar_table_build::build::{BuildFault, from_yacc};
 use lrpar_table_precedence::precedences::Precedences;
 use lrpar_table_rows::table::{StateGraph, StateTable};
@@ -89,6 +89,8 @@ struct Canonical<StorageT: StorageIndex> {
     sgraph: StateGraph<StorageT>,
     stable: StateTable<StorageT>,
     shared: Examples<StorageT>,
+    // Its conflicts.
+    listed: Vec<UnmetConflict<StorageT>>,
     // For each of its states whether a parse can meet it.
     marks: Vec<bool>,
     // Its states and those of the table with merged item sets.
@@ -102,12 +104,14 @@ impl<StorageT: StorageIndex> Drop for Canonical<StorageT> {
             sgraph,
             stable,
             shared,
+            listed,
             marks,
             pairs,
         } = self;
         drop(sgraph);
         drop(stable);
         drop(shared);
+        drop(listed);
         drop(marks);
         drop(pairs);
     }
@@ -133,23 +137,22 @@ pub fn conflict_examples_by<StorageT: StorageIndex>(
 ) -> Result<MergedConflicts<StorageT>, NoExamples<StorageT>>
     ensures fit { IfOk result (λ found. ExamplesFit grm.now found.examples.items) }
     // Each conflict of the table is in one of the three lists, as often as the table lists it, and they have no others.
-    ensures all { IfOk result (λ found. IsPermutation (conflicts_in (lists_in stable.now.conflicts)) (conflicts_of StorageT.index found)) }
+    ensures all { IfOk result (λ found. IsPermutation (listed_of stable.now) (conflicts_of StorageT.index found)) }
 {
     let mut found = MergedConflicts {
         examples: Vec::new(alloc),
         unmet: Vec::new(alloc),
         merged: Vec::new(alloc),
     };
-    match stable.conflicts() {
-        Some(conflicts) => {
-            let (reductions, shifts) = (conflicts.rr_conflicts(), conflicts.sr_conflicts());
-            let canonical = Canonical::new(alloc, grm, precedences, stable, max_states)?;
-            push_reductions(alloc, grm, &canonical, reductions, bound, &mut found)?;
-            push_shifts(alloc, grm, &canonical, shifts, bound, &mut found)?;
-            Ok(found)
-        }
-        None => Ok(found),
+    let Some(_) = stable.conflicts() else {
+        return Ok(found);
+    };
+    let canonical = Canonical::new(alloc, grm, precedences, stable, max_states)?;
+    let listed = listed_in(alloc, stable)?;
+    for conflict in &listed {
+        push(alloc, grm, &canonical, *conflict, bound, &mut found)?;
     }
+    Ok(found)
 }
 
 impl<StorageT: StorageIndex> Canonical<StorageT> {
@@ -161,16 +164,18 @@ impl<StorageT: StorageIndex> Canonical<StorageT> {
         merged: &StateTable<StorageT>,
         max_states: usize,
     ) -> Result<Self, NoExamples<StorageT>>
-        ensures { IfOk result (IsCanonicalOf grm.now usize.MAX) }
+        ensures { IfOk result (IsCanonicalOf StorageT.index grm.now usize.MAX) }
     {
         let (sgraph, stable) = from_yacc(alloc, grm, max_states)?;
         let shared = Examples::new(alloc, grm, &sgraph, &stable)?;
+        let listed = listed_in(alloc, &stable)?;
         let marks = met_states(alloc, precedences, &stable)?;
         let pairs = Pairs::new(alloc, &stable, merged)?;
         Ok(Canonical {
             sgraph,
             stable,
             shared,
+            listed,
             marks,
             pairs,
         })
@@ -181,64 +186,12 @@ impl<StorageT: StorageIndex> Canonical<StorageT> {
         is_met(&self.marks, state) && self.pairs.are_paired(state, other)
     }
 
-    // Its first conflict between these two reductions at this token, in a state that is within this one of the other table.
-    fn reductions_like(
-        &self,
-        conflict: &(
-            TIdx<StorageT>,
-            PIdx<StorageT>,
-            PIdx<StorageT>,
-            StIdx<StorageT>,
-        ),
-    ) -> Option<
-        (
-            TIdx<StorageT>,
-            PIdx<StorageT>,
-            PIdx<StorageT>,
-            StIdx<StorageT>,
-        ),
-    >
-        ensures member { IfSome result (λ x. Contains (lists_in self.now.stable.conflicts).reduce_reduce (reduce_reduce_of StorageT.index x)) }
-        ensures token { IfSome result (λ x. StorageT.index x.0.0 ≡ StorageT.index conflict.now.0.0) }
-        ensures first { IfSome result (λ x. StorageT.index x.1.0 ≡ StorageT.index conflict.now.1.0) }
-        ensures second { IfSome result (λ x. StorageT.index x.2.0 ≡ StorageT.index conflict.now.2.0) }
+    // Its first conflict at the same token with the same moves, in a state that is within that of the other table.
+    fn like(&self, conflict: UnmetConflict<StorageT>) -> Option<UnmetConflict<StorageT>>
+        ensures { IfSome result (IsLike StorageT.index self.now.listed.items conflict) }
     {
-        let Some(conflicts) = self.stable.conflicts() else {
-            return None;
-        };
-        let (token, first, second, state) = *conflict;
-        for own in conflicts.rr_conflicts() {
-            let (its_token, its_first, its_second, its_state) = *own;
-            if usize::from(its_token) == usize::from(token)
-                && usize::from(its_first) == usize::from(first)
-                && usize::from(its_second) == usize::from(second)
-                && self.is_within(its_state, state)
-            {
-                return Some(*own);
-            }
-        }
-        None
-    }
-
-    // Its first conflict between this reduction and the shift of the token, in a state that is within this one of the other table.
-    fn shift_like(
-        &self,
-        conflict: &(TIdx<StorageT>, PIdx<StorageT>, StIdx<StorageT>),
-    ) -> Option<(TIdx<StorageT>, PIdx<StorageT>, StIdx<StorageT>)>
-        ensures member { IfSome result (λ x. Contains (lists_in self.now.stable.conflicts).shift_reduce (shift_reduce_of StorageT.index x)) }
-        ensures token { IfSome result (λ x. StorageT.index x.0.0 ≡ StorageT.index conflict.now.0.0) }
-        ensures prod { IfSome result (λ x. StorageT.index x.1.0 ≡ StorageT.index conflict.now.1.0) }
-    {
-        let Some(conflicts) = self.stable.conflicts() else {
-            return None;
-        };
-        let (token, prod, state) = *conflict;
-        for own in conflicts.sr_conflicts() {
-            let (its_token, its_prod, its_state) = *own;
-            if usize::from(its_prod) == usize::from(prod)
-                && usize::from(its_token) == usize::from(token)
-                && self.is_within(its_state, state)
-            {
+        for own in &self.listed {
+            if are_alike(*own, conflict) && self.is_within(own.state, conflict.state) {
                 return Some(*own);
             }
         }
@@ -246,125 +199,51 @@ impl<StorageT: StorageIndex> Canonical<StorageT> {
     }
 }
 
-// Adds these reduce/reduce conflicts, each to its list.
-fn push_reductions<StorageT: StorageIndex>(
-    alloc: Global,
-    grm: &YaccGrammar<StorageT>,
-    canonical: &Canonical<StorageT>,
-    conflicts: &[(
-        TIdx<StorageT>,
-        PIdx<StorageT>,
-        PIdx<StorageT>,
-        StIdx<StorageT>,
-    )],
-    bound: usize,
-    found: &mut MergedConflicts<StorageT>,
-) -> Result<(), AllocError>
-    requires canonical { IsCanonicalOf grm.now usize.MAX canonical.now }
-    requires fit { ExamplesFit grm.now found.old.examples.items }
-    ensures fit { OnOk result (ExamplesFit grm.now found.new.examples.items) }
-    ensures all { OnOk result (IsPermutation (conflicts_of StorageT.index found.old ++ map of_reductions (map (reduce_reduce_of StorageT.index) conflicts.now))
-        (conflicts_of StorageT.index found.new)) }
+// Whether two conflicts are at the same token, with the same moves.
+fn are_alike<StorageT: StorageIndex>(
+    one: UnmetConflict<StorageT>,
+    other: UnmetConflict<StorageT>,
+) -> bool
+    ensures { OnTrue result (AreAlike (unmet_of StorageT.index one) (unmet_of StorageT.index other)) }
 {
-    for conflict in conflicts {
-        push_reduction(alloc, grm, canonical, conflict, bound, found)?;
-    }
-    Ok(())
+    usize::from(one.token) == usize::from(other.token)
+        && are_same(one.first, other.first)
+        && are_same(one.second, other.second)
 }
 
-// Adds a reduce/reduce conflict to its list.
-fn push_reduction<StorageT: StorageIndex>(
+// Whether two moves are the same.
+fn are_same<StorageT: StorageIndex>(one: Move<StorageT>, other: Move<StorageT>) -> bool
+    ensures { OnTrue result (move_of StorageT.index one ≡ move_of StorageT.index other) }
+{
+    match (one, other) {
+        (Move::Take(token), Move::Take(same)) => usize::from(token) == usize::from(same),
+        (Move::Make(prod), Move::Make(same)) => usize::from(prod) == usize::from(same),
+        _ => false,
+    }
+}
+
+// Adds a conflict to its list.
+fn push<StorageT: StorageIndex>(
     alloc: Global,
     grm: &YaccGrammar<StorageT>,
     canonical: &Canonical<StorageT>,
-    conflict: &(
-        TIdx<StorageT>,
-        PIdx<StorageT>,
-        PIdx<StorageT>,
-        StIdx<StorageT>,
-    ),
+    conflict: UnmetConflict<StorageT>,
     bound: usize,
     found: &mut MergedConflicts<StorageT>,
 ) -> Result<(), AllocError>
-    requires canonical { IsCanonicalOf grm.now usize.MAX canonical.now }
+    requires canonical { IsCanonicalOf StorageT.index grm.now usize.MAX canonical.now }
     requires fit { ExamplesFit grm.now found.old.examples.items }
     ensures fit { OnOk result (ExamplesFit grm.now found.new.examples.items) }
-    ensures all { OnOk result (IsPermutation (of_reductions (reduce_reduce_of StorageT.index conflict.now) ∷ conflicts_of StorageT.index found.old)
-        (conflicts_of StorageT.index found.new)) }
+    ensures all { OnOk result (AddsConflict StorageT.index (unmet_of StorageT.index conflict) found.old found.new) }
 {
-    match canonical.reductions_like(conflict) {
+    match canonical.like(conflict) {
         Some(own) => {
             let (sgraph, stable) = (&canonical.sgraph, &canonical.stable);
             let shared = &canonical.shared;
-            let example = shared.of_reduce_reduce(alloc, grm, sgraph, stable, &own, bound)?;
-            push_example(found, ConflictExample::of_reductions(conflict, example))
+            let example = example_of(alloc, grm, sgraph, stable, shared, own, bound)?;
+            push_example(found, ConflictExample::new(conflict, example))
         }
-        None => {
-            let (token, first, second, state) = *conflict;
-            let apart = UnmetConflict {
-                token,
-                state,
-                first: Move::Make(first),
-                second: Move::Make(second),
-            };
-            push_apart(found, canonical, apart)
-        }
-    }
-}
-
-// Adds these shift/reduce conflicts, each to its list.
-fn push_shifts<StorageT: StorageIndex>(
-    alloc: Global,
-    grm: &YaccGrammar<StorageT>,
-    canonical: &Canonical<StorageT>,
-    conflicts: &[(TIdx<StorageT>, PIdx<StorageT>, StIdx<StorageT>)],
-    bound: usize,
-    found: &mut MergedConflicts<StorageT>,
-) -> Result<(), AllocError>
-    requires canonical { IsCanonicalOf grm.now usize.MAX canonical.now }
-    requires fit { ExamplesFit grm.now found.old.examples.items }
-    ensures fit { OnOk result (ExamplesFit grm.now found.new.examples.items) }
-    ensures all { OnOk result (IsPermutation (conflicts_of StorageT.index found.old ++ map of_shift (map (shift_reduce_of StorageT.index) conflicts.now))
-        (conflicts_of StorageT.index found.new)) }
-{
-    for conflict in conflicts {
-        push_shift(alloc, grm, canonical, conflict, bound, found)?;
-    }
-    Ok(())
-}
-
-// Adds a shift/reduce conflict to its list.
-fn push_shift<StorageT: StorageIndex>(
-    alloc: Global,
-    grm: &YaccGrammar<StorageT>,
-    canonical: &Canonical<StorageT>,
-    conflict: &(TIdx<StorageT>, PIdx<StorageT>, StIdx<StorageT>),
-    bound: usize,
-    found: &mut MergedConflicts<StorageT>,
-) -> Result<(), AllocError>
-    requires canonical { IsCanonicalOf grm.now usize.MAX canonical.now }
-    requires fit { ExamplesFit grm.now found.old.examples.items }
-    ensures fit { OnOk result (ExamplesFit grm.now found.new.examples.items) }
-    ensures all { OnOk result (IsPermutation (of_shift (shift_reduce_of StorageT.index conflict.now) ∷ conflicts_of StorageT.index found.old)
-        (conflicts_of StorageT.index found.new)) }
-{
-    match canonical.shift_like(conflict) {
-        Some(own) => {
-            let (sgraph, stable) = (&canonical.sgraph, &canonical.stable);
-            let shared = &canonical.shared;
-            let example = shared.of_shift_reduce(alloc, grm, sgraph, stable, &own, bound)?;
-            push_example(found, ConflictExample::of_shift(conflict, example))
-        }
-        None => {
-            let (token, prod, state) = *conflict;
-            let apart = UnmetConflict {
-                token,
-                state,
-                first: Move::Make(prod),
-                second: Move::Take(token),
-            };
-            push_apart(found, canonical, apart)
-        }
+        None => push_apart(found, canonical, conflict),
     }
 }
 
@@ -374,7 +253,7 @@ fn push_example<StorageT: StorageIndex>(
     example: ConflictExample<StorageT>,
 ) -> Result<(), AllocError>
     ensures examples { OnOk result (found.new.examples.items ≡ found.old.examples.items ++ example ∷ []) }
-    ensures all { OnOk result (IsPermutation (example.conflict ∷ conflicts_of StorageT.index found.old) (conflicts_of StorageT.index found.new)) }
+    ensures all { OnOk result (AddsConflict StorageT.index example.conflict found.old found.new) }
 {
     found.examples.push(example)?;
     Ok(())
@@ -387,7 +266,7 @@ fn push_apart<StorageT: StorageIndex>(
     conflict: UnmetConflict<StorageT>,
 ) -> Result<(), AllocError>
     ensures examples { OnOk result (found.new.examples ≡ found.old.examples) }
-    ensures all { OnOk result (IsPermutation (unmet_of StorageT.index conflict ∷ conflicts_of StorageT.index found.old) (conflicts_of StorageT.index found.new)) }
+    ensures all { OnOk result (AddsConflict StorageT.index (unmet_of StorageT.index conflict) found.old found.new) }
 {
     if canonical.pairs.is_paired(conflict.state) {
         found.merged.push(conflict)?;

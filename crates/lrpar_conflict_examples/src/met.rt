@@ -1,16 +1,13 @@
 //! The states that a parse can meet if precedences resolve conflicts.
-ghost use Rattle.std.specs.Prelude.{◌≡◌, ◌≢◌, ◌<◌, ◌==◌, ◌&&◌, ◌||◌, ◌++◌, ◌↔◌, ℕ, All, Contains, IfOk, OnOk, Some, length, map};
+ghost use Rattle.std.specs.Prelude.{◌≡◌, ◌<◌, ◌==◌, ◌&&◌, ◌++◌, All, IfOk, OnOk, length, map};
 ghost use Rattle.std.specs.Bool.{OnFalse, OnTrue};
-ghost use Rattle.std.specs.List.{list_any};
-ghost use Rattle.lrpar_grammar.specs.Tokens.{has};
-ghost use Rattle.lrpar_table_first.specs.FirstRows.{HoldNothing, row_at, rows_of};
-ghost use Rattle.lrpar_table_precedence.specs.Precedence.{PrecedenceLists};
+ghost use Rattle.lrpar_table_first.specs.FirstRows.{HoldNothing, rows_of};
 ghost use Rattle.lrpar_table_rows.specs.PlainConflicts.{shift_reduce_of};
 ghost use Rattle.lrpar_table_rows.specs.PlainRows.{plain_action};
-ghost use Rattle.lrpar_table_rows.specs.Table.{Fails, Table, TableAction, action_of, actions_at, goto_of, gotos_at, states_len};
+ghost use Rattle.lrpar_table_rows.specs.Table.{states_len};
 ghost use Rattle.lrpar_table_sentences.specs.AccessLens.{IsStoredAt};
-ghost use Rattle.lrpar_conflict_examples.specs.Met.{AreMarks, AreMet, AreSteps, AreTakenAway, IsStep, MarksNext, goto_steps, loses_shift, shift_step, shift_steps, takes_away};
 ghost use Rattle.lrpar_table_sentences.specs.Reachable.{unmarked};
+ghost use Rattle.lrpar_conflict_examples.specs.Met.{AddsTokens, AreMarksByAny, AreMet, AreSteps, AreTakenAway, AreWithin, HasRoomOf, KeepsMarks, MarksNext, StepKeepsMarks, StoresActions, StoresGotos, goto_steps_of, loses_shift, shift_step, shift_steps_of, steps_of, take_away};
 
 use lrpar_grammar::span::{PIdx, StIdx, StorageIndex, TIdx};
 use lrpar_grammar::token_set::TokenSet;
@@ -37,7 +34,7 @@ fn start_marked<StorageT: StorageIndex>(
     alloc: Global,
     stable: &StateTable<StorageT>,
 ) -> Result<Vec<bool>, AllocError>
-    ensures { IfOk result (λ marks. (precedences : PrecedenceLists) → AreMarks precedences stable.now marks.items) }
+    ensures { IfOk result (λ marks. AreMarksByAny stable.now marks.items) }
 {
     let mut marks = vec![in alloc; false; stable.states_len()]?;
     marks[usize::from(stable.start_state())] = true;
@@ -46,9 +43,8 @@ fn start_marked<StorageT: StorageIndex>(
 
 // Marks what steps from marked states lead to, and returns whether any was new.
 fn mark_all(edges: &[(usize, usize)], marks: &mut [bool]) -> bool
-    requires within { All (λ edge. (edge.0 < length marks.old) × (edge.1 < length marks.old)) edges.now }
-    ensures marks { (precedences : PrecedenceLists) (table : Table) → AreSteps precedences table edges.now → AreMarks precedences table marks.old
-        → AreMarks precedences table marks.new }
+    requires within { AreWithin (length marks.old) edges.now }
+    ensures marks { KeepsMarks edges.now marks.old marks.new }
     ensures len { length marks.new ≡ length marks.old }
     ensures grown { OnTrue result (unmarked marks.new < unmarked marks.old) }
     ensures closed { OnFalse result (All (MarksNext marks.new) edges.now) }
@@ -66,8 +62,7 @@ fn mark_all(edges: &[(usize, usize)], marks: &mut [bool]) -> bool
 // Marks the next state, if the one that a step comes from is marked, and returns whether it was new.
 fn mark_next(marks: &mut [bool], from: usize, next: usize) -> bool
     requires { (from < length marks.old) × (next < length marks.old) }
-    ensures marks { (precedences : PrecedenceLists) (table : Table) → AreMarks precedences table marks.old → IsStep precedences table from next
-        → AreMarks precedences table marks.new }
+    ensures marks { StepKeepsMarks from next marks.old marks.new }
     ensures len { length marks.new ≡ length marks.old }
     ensures grown { OnTrue result (unmarked marks.new < unmarked marks.old) }
     ensures same { OnFalse result (marks.new ≡ marks.old) }
@@ -106,8 +101,7 @@ fn push_steps<StorageT: StorageIndex>(
     taken: &TokenSet,
 ) -> Result<(), AllocError>
     requires { StorageT.index s.0 < states_len stable.now }
-    ensures edges { OnOk result (edges.new.items ≡ edges.old.items ++ (shift_steps taken.now.bits.items (StorageT.index s.0) (actions_at stable.now (StorageT.index s.0))
-        ++ goto_steps (StorageT.index s.0) (gotos_at stable.now (StorageT.index s.0)))) }
+    ensures edges { OnOk result (edges.new.items ≡ edges.old.items ++ steps_of taken.now.bits.items stable.now (StorageT.index s.0)) }
     ensures stored { OnOk result (IsStoredAt stable.now (StorageT.index s.0)) }
 {
     push_shifts(edges, stable, s, taken)?;
@@ -122,13 +116,18 @@ fn push_shifts<StorageT: StorageIndex>(
     taken: &TokenSet,
 ) -> Result<(), AllocError>
     requires { StorageT.index s.0 < states_len stable.now }
-    ensures edges { OnOk result (edges.new.items ≡ edges.old.items ++ shift_steps taken.now.bits.items (StorageT.index s.0) (actions_at stable.now (StorageT.index s.0))) }
-    ensures stored { OnOk result ((t : ℕ) (action : TableAction) → Contains (actions_at stable.now (StorageT.index s.0)) (t, action)
-        ↔ ((action_of stable.now (StorageT.index s.0) t ≡ action) × (action ≢ Fails))) }
+    ensures edges { OnOk result (edges.new.items ≡ edges.old.items ++ shift_steps_of taken.now.bits.items stable.now (StorageT.index s.0)) }
+    ensures stored { OnOk result (StoresActions stable.now (StorageT.index s.0)) }
 {
     let (tokens, actions) = stable.actions_of(s);
     for (place, token) in tokens.iter().enumerate() {
-        push_shift(edges, s, *token, actions[place], taken)?;
+        push_shift(
+            edges,
+            usize::from(s),
+            usize::from(*token),
+            actions[place],
+            taken,
+        )?;
     }
     Ok(())
 }
@@ -136,17 +135,17 @@ fn push_shifts<StorageT: StorageIndex>(
 // Appends the step by an action at a token, if it is a shift that isn't taken away.
 fn push_shift<StorageT: StorageIndex>(
     edges: &mut Vec<(usize, usize)>,
-    s: StIdx<StorageT>,
-    token: TIdx<StorageT>,
+    state: usize,
+    token: usize,
     action: Action<StorageT>,
     taken: &TokenSet,
 ) -> Result<(), AllocError>
-    ensures { OnOk result (edges.new.items ≡ edges.old.items ++ shift_step taken.now.bits.items (StorageT.index s.0) (StorageT.index token.0) (plain_action StorageT.index action)) }
+    ensures { OnOk result (edges.new.items ≡ edges.old.items ++ shift_step taken.now.bits.items state token (plain_action StorageT.index action)) }
 {
     match action {
         Action::Shift(next) => {
-            if !taken.contains(usize::from(token)) {
-                edges.push((usize::from(s), usize::from(next)))?;
+            if !taken.contains(token) {
+                edges.push((state, usize::from(next)))?;
             }
             Ok(())
         }
@@ -161,9 +160,8 @@ fn push_gotos<StorageT: StorageIndex>(
     s: StIdx<StorageT>,
 ) -> Result<(), AllocError>
     requires { StorageT.index s.0 < states_len stable.now }
-    ensures edges { OnOk result (edges.new.items ≡ edges.old.items ++ goto_steps (StorageT.index s.0) (gotos_at stable.now (StorageT.index s.0))) }
-    ensures stored { OnOk result ((r next : ℕ) → Contains (gotos_at stable.now (StorageT.index s.0)) (r, next)
-        ↔ (goto_of stable.now (StorageT.index s.0) r ≡ Some next)) }
+    ensures edges { OnOk result (edges.new.items ≡ edges.old.items ++ goto_steps_of stable.now (StorageT.index s.0)) }
+    ensures stored { OnOk result (StoresGotos stable.now (StorageT.index s.0)) }
 {
     let (rules, states) = stable.gotos_of(s);
     for (place, _) in rules.iter().enumerate() {
@@ -207,9 +205,8 @@ fn take_all<StorageT: StorageIndex>(
     precedences: &Precedences,
     conflicts: &[(TIdx<StorageT>, PIdx<StorageT>, StIdx<StorageT>)],
 )
-    ensures room { map (λ row. length row) (rows_of sets.new) ≡ map (λ row. length row) (rows_of sets.old) }
-    ensures exact { (s t : ℕ) → t < length (row_at (rows_of sets.old) s) → has (row_at (rows_of sets.new) s) t
-        ≡ (has (row_at (rows_of sets.old) s) t || list_any (takes_away precedences.now s t) (map (shift_reduce_of StorageT.index) conflicts.now)) }
+    ensures room { HasRoomOf (rows_of sets.old) (rows_of sets.new) }
+    ensures exact { AddsTokens (rows_of sets.old) (rows_of sets.new) (take_away precedences.now (map (shift_reduce_of StorageT.index) conflicts.now)) }
 {
     for conflict in conflicts {
         let (token, prod, state) = *conflict;
@@ -221,9 +218,8 @@ fn take_all<StorageT: StorageIndex>(
 
 // Adds the token to the set of the state, if both are within range.
 fn take_shift(sets: &mut [TokenSet], state: usize, token: usize)
-    ensures room { map (λ row. length row) (rows_of sets.new) ≡ map (λ row. length row) (rows_of sets.old) }
-    ensures exact { (s t : ℕ) → t < length (row_at (rows_of sets.old) s) → has (row_at (rows_of sets.new) s) t
-        ≡ (has (row_at (rows_of sets.old) s) t || ((state == s) && (token == t))) }
+    ensures room { HasRoomOf (rows_of sets.old) (rows_of sets.new) }
+    ensures exact { AddsTokens (rows_of sets.old) (rows_of sets.new) (λ s t. (state == s) && (token == t)) }
 {
     if state >= sets.len() {
         return;

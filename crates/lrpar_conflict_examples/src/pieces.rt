@@ -1,13 +1,12 @@
 //! The text of a tree that is given by its moves. They are read from the last one back: so each node comes before its trees, and the last
 //! of these first. The text's pieces come from right to left, and nothing recurses, however deep the tree is.
-ghost use Rattle.std.specs.Prelude.{◌≡◌, ◌<◌, ◌++◌, ℕ, All, IfOk, OnOk, replicate};
-ghost use Rattle.std.specs.String.{string_bytes};
+ghost use Rattle.std.specs.Prelude.{◌≡◌, ◌<◌, ◌++◌, All, IfOk, OnOk, replicate};
 ghost use Rattle.lrpar_grammar.specs.Grammar.{prods_len};
-ghost use Rattle.lrpar_grammar.specs.Tree.{Tree};
 ghost use Rattle.lrpar_table_sentences.specs.Moves.{move_of, moves_in};
-ghost use Rattle.lrpar_conflict_examples.specs.Fits.{AreMovesOf, HasTree, IsMoveOf};
-ghost use Rattle.lrpar_conflict_examples.specs.Pieces.{Meets, PieceFits, backward_text, piece_text};
-ghost use Rattle.lrpar_conflict_examples.specs.Words.{front_text, tree_text};
+ghost use Rattle.lrpar_conflict_examples.specs.Fits.{HasTree, IsMoveOf};
+ghost use Rattle.lrpar_conflict_examples.specs.Pieces.{AreTextOf, Meets, PieceFits, piece_text};
+ghost use Rattle.lrpar_conflict_examples.specs.Texts.{AppendsOfTree};
+ghost use Rattle.lrpar_conflict_examples.specs.Words.{Appends, front_text, tree_text};
 
 use crate::words::push_word;
 use lrpar_grammar::grammar::YaccGrammar;
@@ -43,8 +42,7 @@ pub(crate) fn push_tree<StorageT: StorageIndex>(
     moves: &[Move<StorageT>],
 ) -> Result<(), AllocError>
     requires { HasTree grm.now (moves_in StorageT.index moves.now) }
-    ensures { OnOk result ((tree : Tree ℕ) → AreMovesOf grm.now (moves_in StorageT.index moves.now) tree
-        → string_bytes out.new ≡ string_bytes out.old ++ tree_text grm.now tree) }
+    ensures { OnOk result (AppendsOfTree grm.now (moves_in StorageT.index moves.now) (tree_text grm.now) out.old out.new) }
 {
     let mut pieces = pieces_of(alloc, grm, moves)?;
     while let Some(piece) = pieces.pop() {
@@ -61,8 +59,7 @@ fn pieces_of<StorageT: StorageIndex>(
 ) -> Result<Vec<Piece<StorageT>>, AllocError>
     requires { HasTree grm.now (moves_in StorageT.index moves.now) }
     ensures fit { IfOk result (λ pieces. All (PieceFits StorageT.index grm.now) pieces.items) }
-    ensures text { IfOk result (λ pieces. (tree : Tree ℕ) → AreMovesOf grm.now (moves_in StorageT.index moves.now) tree
-        → backward_text StorageT.index grm.now pieces.items ≡ tree_text grm.now tree) }
+    ensures text { IfOk result (λ pieces. AreTextOf StorageT.index grm.now (moves_in StorageT.index moves.now) pieces.items) }
 {
     let _start = grm.start_prod();
     let mut pieces = Vec::new(alloc);
@@ -122,7 +119,7 @@ fn push_piece<StorageT: StorageIndex>(
     piece: Piece<StorageT>,
 ) -> Result<(), AllocError>
     requires { PieceFits StorageT.index grm.now piece }
-    ensures { OnOk result (string_bytes out.new ≡ string_bytes out.old ++ piece_text StorageT.index grm.now piece) }
+    ensures { OnOk result (Appends out.old out.new (piece_text StorageT.index grm.now piece)) }
 {
     match piece {
         Piece::Word(token) => push_word(out, grm, token),
@@ -138,7 +135,7 @@ fn push_front<StorageT: StorageIndex>(
     prod: PIdx<StorageT>,
 ) -> Result<(), AllocError>
     requires { StorageT.index prod.0 < prods_len grm.now }
-    ensures { OnOk result (string_bytes out.new ≡ string_bytes out.old ++ front_text grm.now (StorageT.index prod.0)) }
+    ensures { OnOk result (Appends out.old out.new (front_text grm.now (StorageT.index prod.0))) }
 {
     let name = grm.rule_name_str(grm.prod_to_rule(prod));
     write!(out, " {name}[")

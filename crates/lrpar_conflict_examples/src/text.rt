@@ -1,13 +1,12 @@
 //! The texts of counterexamples.
-ghost use Rattle.std.specs.Prelude.{◌≡◌, ◌≤◌, ◌++◌, ℕ, List, IfOk, OnOk, drop, length};
+ghost use Rattle.std.specs.Prelude.{◌≡◌, ◌≤◌, IfOk, OnOk, drop, length};
 ghost use Rattle.std.specs.String.{string_bytes};
-ghost use Rattle.lrpar_grammar.specs.Tree.{Tree, leaves};
 ghost use Rattle.lrpar_table_sentences.specs.Moves.{move_of, moves_in};
 ghost use Rattle.lrpar_conflict_derivations.specs.Texts.{token_numbers};
 ghost use Rattle.lrpar_conflict_examples.specs.ExamplesFit.{ExampleFits, ExamplesFit, DerivesFrom};
-ghost use Rattle.lrpar_conflict_examples.specs.Fits.{AreMovesOf, AreTokensOf, HasTree, IsMoveOf};
-ghost use Rattle.lrpar_conflict_examples.specs.Texts.{AreExampleTexts, IsExampleText, bound_text, count_text, other_line, title_text};
-ghost use Rattle.lrpar_conflict_examples.specs.Words.{line_text, derivation_text, text_line};
+ghost use Rattle.lrpar_conflict_examples.specs.Fits.{AreTokensOf, HasTree, IsMoveOf};
+ghost use Rattle.lrpar_conflict_examples.specs.Texts.{AppendsExample, AppendsOfTree, AreExampleTexts, bound_text, count_text, other_tree_line, title_text, tree_line};
+ghost use Rattle.lrpar_conflict_examples.specs.Words.{Appends, derivation_text, line_text};
 
 use crate::conflict::ConflictExample;
 use crate::pieces::push_tree;
@@ -61,7 +60,7 @@ fn push_example<StorageT: StorageIndex>(
     shown: &ConflictExample<StorageT>,
 ) -> Result<(), AllocError>
     requires { ExampleFits grm.now shown.now }
-    ensures { OnOk result ((text : List ℕ) × IsExampleText grm.now shown.now text × (string_bytes out.new ≡ string_bytes out.old ++ text)) }
+    ensures { OnOk result (AppendsExample grm.now shown.now out.old out.new) }
 {
     let example = shown.example();
     push_title(out, grm, shown)?;
@@ -79,7 +78,7 @@ fn push_title<StorageT: StorageIndex>(
     shown: &ConflictExample<StorageT>,
 ) -> Result<(), AllocError>
     requires { ExampleFits grm.now shown.now }
-    ensures { OnOk result (string_bytes out.new ≡ string_bytes out.old ++ title_text grm.now shown.now) }
+    ensures { OnOk result (Appends out.old out.new (title_text grm.now shown.now)) }
 {
     let name = shown_name(grm, shown.token());
     let state = usize::from(shown.state());
@@ -93,7 +92,7 @@ fn push_count<StorageT: StorageIndex>(
     out: &mut String,
     example: &Example<StorageT>,
 ) -> Result<(), AllocError>
-    ensures { OnOk result (string_bytes out.new ≡ string_bytes out.old ++ count_text example.now) }
+    ensures { OnOk result (Appends out.old out.new (count_text example.now)) }
 {
     if !example.is_ambiguous() {
         let bound = example.bound();
@@ -104,7 +103,7 @@ fn push_count<StorageT: StorageIndex>(
 
 // Adds that the derivations have two texts, and the bound of the search for one.
 fn push_bound(out: &mut String, bound: usize) -> Result<(), AllocError>
-    ensures { OnOk result (string_bytes out.new ≡ string_bytes out.old ++ bound_text bound) }
+    ensures { OnOk result (Appends out.old out.new (bound_text bound)) }
 {
     write!(out, "two texts; one for both not found within {bound}")
 }
@@ -117,8 +116,7 @@ fn push_other_text<StorageT: StorageIndex>(
     example: &Example<StorageT>,
 ) -> Result<(), AllocError>
     requires { DerivesFrom grm.now example.now.before example.now.second }
-    ensures { OnOk result ((tree : Tree ℕ) → AreMovesOf grm.now example.now.second tree
-        → string_bytes out.new ≡ string_bytes out.old ++ other_line grm.now example.now (leaves tree)) }
+    ensures { OnOk result (AppendsOfTree grm.now example.now.second (other_tree_line grm.now example.now) out.old out.new) }
 {
     if example.is_ambiguous() {
         return Ok(());
@@ -135,8 +133,7 @@ fn push_text<StorageT: StorageIndex>(
     moves: &[Move<StorageT>],
 ) -> Result<(), AllocError>
     requires { DerivesFrom grm.now (token_numbers StorageT.index before.now) (moves_in StorageT.index moves.now) }
-    ensures { OnOk result ((tree : Tree ℕ) → AreMovesOf grm.now (moves_in StorageT.index moves.now) tree
-        → string_bytes out.new ≡ string_bytes out.old ++ text_line grm.now (token_numbers StorageT.index before.now) (leaves tree)) }
+    ensures { OnOk result (AppendsOfTree grm.now (moves_in StorageT.index moves.now) (tree_line grm.now (token_numbers StorageT.index before.now)) out.old out.new) }
 {
     let _start = grm.start_prod();
     let text = tokens_of(alloc, moves)?;
@@ -160,8 +157,7 @@ fn push_line<StorageT: StorageIndex>(
 ) -> Result<(), AllocError>
     requires before { AreTokensOf grm.now (token_numbers StorageT.index before.now) }
     requires rest { AreTokensOf grm.now (token_numbers StorageT.index rest.now) }
-    ensures { OnOk result (string_bytes out.new ≡ string_bytes out.old
-        ++ line_text grm.now (token_numbers StorageT.index before.now) (token_numbers StorageT.index rest.now)) }
+    ensures { OnOk result (Appends out.old out.new (line_text grm.now (token_numbers StorageT.index before.now) (token_numbers StorageT.index rest.now))) }
 {
     out.push(' ')?;
     push_words(out, grm, before)?;
@@ -180,8 +176,7 @@ fn push_derivation<StorageT: StorageIndex>(
 ) -> Result<(), AllocError>
     requires next { IsMoveOf grm.now (move_of StorageT.index next) }
     requires tree { HasTree grm.now (moves_in StorageT.index moves.now) }
-    ensures { OnOk result ((tree : Tree ℕ) → AreMovesOf grm.now (moves_in StorageT.index moves.now) tree
-        → string_bytes out.new ≡ string_bytes out.old ++ derivation_text grm.now (move_of StorageT.index next) tree) }
+    ensures { OnOk result (AppendsOfTree grm.now (moves_in StorageT.index moves.now) (derivation_text grm.now (move_of StorageT.index next)) out.old out.new) }
 {
     out.push_str("  ")?;
     push_move(out, grm, next)?;

@@ -1,26 +1,24 @@
 //! Counterexamples of the conflicts that precedences leave.
-ghost use Rattle.std.specs.Prelude.{◌≡◌, ◌++◌, IfErr, IfOk, OnOk, filter, map};
-ghost use Rattle.lrpar_table_rows.specs.PlainConflicts.{reduce_reduce_of, shift_reduce_of};
+ghost use Rattle.std.specs.Prelude.{◌≡◌, IfErr, IfOk};
 ghost use Rattle.lrpar_table_build.specs.Built.{IsBuilt};
-ghost use Rattle.lrpar_table_items.specs.Resolution.{unresolved};
 ghost use Rattle.lrpar_table_sentences.specs.Reachable.{is_marked};
 ghost use Rattle.lrpar_conflict_derivations.specs.Example.{IsExampleFault};
-ghost use Rattle.lrpar_conflict_examples.specs.Conflicts.{of_reductions, of_shift};
+ghost use Rattle.lrpar_conflict_examples.specs.Conflicts.{unmet_of};
 ghost use Rattle.lrpar_conflict_examples.specs.ExamplesFit.{ExamplesFit};
-ghost use Rattle.lrpar_conflict_examples.specs.Met.{AreConflictsLeft, other_ones, unmet_of};
+ghost use Rattle.lrpar_conflict_examples.specs.Met.{AreConflictsLeft, AreParted, is_left};
 
 use crate::conflict::ConflictExample;
-use crate::listed::examples_of;
+use crate::listed::{examples_of, listed_in};
 use crate::met::met_states;
 use lrpar_conflict_derivations::examples::ExampleFault;
 use lrpar_grammar::grammar::YaccGrammar;
-use lrpar_grammar::span::{PIdx, StIdx, StorageIndex, TIdx};
+use lrpar_grammar::span::{StIdx, StorageIndex, TIdx};
 use lrpar_table_precedence::precedences::Precedences;
-use lrpar_table_rows::table::{Conflicts, StateGraph, StateTable};
+use lrpar_table_rows::table::{StateGraph, StateTable};
 use lrpar_table_sentences::moves::Move;
 use std::alloc::{AllocError, Global};
 
-/// A conflict that no parse meets.
+/// A conflict without a counterexample: no parse meets it, or it comes from merged item sets alone.
 #[derive(Clone, Copy, Debug, PartialEq, Eq)]
 pub struct UnmetConflict<StorageT> {
     /// The token at which the state has the conflict.
@@ -74,90 +72,50 @@ pub fn conflict_examples_with<StorageT: StorageIndex>(
     ensures refused { IfErr result (IsExampleFault StorageT.index grm.now) }
 {
     let marks = met_states(alloc, precedences, stable)?;
-    let mut unmet = Vec::new(alloc);
-    match stable.conflicts() {
-        Some(conflicts) => {
-            let reductions = met_reductions(alloc, conflicts, &marks, &mut unmet)?;
-            let shifts = met_shifts(alloc, precedences, conflicts, &marks, &mut unmet)?;
-            let examples = examples_of(alloc, grm, sgraph, stable, &reductions, &shifts, bound)?;
-            Ok(ConflictsLeft { examples, unmet })
-        }
-        None => Ok(ConflictsLeft {
-            examples: Vec::new(alloc),
-            unmet,
-        }),
-    }
+    let (met, unmet) = parted(alloc, precedences, stable, &marks)?;
+    let Some(_) = stable.conflicts() else {
+        let examples = Vec::new(alloc);
+        return Ok(ConflictsLeft { examples, unmet });
+    };
+    let examples = examples_of(alloc, grm, sgraph, stable, &met, bound)?;
+    Ok(ConflictsLeft { examples, unmet })
 }
 
-// The reduce/reduce conflicts in states that can be met. The others are added to the last list.
-fn met_reductions<StorageT: StorageIndex>(
-    alloc: Global,
-    conflicts: &Conflicts<StorageT>,
-    marks: &[bool],
-    unmet: &mut Vec<UnmetConflict<StorageT>>,
-) -> Result<
-    Vec<
-        (
-            TIdx<StorageT>,
-            PIdx<StorageT>,
-            PIdx<StorageT>,
-            StIdx<StorageT>,
-        ),
-    >,
-    AllocError,
->
-    ensures met { IfOk result (λ met. map (reduce_reduce_of StorageT.index) met.items
-        ≡ filter (λ x. is_marked marks.now x.state) conflicts.now.reduce_reduce) }
-    ensures unmet { OnOk result (map (unmet_of StorageT.index) unmet.new.items
-        ≡ map (unmet_of StorageT.index) unmet.old.items ++ other_ones marks.now (map of_reductions conflicts.now.reduce_reduce)) }
-{
-    let mut met = Vec::new(alloc);
-    for conflict in conflicts.rr_conflicts() {
-        let (token, first, second, state) = *conflict;
-        if is_met(marks, state) {
-            met.push(*conflict)?;
-        } else {
-            unmet.push(UnmetConflict {
-                token,
-                state,
-                first: Move::Make(first),
-                second: Move::Make(second),
-            })?;
-        }
-    }
-    Ok(met)
-}
-
-// The shift/reduce conflicts that precedences leave, in states that can be met. The others that they leave are added to the last list.
-fn met_shifts<StorageT: StorageIndex>(
+// The conflicts that precedences leave: those in states that can be met, and the others.
+fn parted<StorageT: StorageIndex>(
     alloc: Global,
     precedences: &Precedences,
-    conflicts: &Conflicts<StorageT>,
+    stable: &StateTable<StorageT>,
     marks: &[bool],
-    unmet: &mut Vec<UnmetConflict<StorageT>>,
-) -> Result<Vec<(TIdx<StorageT>, PIdx<StorageT>, StIdx<StorageT>)>, AllocError>
-    ensures met { IfOk result (λ met. map (shift_reduce_of StorageT.index) met.items
-        ≡ filter (λ x. is_marked marks.now x.state) (unresolved precedences.now conflicts.now.shift_reduce)) }
-    ensures unmet { OnOk result (map (unmet_of StorageT.index) unmet.new.items ≡ map (unmet_of StorageT.index) unmet.old.items
-        ++ other_ones marks.now (map of_shift (unresolved precedences.now conflicts.now.shift_reduce))) }
+) -> Result<(Vec<UnmetConflict<StorageT>>, Vec<UnmetConflict<StorageT>>), AllocError>
+    ensures { IfOk result (λ lists. AreParted StorageT.index precedences.now stable.now marks.now lists.0.items lists.1.items) }
 {
+    let listed = listed_in(alloc, stable)?;
     let mut met = Vec::new(alloc);
-    for conflict in conflicts.sr_conflicts() {
-        let (token, prod, state) = *conflict;
-        if precedences.resolution(prod, token).is_none() {
-            if is_met(marks, state) {
+    let mut unmet = Vec::new(alloc);
+    for conflict in &listed {
+        if is_left(precedences, *conflict) {
+            if is_met(marks, conflict.state) {
                 met.push(*conflict)?;
             } else {
-                unmet.push(UnmetConflict {
-                    token,
-                    state,
-                    first: Move::Make(prod),
-                    second: Move::Take(token),
-                })?;
+                unmet.push(*conflict)?;
             }
         }
     }
-    Ok(met)
+    Ok((met, unmet))
+}
+
+// Whether precedences leave the conflict.
+fn is_left<StorageT: StorageIndex>(
+    precedences: &Precedences,
+    conflict: UnmetConflict<StorageT>,
+) -> bool
+    ensures { result ≡ is_left precedences.now (unmet_of StorageT.index conflict) }
+{
+    match (conflict.first, conflict.second) {
+        (Move::Make(prod), Move::Take(token)) => precedences.resolution(prod, token).is_none(),
+        _ => true,
+    }
 }
 
 // Whether the state is marked.

@@ -1,12 +1,11 @@
 //! The words of counterexamples' texts.
-ghost use Rattle.std.specs.Prelude.{◌≡◌, ◌<◌, ◌++◌, OnOk, map};
-ghost use Rattle.std.specs.List.{AllByRecursion, flat_map};
-ghost use Rattle.std.specs.String.{string_bytes};
+ghost use Rattle.std.specs.Prelude.{◌≡◌, ◌<◌, OnOk, map};
 ghost use Rattle.lrpar_grammar.specs.Grammar.{prods_len, tokens_len};
 ghost use Rattle.lrpar_grammar.specs.Symbols.{symbol_of};
 ghost use Rattle.lrpar_table_sentences.specs.Moves.{move_of};
-ghost use Rattle.lrpar_conflict_examples.specs.Fits.{AreTokensOf, IsMoveOf, IsSymbolOf};
-ghost use Rattle.lrpar_conflict_examples.specs.Words.{reduce_text, move_text, shown_name, symbol_text, word_text, words_text};
+ghost use Rattle.lrpar_conflict_derivations.specs.Texts.{token_numbers};
+ghost use Rattle.lrpar_conflict_examples.specs.Fits.{AreSymbolsOf, AreTokensOf, IsMoveOf, IsSymbolOf};
+ghost use Rattle.lrpar_conflict_examples.specs.Words.{Appends, move_text, reduce_text, shown_name, symbol_text, symbols_text, word_text, words_text};
 
 use lrpar_grammar::grammar::YaccGrammar;
 use lrpar_grammar::span::{PIdx, StorageIndex, Symbol, TIdx};
@@ -31,7 +30,7 @@ pub(crate) fn push_word<StorageT: StorageIndex>(
     token: TIdx<StorageT>,
 ) -> Result<(), AllocError>
     requires { StorageT.index token.0 < tokens_len grm.now }
-    ensures { OnOk result (string_bytes out.new ≡ string_bytes out.old ++ word_text grm.now (StorageT.index token.0)) }
+    ensures { OnOk result (Appends out.old out.new (word_text grm.now (StorageT.index token.0))) }
 {
     out.push(' ')?;
     out.push_str(shown_name(grm, token))
@@ -43,8 +42,8 @@ pub(crate) fn push_words<StorageT: StorageIndex>(
     grm: &YaccGrammar<StorageT>,
     tokens: &[TIdx<StorageT>],
 ) -> Result<(), AllocError>
-    requires { AreTokensOf grm.now (map (λ t. StorageT.index t.0) tokens.now) }
-    ensures { OnOk result (string_bytes out.new ≡ string_bytes out.old ++ words_text grm.now (map (λ t. StorageT.index t.0) tokens.now)) }
+    requires { AreTokensOf grm.now (token_numbers StorageT.index tokens.now) }
+    ensures { OnOk result (Appends out.old out.new (words_text grm.now (token_numbers StorageT.index tokens.now))) }
 {
     let mut rest = tokens;
     while let Some((token, others)) = rest.split_first() {
@@ -61,7 +60,7 @@ pub(crate) fn push_move<StorageT: StorageIndex>(
     step: Move<StorageT>,
 ) -> Result<(), AllocError>
     requires { IsMoveOf grm.now (move_of StorageT.index step) }
-    ensures { OnOk result (string_bytes out.new ≡ string_bytes out.old ++ move_text grm.now (move_of StorageT.index step)) }
+    ensures { OnOk result (Appends out.old out.new (move_text grm.now (move_of StorageT.index step))) }
 {
     match step {
         Move::Take(token) => {
@@ -79,7 +78,7 @@ fn push_reduce<StorageT: StorageIndex>(
     prod: PIdx<StorageT>,
 ) -> Result<(), AllocError>
     requires { StorageT.index prod.0 < prods_len grm.now }
-    ensures { OnOk result (string_bytes out.new ≡ string_bytes out.old ++ reduce_text grm.now (StorageT.index prod.0)) }
+    ensures { OnOk result (Appends out.old out.new (reduce_text grm.now (StorageT.index prod.0))) }
 {
     let _start = grm.start_prod();
     let name = grm.rule_name_str(grm.prod_to_rule(prod));
@@ -93,9 +92,8 @@ fn push_symbols<StorageT: StorageIndex>(
     grm: &YaccGrammar<StorageT>,
     symbols: &[Symbol<StorageT>],
 ) -> Result<(), AllocError>
-    requires { AllByRecursion (IsSymbolOf grm.now) (map (symbol_of StorageT.index) symbols.now) }
-    ensures { OnOk result (string_bytes out.new ≡ string_bytes out.old
-        ++ flat_map (symbol_text grm.now) (map (symbol_of StorageT.index) symbols.now)) }
+    requires { AreSymbolsOf grm.now (map (symbol_of StorageT.index) symbols.now) }
+    ensures { OnOk result (Appends out.old out.new (symbols_text grm.now (map (symbol_of StorageT.index) symbols.now))) }
 {
     let mut rest = symbols;
     while let Some((symbol, others)) = rest.split_first() {
@@ -112,7 +110,7 @@ fn push_symbol<StorageT: StorageIndex>(
     symbol: Symbol<StorageT>,
 ) -> Result<(), AllocError>
     requires { IsSymbolOf grm.now (symbol_of StorageT.index symbol) }
-    ensures { OnOk result (string_bytes out.new ≡ string_bytes out.old ++ symbol_text grm.now (symbol_of StorageT.index symbol)) }
+    ensures { OnOk result (Appends out.old out.new (symbol_text grm.now (symbol_of StorageT.index symbol))) }
 {
     match symbol {
         Symbol::Rule(rule) => {

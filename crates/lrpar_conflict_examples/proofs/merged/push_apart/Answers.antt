@@ -1,15 +1,22 @@
-use Rattle.std.proofs.Common.{refl}
-use Rattle.lrpar_conflict_examples.proofs.DealtLemmas.{merged_more, unmet_more}
+use Rattle.std.proofs.Common.{◌++◌, map}
+use Rattle.lrpar_conflict_examples.specs.Conflicts.{ConflictExampleOf, unmet_in, unmet_of}
+use Rattle.lrpar_conflict_examples.proofs.DealtLemmas.{behind, to_end, to_front}
 use Rattle.lrpar_conflict_examples.proofs.merged.push_apart.Goals as goal
 
 pub returns-in_ok-push-clause-all : goal.returns-in_ok-push-clause-all
 returns-in_ok-push-clause-all g c =
-    merged_more g.StorageT.StorageIndex.index c.args.found.now
-    (record { examples = c.args.found.now.examples; unmet = c.args.found.now.unmet; merged = c.push.new.self })
-    c.args.conflict refl refl c.in_ok-push.ensures.items
+    let index = g.StorageT.StorageIndex.index in
+    let old = c.args.found.now in
+    let x = unmet_of index c.args.conflict in
+    let unmet = unmet_in index old.unmet.items in
+    behind (map (λ (e : ConflictExampleOf). e.conflict) old.examples.items) (unmet ++ unmet_in index old.merged.items) _ x
+    (behind unmet (unmet_in index old.merged.items) _ x
+    (to_end (unmet_of index) old.merged.items c.push.new.self.items c.args.conflict c.in_ok-push.ensures.items))
 
 pub returns-in_ok-push-2-clause-all : goal.returns-in_ok-push-2-clause-all
 returns-in_ok-push-2-clause-all g c =
-    unmet_more g.StorageT.StorageIndex.index c.args.found.now
-    (record { examples = c.args.found.now.examples; unmet = c.push-else-is_paired.new.self; merged = c.args.found.now.merged })
-    c.args.conflict refl c.in_ok-push-2.ensures.items refl
+    let index = g.StorageT.StorageIndex.index in
+    let old = c.args.found.now in
+    let merged = unmet_in index old.merged.items in
+    behind (map (λ (e : ConflictExampleOf). e.conflict) old.examples.items) (unmet_in index old.unmet.items ++ merged) _ (unmet_of index c.args.conflict)
+    (to_front (unmet_of index) old.unmet.items c.push-else-is_paired.new.self.items c.args.conflict c.in_ok-push-2.ensures.items merged)

@@ -1,9 +1,11 @@
-use Rattle.std.proofs.Common.{refl}
-use Rattle.lrpar_conflict_examples.proofs.DealtLemmas.{example_more}
+use Rattle.std.proofs.Common.{◌++◌}
+use Rattle.lrpar_conflict_examples.specs.Conflicts.{ConflictExampleOf, unmet_in}
+use Rattle.lrpar_conflict_examples.proofs.DealtLemmas.{to_front}
 use Rattle.lrpar_conflict_examples.proofs.merged.push_example.Goals as goal
 
 pub returns-clause-all : goal.returns-clause-all
 returns-clause-all g c =
-    example_more g.StorageT.StorageIndex.index c.args.found.now
-    (record { examples = c.push.new.self; unmet = c.args.found.now.unmet; merged = c.args.found.now.merged }) c.args.example
-    c.in_ok-push.ensures.items refl refl
+    let index = g.StorageT.StorageIndex.index in
+    let old = c.args.found.now in
+    to_front (λ (e : ConflictExampleOf). e.conflict) old.examples.items c.push.new.self.items c.args.example c.in_ok-push.ensures.items
+    (unmet_in index old.unmet.items ++ unmet_in index old.merged.items)

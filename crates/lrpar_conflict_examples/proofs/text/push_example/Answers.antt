@@ -9,6 +9,12 @@ use Rattle.lrpar_conflict_examples.specs.Words.{derivation_text, text_line}
 use Rattle.lrpar_conflict_examples.proofs.TextLemmas.{five_pieces}
 use Rattle.lrpar_conflict_examples.proofs.text.push_example.Goals as goal
 
+pub push_derivation-requires-2-clause-tree : goal.push_derivation-requires-2-clause-tree
+push_derivation-requires-2-clause-tree g c =
+    let other = c.requires.second in
+    let second = c.second-2.ensures ∙ ap (λ (e : ExampleOf). e.second) c.example-example.ensures in
+    (other.tree, subst (λ ms. AreMovesOf c.args.grm.now ms other.tree) (sym second) other.of_tree)
+
 pub returns : goal.returns
 returns g c =
     let index = g.StorageT.StorageIndex.index in
