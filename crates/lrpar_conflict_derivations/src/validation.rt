@@ -43,7 +43,15 @@ pub(crate) fn validated<StorageT: StorageIndex>(
     ensures example { IfOk result (λ found. IfSome found (IsExampleOf grm.now graph.now (conflict_of StorageT.index conflict.now))) }
     ensures bound { IfOk result (λ found. IfSome found (λ x. x.bound ≡ bound)) }
 {
-    match path_moves(alloc, grm, graph, table, shortest, &text.steps, conflict.state)? {
+    match path_moves(
+        alloc,
+        grm,
+        graph,
+        table,
+        shortest,
+        &text.steps,
+        conflict.state,
+    )? {
         None => Ok(None),
         Some(moves) => example_of(alloc, grm, &moves, &front.moves, conflict, text, bound),
     }
