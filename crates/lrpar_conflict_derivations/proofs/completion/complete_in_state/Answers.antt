@@ -15,8 +15,8 @@ prod_to_rule-rule-requires g c =
     (core_known c.args.grm.now c.start_prod-start.ensures.well_formed c.args.graph.now c.requires.parts.canonical (index c.args.state.0) (index c.args.prod.0) 0
     c.requires.state (c.requires.item.0, c.requires.item.1)).0
 
-pub links_to-links-requires-clause-asked : goal.links_to-links-requires-clause-asked
-links_to-links-requires-clause-asked g c = record {
+pub links_to-requires-clause-asked : goal.links_to-requires-clause-asked
+links_to-requires-clause-asked g c = record {
   well_formed = c.start_prod-start.ensures.well_formed;
   firsts = c.requires.parts.firsts;
   canonical = c.requires.parts.canonical;
