@@ -1,13 +1,16 @@
 -- Derivations of the trees that are completed from an item.
-use Rattle.std.proofs.Common.{◌≡◌, ◌≢◌, ◌∙◌, refl, ◌+◌, Some, true, false, arith, sym, ap, subst, inl, ℕ, List, [], ◌∷◌, ◌++◌, drop, slice_get}
+use Rattle.std.proofs.Common.{◌≡◌, ◌≢◌, ◌<◌, ◌∙◌, refl, ◌+◌, Some, true, false, arith, sym, ap, subst, inl, ℕ, List, [], ◌∷◌, ◌++◌, drop, slice_get}
 use Rattle.std.proofs.lemmas.List.{append_assoc, append_cancel_left, drop_all}
-use Rattle.lrpar_grammar.specs.Grammar.{Grammar, GrammarSymbol, Terminal, prod_len, start_prod, symbols_of}
+use Rattle.lrpar_grammar.specs.Grammar.{Grammar, GrammarSymbol, IsWellFormed, Terminal, prod_len, prods_len, start_prod, symbols_of}
 use Rattle.lrpar_grammar.specs.Tree.{Forest, Tree, Cons, Leaf, Nil, forest_leaves}
+use Rattle.lrpar_table_rows.specs.Graph.{Graph, HasItem, graph_len}
+use Rattle.lrpar_table_items.specs.Canonical.{IsCanonical}
 use Rattle.lrpar_table_sentences.specs.Moves.{MoveOf, Makes, Takes, forest_moves, moves_of}
 use Rattle.lrpar_table_sentences.specs.Texts.{AreTreesOf}
 use Rattle.lrpar_conflict_derivations.specs.Completion.{Finishes, HasFinished}
 use Rattle.lrpar_conflict_derivations.specs.Derivation.{IsNext, IsDerivation}
 use Rattle.lrpar_table_sentences.proofs.AfterLemmas.{drop_at_get}
+use Rattle.lrpar_conflict_derivations.proofs.LinkLemmas.{core_known}
 
 -- two derivations that go on with two moves are derivations of two trees
 pub derivations_differ : (g : Grammar) (before : List ℕ) (token : ℕ) (trees : Forest ℕ) (one other : MoveOf) (moves more : List MoveOf)
@@ -86,3 +89,8 @@ module _ (g : Grammar) (token : ℕ) (symbols : List GrammarSymbol) (p k : ℕ) 
         derivation.0,
         subst (λ (ms : List MoveOf). IsDerivation g (forest_leaves trees) token trees (Takes token) ms derivation.0) (sym moves) derivation.1,
       )
+
+-- a complete item of a state is of a production of the grammar
+pub complete_known : (g : Grammar) → IsWellFormed g → (graph : Graph) → IsCanonical g graph → (s p t : ℕ) → s < graph_len graph
+    → HasItem graph s p (prod_len g p) t → p < prods_len g
+complete_known g well graph canonical s p t low has_item = (core_known g well graph canonical s p (prod_len g p) low (t, has_item)).0

@@ -1,4 +1,3 @@
-pub mod OkLemmas
 pub mod BeginLemmas
 pub mod CompletionLemmas
 pub mod DerivationLemmas

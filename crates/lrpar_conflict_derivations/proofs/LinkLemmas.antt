@@ -21,7 +21,7 @@ use Rattle.lrpar_table_first.proofs.GrowthLemmas.{prods_below}
 use Rattle.lrpar_table_items.specs.Canonical.{AreSame, IsCanonical, sets_of}
 use Rattle.lrpar_table_items.specs.ItemSets.{Adds, IsAdvanced, IsReachedBy, IsStartItem, Own}
 use Rattle.lrpar_table_build.proofs.ReachedLemmas.{closure_each, head_after, known_by_symbol, reached_items, symbol_listed}
-use Rattle.lrpar_conflict_derivations.specs.ClosureLinks.{AreKernelItemsNoted, AreLinks, AreNoted, AreNotedOf, ArePut, HasLink, IsKernelItem, IsKernelLink, IsLink, IsLinkBelow, IsNotedCore, IsStep, LinkAll, LinkOf, PassesOn, link_at, link_of, links_of}
+use Rattle.lrpar_conflict_derivations.specs.ClosureLinks.{AreKernelItemsNoted, AreLinks, AreNoted, AreNotedOf, ArePut, HasLink, IsAsked, IsKernelItem, IsKernelLink, IsLink, IsLinkBelow, IsNotedCore, IsStep, LinkAll, LinkOf, PassesOn, link_at, link_of, links_of}
 use Rattle.lrpar_conflict_derivations.specs.declared.closure_links.Link.{Link}
 use Rattle.lrpar_conflict_derivations.proofs.MarkLemmas.{AreNoted-kept, link-append, put_then, put_weaker}
 
@@ -32,6 +32,10 @@ core_known g well graph canonical s p k low has_core =
     let item = item_at p k has_core.0 in
     let reached = canonical.reached s low in
     let known = reached_items g well reached.0 item ((reached.1 item).0 has_core.1) in (known.prod, known.dot)
+
+pub core_asked : (g : Grammar) (rows : List (List Bool)) (graph : Graph) (s token : ℕ) → IsAsked g rows graph s token → (p k : ℕ) → HasCore graph s p k
+    → (p < prods_len g) × (k ≤ prod_len g p)
+core_asked g rows graph s token asked p k has_core = core_known g asked.well_formed graph asked.canonical s p k asked.state has_core
 
 -- a step, given by its own numbers
 pub own_step : (g : Grammar) (token q j : ℕ) (further : Bool) (above : ℕ) (x : LinkOf) → IsStep g token q j further above x

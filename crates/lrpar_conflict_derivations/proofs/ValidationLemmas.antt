@@ -11,9 +11,9 @@ use Rattle.lrpar_table_sentences.specs.Moves.{Makes, MoveOf, Takes, forest_moves
 use Rattle.lrpar_table_sentences.specs.AccessStrings.{StepOf, StepsLead, steps_of}
 use Rattle.lrpar_table_sentences.specs.declared.transitions.Step.{Step}
 use Rattle.lrpar_table_sentences.specs.declared.moves.Move.{Move}
+use Rattle.lrpar_conflict_derivations.specs.Derivation.{Derives}
 use Rattle.lrpar_conflict_derivations.specs.Replay.{AreOfTree}
 use Rattle.lrpar_conflict_derivations.specs.Texts.{BeginsBy, ShiftsFirst, tokens_in}
-use Rattle.lrpar_conflict_derivations.proofs.ExampleLemmas.{Derives}
 use Rattle.lrpar_conflict_derivations.proofs.TextLemmas.{shifts-append, tokens_of_tree, tokens_of_trees}
 
 -- the first move

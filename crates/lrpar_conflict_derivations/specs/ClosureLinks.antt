@@ -1,12 +1,21 @@
 -- Why a state has the items that come by closure: each comes from an item with its rule after the dot. It is kept apart whether the items
 -- have any lookahead, or the one token that is asked for.
 use Rattle.std.specs.Prelude.{◌≡◌, ◌≢◌, ◌<◌, ◌≤◌, ◌+◌, ◌*◌, ◌⊎◌, ℕ, Bool, true, false, IsTrue, List, ◌∷◌, ◌++◌, All, drop, length, map, slice_index_or}
-use Rattle.lrpar_grammar.specs.Grammar.{Grammar, GrammarSymbol, Nonterminal, prods_len, rule_of, start_prod, symbols_of}
-use Rattle.lrpar_table_rows.specs.Graph.{ItemOf, item_at}
+use Rattle.lrpar_grammar.specs.Grammar.{Grammar, GrammarSymbol, IsWellFormed, Nonterminal, prods_len, rule_of, start_prod, symbols_of}
+use Rattle.lrpar_table_rows.specs.Graph.{Graph, ItemOf, graph_len, item_at}
 use Rattle.lrpar_table_first.specs.First.{IsFirst}
-use Rattle.lrpar_table_first.specs.FirstRows.{dummy_lookahead}
+use Rattle.lrpar_table_first.specs.FirstRows.{AreFirsts, dummy_lookahead}
+use Rattle.lrpar_table_items.specs.Canonical.{IsCanonical}
 use Rattle.lrpar_grammar.specs.Tokens.{has, missing}
 use Rattle.lrpar_conflict_derivations.specs.declared.closure_links.Link.{Link}
+
+-- token t is asked for in state s of the grammar's canonical collection, and FIRST sets are there
+pub record IsAsked (g : Grammar) (rows : List (List Bool)) (graph : Graph) (s t : ℕ) : Type 0 where
+  pub well_formed : IsWellFormed g
+  pub firsts : AreFirsts g rows
+  pub canonical : IsCanonical g graph
+  pub state : s < graph_len graph
+  pub token : t < dummy_lookahead g
 
 -- a rule, and whether the token is asked for as lookahead; the production and the dot that the rule comes after; whether the token is asked
 -- for there, too; and, if that dot is at the front, the number of the link by which that production's rule comes
@@ -51,6 +60,10 @@ pub record IsStep (g : Grammar) (token q j : ℕ) (further : Bool) (above : ℕ)
   pub rest : List GrammarSymbol
   pub before : drop j (symbols_of g q) ≡ Nonterminal x.rule ∷ rest
   pub passes : PassesOn g token rest x.asked further
+
+-- the link is one of the rule after its own dot
+abbrev pub IsOwnStep : Grammar → ℕ → LinkOf → Type 0
+IsOwnStep g token x = IsStep g token x.prod x.dot x.further x.above x
 
 -- the rule after the dot of production q at j has its links
 abbrev pub AreNoted : Grammar → ℕ → List LinkOf → ℕ → ℕ → Bool → Type 0
@@ -102,7 +115,7 @@ AreNotedOf g token links r asked = (p : ℕ) → p < prods_len g → rule_of g p
 
 -- link i: a step from a kernel item, or from an item that comes by an earlier link
 pub record IsLink (g : Grammar) (set : ItemOf → Type 0) (token : ℕ) (links : List LinkOf) (i : ℕ) : Type 0 where
-  pub step : let x = link_at links i in IsStep g token x.prod x.dot x.further x.above x
+  pub step : IsOwnStep g token (link_at links i)
   pub from : let x = link_at links i in IsKernelItem g set token x.prod x.dot x.further
       ⊎ ((x.dot ≡ 0) × (x.prod ≢ start_prod g) × (x.above < i) × ((link_at links x.above).rule ≡ rule_of g x.prod)
       × ((link_at links x.above).asked ≡ x.further))

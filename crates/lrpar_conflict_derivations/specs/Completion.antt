@@ -1,15 +1,26 @@
 -- How a derivation is completed from an item of a state: from the item up to one that waits for its rule, and so on up to the start.
-use Rattle.std.specs.Prelude.{◌≡◌, ◌≢◌, ◌<◌, ◌≤◌, ◌+◌, ◌⊎◌, ℕ, Bool, IsTrue, List, ◌∷◌, ◌++◌, drop, length, map, slice_index_or, take}
+use Rattle.std.specs.Prelude.{◌≡◌, ◌≢◌, ◌<◌, ◌≤◌, ◌+◌, ◌⊎◌, ℕ, Bool, IsTrue, List, Option, ◌∷◌, ◌++◌, drop, length, map, slice_index_or, take}
 use Rattle.lrpar_grammar.specs.Grammar.{Grammar, GrammarSymbol, Nonterminal, prods_len, rule_of, start_prod, symbols_of}
 use Rattle.lrpar_grammar.specs.Tree.{Forest, Tree, forest_leaves, leaves}
 use Rattle.lrpar_table_rows.specs.Graph.{Graph, HasItem}
+use Rattle.lrpar_table_first.specs.FirstRows.{AreFirsts}
+use Rattle.lrpar_table_items.specs.Canonical.{IsCanonical}
+use Rattle.lrpar_table_sentences.specs.Choices.{AreShortest, ChoiceOf}
 use Rattle.lrpar_table_sentences.specs.Moves.{MoveOf, Makes, forest_moves, moves_of}
-use Rattle.lrpar_table_sentences.specs.Reachable.{IsReachableRule}
+use Rattle.lrpar_table_sentences.specs.Reachable.{EachReachableHasTree, IsReachableRule}
 use Rattle.lrpar_table_sentences.specs.Texts.{AreTreesOf, IsTreeOf}
 use Rattle.lrpar_table_sentences.specs.AccessStrings.{IsPathTo, StepOf, symbols_in}
-use Rattle.lrpar_conflict_derivations.specs.ClosureLinks.{IsStep, LinkOf, link_at}
+use Rattle.lrpar_conflict_derivations.specs.ClosureLinks.{IsOwnStep, LinkOf, link_at}
 use Rattle.lrpar_conflict_derivations.specs.Derivation.{IsNext}
 use Rattle.lrpar_conflict_derivations.specs.declared.completion.Up.{Up}
+
+-- derivations can be completed: the item sets are the canonical collection of a grammar whose reachable rules are productive, and its FIRST
+-- sets and minimal sentences are there; numbers of tokens are exact up to `most`
+pub record CanComplete (g : Grammar) (graph : Graph) (most : ℕ) (rows : List (List Bool)) (choices : List (Option ChoiceOf)) : Type 0 where
+  pub firsts : AreFirsts g rows
+  pub shortest : AreShortest g most choices
+  pub each : EachReachableHasTree g
+  pub canonical : IsCanonical g graph
 
 -- a tree of the start rule begins with these trees, then come those of the rest, and these moves complete it, with this text
 pub record IsFinished (g : Grammar) (trees rest : Forest ℕ) (later : List MoveOf) (text : List ℕ) (tree : Tree ℕ) : Type 0 where
@@ -62,7 +73,7 @@ pub record HasRest (g : Grammar) (token : ℕ) (x : LinkOf) (old new : List Move
 -- a link up: its production is one of a reachable rule; and with the dot at the front, unless it is the start production, it has an earlier
 -- link of its rule
 pub record IsUpLink (g : Grammar) (token : ℕ) (links : List LinkOf) (i : ℕ) : Type 0 where
-  pub step : let x = link_at links i in IsStep g token x.prod x.dot x.further x.above x
+  pub step : IsOwnStep g token (link_at links i)
   pub known : (link_at links i).prod < prods_len g
   pub reached : IsReachableRule g (rule_of g (link_at links i).prod)
   pub above : let x = link_at links i in x.dot ≡ 0 → x.prod ≢ start_prod g

@@ -25,6 +25,15 @@ pub record ExampleOf : Type 0 where
   pub shortest : Bool
   pub bound : ℕ
 
+-- a counterexample with the tokens of these first moves, these two derivations, this flag and this bound. It is called ambiguous if and only if both have one text
+pub record IsMadeOf (front one other : List MoveOf) (flag : Bool) (most : ℕ) (x : ExampleOf) : Type 0 where
+  pub before : x.before ≡ tokens_in front
+  pub first : x.first ≡ one
+  pub second : x.second ≡ other
+  pub ambiguous : IsTrue x.ambiguous ↔ (tokens_in one ≡ tokens_in other)
+  pub shortest : x.shortest ≡ flag
+  pub bound : x.bound ≡ most
+
 -- the text is an access string of state s: the symbols lead there, and these trees fit them and have its tokens
 pub record IsTextTo (g : Grammar) (graph : Graph) (s : ℕ) (text : List ℕ) (symbols : List GrammarSymbol) (trees : Forest ℕ) : Type 0 where
   pub leads : IsPathTo g graph s symbols

@@ -1,12 +1,10 @@
 //! Why a state has the items that come by closure: for each of their rules, an item with the rule after its dot.
 ghost use Rattle.std.specs.Prelude.{◌≡◌, ◌<◌, ◌≤◌, ◌⊎◌, ℕ, [], IfOk, OnOk, false, true, length};
-ghost use Rattle.lrpar_grammar.specs.Grammar.{IsWellFormed, prod_len, prods_len, rules_len, start_prod};
-ghost use Rattle.lrpar_table_rows.specs.Graph.{HasCore, graph_len};
-ghost use Rattle.lrpar_table_first.specs.FirstRows.{AreFirsts, dummy_lookahead, rows_of};
-ghost use Rattle.lrpar_grammar.specs.Tokens.{has};
-ghost use Rattle.lrpar_table_items.specs.Canonical.{IsCanonical, sets_of};
 ghost use Rattle.std.specs.Bool.{OnFalse, OnTrue};
-ghost use Rattle.lrpar_conflict_derivations.specs.ClosureLinks.{AreKernelItemsNoted, AreLinks, AreMarks, AreNoted, AreNotedOf, ArePut, HasLink, IsKernelLink, IsLinkBelow, IsNotedCore, IsStep, LinkRule, link_of, links_of};
+ghost use Rattle.lrpar_grammar.specs.Grammar.{IsWellFormed, rules_len};
+ghost use Rattle.lrpar_grammar.specs.Tokens.{has};
+ghost use Rattle.lrpar_table_first.specs.FirstRows.{AreFirsts, rows_of};
+ghost use Rattle.lrpar_conflict_derivations.specs.Stored.{AreLinksOf, AreMarked, AreMarkedOf, AsksFor, HasMarkFor, HasMarks, IsCoreOf, IsKernelCore, IsLinked, IsTokenOf, KeepsMarks, LinkItemsOf, NotesBelow, NotesCore, NotesKernel, NotesKernelCore, NotesStart, PutsBelow, PutsFromKernel, PutsLink, PutsSteps, links_in};
 
 use crate::begins::can_begin;
 use lrpar_grammar::grammar::YaccGrammar;
@@ -52,17 +50,11 @@ pub(crate) fn links_to<StorageT: StorageIndex>(
     rule: RIdx<StorageT>,
     asked: bool,
 ) -> Result<Vec<Link<StorageT>>, AllocError>
-    requires firsts { AreFirsts grm.now (rows_of firsts.now) }
-    requires canonical { IsCanonical grm.now graph.now }
-    requires state { StorageT.index state.0 < graph_len graph.now }
-    requires token { StorageT.index token.0 < dummy_lookahead grm.now }
+    requires asked { AsksFor StorageT.index grm.now firsts.now graph.now state token }
     requires rule { StorageT.index rule.0 < rules_len grm.now }
-    ensures links { IfOk result (λ links. AreLinks grm.now (sets_of graph.now (StorageT.index state.0)) (StorageT.index token.0)
-        (links_of StorageT.index links.items)) }
-    ensures linked { IfOk result (λ links. LinkRule grm.now (sets_of graph.now (StorageT.index state.0)) (StorageT.index token.0)
-        (links_of StorageT.index links.items) (StorageT.index rule.0) asked) }
+    ensures links { IfOk result (λ links. AreLinksOf StorageT.index grm.now graph.now state token links.items) }
+    ensures linked { IfOk result (λ links. LinkItemsOf StorageT.index grm.now graph.now state token rule asked links.items) }
 {
-    let _start = grm.start_prod();
     let mut found = nothing_found(alloc, grm.rules_len())?;
     note_kernel(grm, firsts, graph, state, token, &mut found)?;
     let mut at = 0;
@@ -86,11 +78,10 @@ fn goes_on<StorageT: StorageIndex>(
     rule: RIdx<StorageT>,
     asked: bool,
 ) -> bool
-    requires marks { AreMarks (length found.now.any.items) (links_of StorageT.index found.now.links.items) found.now.any.items found.now.asked.items }
-    requires rule { StorageT.index rule.0 < length found.now.any.items }
+    requires marks { HasMarks StorageT.index found.now }
+    requires rule { HasMarkFor StorageT.index found.now rule }
     ensures more { OnTrue result (at < length found.now.links.items) }
-    ensures done { OnFalse result ((length found.now.links.items ≤ at)
-        ⊎ HasLink (links_of StorageT.index found.now.links.items) asked (StorageT.index rule.0)) }
+    ensures done { OnFalse result ((length found.now.links.items ≤ at) ⊎ IsLinked StorageT.index found.now rule asked) }
 {
     if is_linked(found, rule, asked) {
         return false;
@@ -104,9 +95,9 @@ fn is_linked<StorageT: StorageIndex>(
     rule: RIdx<StorageT>,
     asked: bool,
 ) -> bool
-    requires marks { AreMarks (length found.now.any.items) (links_of StorageT.index found.now.links.items) found.now.any.items found.now.asked.items }
-    requires rule { StorageT.index rule.0 < length found.now.any.items }
-    ensures { OnTrue result (HasLink (links_of StorageT.index found.now.links.items) asked (StorageT.index rule.0)) }
+    requires marks { HasMarks StorageT.index found.now }
+    requires rule { HasMarkFor StorageT.index found.now rule }
+    ensures { OnTrue result (IsLinked StorageT.index found.now rule asked) }
 {
     if asked {
         return found.asked[usize::from(rule)];
@@ -119,8 +110,8 @@ fn nothing_found<StorageT: StorageIndex>(
     alloc: Global,
     rules: usize,
 ) -> Result<Found<StorageT>, AllocError>
-    ensures none { IfOk result (λ found. links_of StorageT.index found.links.items ≡ []) }
-    ensures marks { IfOk result (λ found. AreMarks rules (links_of StorageT.index found.links.items) found.any.items found.asked.items) }
+    ensures none { IfOk result (λ found. links_in StorageT.index found ≡ []) }
+    ensures marks { IfOk result (AreMarkedOf StorageT.index rules) }
 {
     Ok(Found {
         links: Vec::new(alloc),
@@ -146,16 +137,11 @@ fn note_kernel<StorageT: StorageIndex>(
     token: TIdx<StorageT>,
     found: &mut Found<StorageT>,
 ) -> Result<(), AllocError>
-    requires well_formed { IsWellFormed grm.now }
-    requires firsts { AreFirsts grm.now (rows_of firsts.now) }
-    requires canonical { IsCanonical grm.now graph.now }
-    requires state { StorageT.index state.0 < graph_len graph.now }
-    requires token { StorageT.index token.0 < dummy_lookahead grm.now }
-    requires marks { AreMarks (rules_len grm.now) (links_of StorageT.index found.old.links.items) found.old.any.items found.old.asked.items }
-    ensures marks { OnOk result (AreMarks (rules_len grm.now) (links_of StorageT.index found.new.links.items) found.new.any.items found.new.asked.items) }
-    ensures put { OnOk result (ArePut (IsKernelLink grm.now (sets_of graph.now (StorageT.index state.0)) (StorageT.index token.0))
-        (links_of StorageT.index found.old.links.items) (links_of StorageT.index found.new.links.items)) }
-    ensures noted { OnOk result (AreKernelItemsNoted grm.now (sets_of graph.now (StorageT.index state.0)) (StorageT.index token.0) (links_of StorageT.index found.new.links.items)) }
+    requires asked { AsksFor StorageT.index grm.now firsts.now graph.now state token }
+    requires marks { AreMarked StorageT.index grm.now found.old }
+    ensures marks { OnOk result (AreMarked StorageT.index grm.now found.new) }
+    ensures put { OnOk result (PutsFromKernel StorageT.index grm.now graph.now state token found.old found.new) }
+    ensures noted { OnOk result (NotesKernel StorageT.index grm.now graph.now state token found.new) }
 {
     note_start(grm, firsts, graph, state, token, found)?;
     for core in graph.begun_cores(state) {
@@ -173,17 +159,11 @@ fn note_start<StorageT: StorageIndex>(
     token: TIdx<StorageT>,
     found: &mut Found<StorageT>,
 ) -> Result<(), AllocError>
-    requires well_formed { IsWellFormed grm.now }
-    requires firsts { AreFirsts grm.now (rows_of firsts.now) }
-    requires canonical { IsCanonical grm.now graph.now }
-    requires state { StorageT.index state.0 < graph_len graph.now }
-    requires token { StorageT.index token.0 < dummy_lookahead grm.now }
-    requires marks { AreMarks (rules_len grm.now) (links_of StorageT.index found.old.links.items) found.old.any.items found.old.asked.items }
-    ensures marks { OnOk result (AreMarks (rules_len grm.now) (links_of StorageT.index found.new.links.items) found.new.any.items found.new.asked.items) }
-    ensures put { OnOk result (ArePut (IsKernelLink grm.now (sets_of graph.now (StorageT.index state.0)) (StorageT.index token.0))
-        (links_of StorageT.index found.old.links.items) (links_of StorageT.index found.new.links.items)) }
-    ensures noted { OnOk result (IsNotedCore grm.now (sets_of graph.now (StorageT.index state.0)) (StorageT.index token.0)
-        (links_of StorageT.index found.new.links.items) (start_prod grm.now) 0) }
+    requires asked { AsksFor StorageT.index grm.now firsts.now graph.now state token }
+    requires marks { AreMarked StorageT.index grm.now found.old }
+    ensures marks { OnOk result (AreMarked StorageT.index grm.now found.new) }
+    ensures put { OnOk result (PutsFromKernel StorageT.index grm.now graph.now state token found.old found.new) }
+    ensures noted { OnOk result (NotesStart StorageT.index grm.now graph.now state token found.new) }
 {
     let start = grm.start_prod();
     if graph.has_core(state, start, 0) {
@@ -202,19 +182,12 @@ fn note_core<StorageT: StorageIndex>(
     core: (PIdx<StorageT>, usize),
     found: &mut Found<StorageT>,
 ) -> Result<(), AllocError>
-    requires well_formed { IsWellFormed grm.now }
-    requires firsts { AreFirsts grm.now (rows_of firsts.now) }
-    requires canonical { IsCanonical grm.now graph.now }
-    requires state { StorageT.index state.0 < graph_len graph.now }
-    requires token { StorageT.index token.0 < dummy_lookahead grm.now }
-    requires marks { AreMarks (rules_len grm.now) (links_of StorageT.index found.old.links.items) found.old.any.items found.old.asked.items }
-    requires core { HasCore graph.now (StorageT.index state.0) (StorageT.index core.0.0) core.1 }
-    requires begun { (0 < core.1) ⊎ (StorageT.index core.0.0 ≡ start_prod grm.now) }
-    ensures marks { OnOk result (AreMarks (rules_len grm.now) (links_of StorageT.index found.new.links.items) found.new.any.items found.new.asked.items) }
-    ensures put { OnOk result (ArePut (IsKernelLink grm.now (sets_of graph.now (StorageT.index state.0)) (StorageT.index token.0))
-        (links_of StorageT.index found.old.links.items) (links_of StorageT.index found.new.links.items)) }
-    ensures noted { OnOk result (IsNotedCore grm.now (sets_of graph.now (StorageT.index state.0)) (StorageT.index token.0)
-        (links_of StorageT.index found.new.links.items) (StorageT.index core.0.0) core.1) }
+    requires asked { AsksFor StorageT.index grm.now firsts.now graph.now state token }
+    requires marks { AreMarked StorageT.index grm.now found.old }
+    requires core { IsKernelCore StorageT.index grm.now graph.now state core }
+    ensures marks { OnOk result (AreMarked StorageT.index grm.now found.new) }
+    ensures put { OnOk result (PutsFromKernel StorageT.index grm.now graph.now state token found.old found.new) }
+    ensures noted { OnOk result (NotesKernelCore StorageT.index grm.now graph.now state token core found.new) }
 {
     note(grm, firsts, token, core, false, 0, found)?;
     if graph.has_item(state, core.0, core.1, token) {
@@ -234,14 +207,12 @@ fn note_rule<StorageT: StorageIndex>(
 ) -> Result<(), AllocError>
     requires well_formed { IsWellFormed grm.now }
     requires firsts { AreFirsts grm.now (rows_of firsts.now) }
-    requires token { StorageT.index token.0 < dummy_lookahead grm.now }
+    requires token { IsTokenOf StorageT.index grm.now token }
     requires rule { StorageT.index link.rule.0 < rules_len grm.now }
-    requires marks { AreMarks (rules_len grm.now) (links_of StorageT.index found.old.links.items) found.old.any.items found.old.asked.items }
-    ensures marks { OnOk result (AreMarks (rules_len grm.now) (links_of StorageT.index found.new.links.items) found.new.any.items found.new.asked.items) }
-    ensures put { OnOk result (ArePut (IsLinkBelow grm.now (StorageT.index token.0) at (StorageT.index link.rule.0) link.asked)
-        (links_of StorageT.index found.old.links.items) (links_of StorageT.index found.new.links.items)) }
-    ensures noted { OnOk result (AreNotedOf grm.now (StorageT.index token.0) (links_of StorageT.index found.new.links.items)
-        (StorageT.index link.rule.0) link.asked) }
+    requires marks { AreMarked StorageT.index grm.now found.old }
+    ensures marks { OnOk result (AreMarked StorageT.index grm.now found.new) }
+    ensures put { OnOk result (PutsBelow StorageT.index grm.now token at link found.old found.new) }
+    ensures noted { OnOk result (NotesBelow StorageT.index grm.now token link found.new) }
 {
     for pidx in grm.rule_to_prods(link.rule) {
         note(grm, firsts, token, (*pidx, 0), link.asked, at, found)?;
@@ -261,15 +232,12 @@ fn note<StorageT: StorageIndex>(
 ) -> Result<(), AllocError>
     requires well_formed { IsWellFormed grm.now }
     requires firsts { AreFirsts grm.now (rows_of firsts.now) }
-    requires token { StorageT.index token.0 < dummy_lookahead grm.now }
-    requires prod { StorageT.index core.0.0 < prods_len grm.now }
-    requires dot { core.1 ≤ prod_len grm.now (StorageT.index core.0.0) }
-    requires marks { AreMarks (rules_len grm.now) (links_of StorageT.index found.old.links.items) found.old.any.items found.old.asked.items }
-    ensures marks { OnOk result (AreMarks (rules_len grm.now) (links_of StorageT.index found.new.links.items) found.new.any.items found.new.asked.items) }
-    ensures put { OnOk result (ArePut (IsStep grm.now (StorageT.index token.0) (StorageT.index core.0.0) core.1 further above)
-        (links_of StorageT.index found.old.links.items) (links_of StorageT.index found.new.links.items)) }
-    ensures noted { OnOk result (AreNoted grm.now (StorageT.index token.0) (links_of StorageT.index found.new.links.items)
-        (StorageT.index core.0.0) core.1 further) }
+    requires token { IsTokenOf StorageT.index grm.now token }
+    requires core { IsCoreOf StorageT.index grm.now core }
+    requires marks { AreMarked StorageT.index grm.now found.old }
+    ensures marks { OnOk result (AreMarked StorageT.index grm.now found.new) }
+    ensures put { OnOk result (PutsSteps StorageT.index grm.now token core further above found.old found.new) }
+    ensures noted { OnOk result (NotesCore StorageT.index grm.now token core further found.new) }
 {
     let dummy = grm.tokens_len();
     let Some((rule, rest)) = rule_after(grm, core.0, core.1) else {
@@ -308,12 +276,11 @@ fn add_any<StorageT: StorageIndex>(
     found: &mut Found<StorageT>,
 ) -> Result<(), AllocError>
     requires asks { link.asked ≡ false }
-    requires rule { StorageT.index link.rule.0 < length found.old.any.items }
-    requires marks { AreMarks (length found.old.any.items) (links_of StorageT.index found.old.links.items) found.old.any.items found.old.asked.items }
-    ensures marks { OnOk result (AreMarks (length found.old.any.items) (links_of StorageT.index found.new.links.items) found.new.any.items found.new.asked.items) }
-    ensures put { OnOk result (ArePut (λ x. x ≡ link_of StorageT.index link) (links_of StorageT.index found.old.links.items)
-        (links_of StorageT.index found.new.links.items)) }
-    ensures linked { OnOk result (HasLink (links_of StorageT.index found.new.links.items) false (StorageT.index link.rule.0)) }
+    requires rule { HasMarkFor StorageT.index found.old link.rule }
+    requires marks { HasMarks StorageT.index found.old }
+    ensures marks { OnOk result (KeepsMarks StorageT.index found.old found.new) }
+    ensures put { OnOk result (PutsLink StorageT.index link found.old found.new) }
+    ensures linked { OnOk result (IsLinked StorageT.index found.new link.rule false) }
 {
     let rule = usize::from(link.rule);
     if !found.any[rule] {
@@ -329,12 +296,11 @@ fn add_asked<StorageT: StorageIndex>(
     found: &mut Found<StorageT>,
 ) -> Result<(), AllocError>
     requires asks { link.asked ≡ true }
-    requires rule { StorageT.index link.rule.0 < length found.old.any.items }
-    requires marks { AreMarks (length found.old.any.items) (links_of StorageT.index found.old.links.items) found.old.any.items found.old.asked.items }
-    ensures marks { OnOk result (AreMarks (length found.old.any.items) (links_of StorageT.index found.new.links.items) found.new.any.items found.new.asked.items) }
-    ensures put { OnOk result (ArePut (λ x. x ≡ link_of StorageT.index link) (links_of StorageT.index found.old.links.items)
-        (links_of StorageT.index found.new.links.items)) }
-    ensures linked { OnOk result (HasLink (links_of StorageT.index found.new.links.items) true (StorageT.index link.rule.0)) }
+    requires rule { HasMarkFor StorageT.index found.old link.rule }
+    requires marks { HasMarks StorageT.index found.old }
+    ensures marks { OnOk result (KeepsMarks StorageT.index found.old found.new) }
+    ensures put { OnOk result (PutsLink StorageT.index link found.old found.new) }
+    ensures linked { OnOk result (IsLinked StorageT.index found.new link.rule true) }
 {
     let rule = usize::from(link.rule);
     if !found.asked[rule] {

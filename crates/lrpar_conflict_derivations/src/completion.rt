@@ -1,15 +1,11 @@
 //! How a derivation is completed from an item: up to the item that waits for its rule, and so on up to the start.
-ghost use Rattle.std.specs.Prelude.{◌≡◌, ◌≢◌, ◌<◌, IfOk, MatchOption, OnOk, length};
-ghost use Rattle.lrpar_grammar.specs.Grammar.{IsWellFormed, prods_len, rule_of, start_prod};
-ghost use Rattle.lrpar_table_rows.specs.Graph.{graph_len};
-ghost use Rattle.lrpar_table_first.specs.FirstRows.{AreFirsts, dummy_lookahead, rows_of};
-ghost use Rattle.lrpar_table_items.specs.Canonical.{IsCanonical, sets_of};
+ghost use Rattle.std.specs.Prelude.{◌≡◌, ◌≢◌, ◌<◌, IfOk, OnOk};
+ghost use Rattle.lrpar_grammar.specs.Grammar.{IsWellFormed, prods_len, start_prod};
+ghost use Rattle.lrpar_table_first.specs.FirstRows.{rows_of};
 ghost use Rattle.lrpar_table_sentences.specs.Choices.{AreShortest};
-ghost use Rattle.lrpar_table_sentences.specs.Moves.{moves_in};
-ghost use Rattle.lrpar_table_sentences.specs.Reachable.{EachReachableHasTree, IsReachableRule};
-ghost use Rattle.lrpar_table_sentences.specs.AccessStrings.{steps_of, symbols_in};
-ghost use Rattle.lrpar_conflict_derivations.specs.Completion.{AreUpLinks, EndsLink, LeadsToKernel, HasFinished, HasItemFor, HasRest, IsAccessPath, state_before, up_of};
-ghost use Rattle.lrpar_conflict_derivations.specs.ClosureLinks.{HasLink, IsKernelItem, IsStep, link_at, link_of, links_of};
+ghost use Rattle.lrpar_table_sentences.specs.Reachable.{EachReachableHasTree};
+ghost use Rattle.lrpar_conflict_derivations.specs.Completion.{CanComplete};
+ghost use Rattle.lrpar_conflict_derivations.specs.Stored.{AppendsRest, AppendsWayUp, AreAccessPath, Completes, EndsInKernel, FindsLink, HasItemWith, HasLinkOf, IsReachedProd, IsStateBefore, IsStateOf, IsStepLink, IsTokenOf, IsTopOf, LeadUp};
 
 use crate::closure_links::{Link, links_to};
 use lrpar_grammar::grammar::YaccGrammar;
@@ -41,11 +37,10 @@ fn push_rest<StorageT: StorageIndex>(
     requires well_formed { IsWellFormed grm.now }
     requires shortest { AreShortest grm.now usize.MAX shortest.now }
     requires each { EachReachableHasTree grm.now }
-    requires token { StorageT.index token.0 < dummy_lookahead grm.now }
-    requires step { IsStep grm.now (StorageT.index token.0) (StorageT.index link.prod.0) link.dot link.further link.above (link_of StorageT.index link) }
-    requires reached { IsReachableRule grm.now (rule_of grm.now (StorageT.index link.prod.0)) }
-    ensures { OnOk result (HasRest grm.now (StorageT.index token.0) (link_of StorageT.index link) (moves_in StorageT.index out.old.items)
-        (moves_in StorageT.index out.new.items)) }
+    requires token { IsTokenOf StorageT.index grm.now token }
+    requires step { IsStepLink StorageT.index grm.now token link }
+    requires reached { IsReachedProd StorageT.index grm.now link.prod }
+    ensures { OnOk result (AppendsRest StorageT.index grm.now token link out.old.items out.new.items) }
 {
     let rest = &grm.prod(link.prod)[link.dot + 1..];
     if link.asked && !link.further {
@@ -60,9 +55,7 @@ fn number_of<StorageT: StorageIndex>(
     rule: RIdx<StorageT>,
     asked: bool,
 ) -> Option<usize>
-    ensures { MatchOption result (¬ (HasLink (links_of StorageT.index links.now) asked (StorageT.index rule.0)))
-        (λ i. (i < length links.now) × ((link_at (links_of StorageT.index links.now) i).rule ≡ StorageT.index rule.0)
-        × ((link_at (links_of StorageT.index links.now) i).asked ≡ asked)) }
+    ensures { FindsLink StorageT.index links.now rule asked result }
 {
     for (number, link) in links.iter().enumerate() {
         if usize::from(link.rule) == usize::from(rule) && link.asked == asked {
@@ -85,13 +78,12 @@ fn complete_by_links<StorageT: StorageIndex>(
 ) -> Result<Up<StorageT>, AllocError>
     requires shortest { AreShortest grm.now usize.MAX shortest.now }
     requires each { EachReachableHasTree grm.now }
-    requires token { StorageT.index token.0 < dummy_lookahead grm.now }
+    requires token { IsTokenOf StorageT.index grm.now token }
     requires prod { StorageT.index prod.0 < prods_len grm.now }
-    requires links { AreUpLinks grm.now (StorageT.index token.0) (links_of StorageT.index links.now) }
-    requires linked { HasLink (links_of StorageT.index links.now) asked (rule_of grm.now (StorageT.index prod.0)) }
-    ensures to_kernel { IfOk result (λ up. LeadsToKernel grm.now (StorageT.index token.0) (StorageT.index prod.0) asked
-        (moves_in StorageT.index out.old.items) (moves_in StorageT.index out.new.items) (up_of StorageT.index up)) }
-    ensures ends { IfOk result (λ up. EndsLink grm.now (links_of StorageT.index links.now) (up_of StorageT.index up)) }
+    requires links { LeadUp StorageT.index grm.now token links.now }
+    requires linked { HasLinkOf StorageT.index grm.now links.now prod asked }
+    ensures to_kernel { IfOk result (AppendsWayUp StorageT.index grm.now token prod asked out.old.items out.new.items) }
+    ensures ends { IfOk result (IsTopOf StorageT.index grm.now links.now) }
 {
     let start = usize::from(grm.start_prod());
     let mut number = number_of(links, grm.prod_to_rule(prod), asked).unwrap();
@@ -125,18 +117,13 @@ fn complete_in_state<StorageT: StorageIndex>(
     token: TIdx<StorageT>,
     out: &mut Vec<Move<StorageT>>,
 ) -> Result<Up<StorageT>, AllocError>
-    requires firsts { AreFirsts grm.now (rows_of firsts.now) }
-    requires shortest { AreShortest grm.now usize.MAX shortest.now }
-    requires each { EachReachableHasTree grm.now }
-    requires canonical { IsCanonical grm.now graph.now }
-    requires state { StorageT.index state.0 < graph_len graph.now }
-    requires token { StorageT.index token.0 < dummy_lookahead grm.now }
+    requires parts { CanComplete grm.now graph.now usize.MAX (rows_of firsts.now) shortest.now }
+    requires state { IsStateOf StorageT.index graph.now state }
+    requires token { IsTokenOf StorageT.index grm.now token }
     requires listed { StorageT.index prod.0 ≢ start_prod grm.now }
-    requires item { HasItemFor graph.now (StorageT.index state.0) (StorageT.index token.0) (StorageT.index prod.0) 0 asked }
-    ensures to_kernel { IfOk result (λ up. LeadsToKernel grm.now (StorageT.index token.0) (StorageT.index prod.0) asked
-        (moves_in StorageT.index out.old.items) (moves_in StorageT.index out.new.items) (up_of StorageT.index up)) }
-    ensures begun { IfOk result (λ up. IsKernelItem grm.now (sets_of graph.now (StorageT.index state.0)) (StorageT.index token.0)
-        (StorageT.index up.prod.0) up.dot up.asked) }
+    requires item { HasItemWith StorageT.index graph.now state token (prod, 0) asked }
+    ensures to_kernel { IfOk result (AppendsWayUp StorageT.index grm.now token prod asked out.old.items out.new.items) }
+    ensures begun { IfOk result (EndsInKernel StorageT.index grm.now graph.now state token) }
 {
     let _start = grm.start_prod();
     let rule = grm.prod_to_rule(prod);
@@ -150,7 +137,7 @@ fn state_at<StorageT: StorageIndex>(
     place: usize,
     last: StIdx<StorageT>,
 ) -> StIdx<StorageT>
-    ensures { StorageT.index result.0 ≡ state_before (steps_of StorageT.index steps.now) (StorageT.index last.0) place }
+    ensures { IsStateBefore StorageT.index steps.now last place result }
 {
     if place < steps.len() {
         steps[place].from
@@ -174,15 +161,11 @@ pub(crate) fn complete_derivation<StorageT: StorageIndex>(
     token: TIdx<StorageT>,
     out: &mut Vec<Move<StorageT>>,
 ) -> Result<(), AllocError>
-    requires firsts { AreFirsts grm.now (rows_of firsts.now) }
-    requires shortest { AreShortest grm.now usize.MAX shortest.now }
-    requires each { EachReachableHasTree grm.now }
-    requires canonical { IsCanonical grm.now graph.now }
-    requires token { StorageT.index token.0 < dummy_lookahead grm.now }
-    requires access_path { IsAccessPath grm.now graph.now (steps_of StorageT.index steps.now) (StorageT.index last.0) }
-    requires item { HasItemFor graph.now (StorageT.index last.0) (StorageT.index token.0) (StorageT.index item.0.0) item.1 asked }
-    ensures { OnOk result (HasFinished grm.now (StorageT.index token.0) (symbols_in (steps_of StorageT.index steps.now))
-        (StorageT.index item.0.0) item.1 asked (moves_in StorageT.index out.old.items) (moves_in StorageT.index out.new.items)) }
+    requires parts { CanComplete grm.now graph.now usize.MAX (rows_of firsts.now) shortest.now }
+    requires token { IsTokenOf StorageT.index grm.now token }
+    requires access_path { AreAccessPath StorageT.index grm.now graph.now steps.now last }
+    requires item { HasItemWith StorageT.index graph.now last token item asked }
+    ensures { OnOk result (Completes StorageT.index grm.now steps.now item asked token out.old.items out.new.items) }
 {
     let start = usize::from(grm.start_prod());
     let mut place = steps.len() - item.1;

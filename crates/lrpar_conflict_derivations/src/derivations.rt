@@ -1,18 +1,12 @@
 //! Derivations that go on from an access path: by a reduction, or by a shift.
-ghost use Rattle.std.specs.Prelude.{◌≡◌, ◌≢◌, ◌<◌, ◌↔◌, ℕ, IfOk, IsTrue, MatchOption, Some, slice_get};
-ghost use Rattle.lrpar_grammar.specs.Grammar.{IsWellFormed, Terminal, prod_len, prods_len, start_prod, symbols_of};
+ghost use Rattle.std.specs.Prelude.{◌≡◌, ◌<◌, ◌↔◌, IfOk, IsTrue};
+ghost use Rattle.lrpar_grammar.specs.Grammar.{IsWellFormed, Terminal, prods_len};
 ghost use Rattle.lrpar_grammar.specs.Symbols.{symbol_of};
-ghost use Rattle.lrpar_grammar.specs.Tree.{Forest, Tree, forest_leaves};
-ghost use Rattle.lrpar_table_rows.specs.Graph.{HasCore, HasItem, graph_len};
-ghost use Rattle.lrpar_table_first.specs.FirstRows.{AreFirsts, dummy_lookahead, rows_of};
-ghost use Rattle.lrpar_table_items.specs.Canonical.{IsCanonical, HasAfterDot, sets_of};
-ghost use Rattle.lrpar_table_sentences.specs.Choices.{AreShortest};
-ghost use Rattle.lrpar_table_sentences.specs.Moves.{Makes, Takes, forest_moves, moves_in};
-ghost use Rattle.lrpar_table_sentences.specs.Reachable.{EachReachableHasTree};
-ghost use Rattle.lrpar_table_sentences.specs.Texts.{AreTreesOf};
-ghost use Rattle.lrpar_table_sentences.specs.AccessStrings.{steps_of, symbols_in};
-ghost use Rattle.lrpar_conflict_derivations.specs.Completion.{IsAccessPath};
-ghost use Rattle.lrpar_conflict_derivations.specs.Derivation.{IsDerivation};
+ghost use Rattle.lrpar_table_first.specs.FirstRows.{rows_of};
+ghost use Rattle.lrpar_table_items.specs.Canonical.{IsCanonical};
+ghost use Rattle.lrpar_table_sentences.specs.declared.moves.Move.TheVariants.{Make, Take};
+ghost use Rattle.lrpar_conflict_derivations.specs.Completion.{CanComplete};
+ghost use Rattle.lrpar_conflict_derivations.specs.Stored.{AreAccessPath, DerivesBy, FindsCoreBefore, HasCoreBefore, IsCalledFor, IsCoreBefore, IsStateOf, IsTokenOf};
 
 use crate::completion::complete_derivation;
 use lrpar_grammar::grammar::YaccGrammar;
@@ -24,9 +18,9 @@ use lrpar_table_sentences::moves::Move;
 use lrpar_table_sentences::shortest::Shortest;
 use std::alloc::{AllocError, Global};
 
-/// The moves of a derivation that begins with the moves of trees of the path's symbols, and then reduces the production, of which the last
-/// state has a complete item with the token.
-pub(crate) fn derive_by_reduce<StorageT: StorageIndex>(
+/// The moves of a derivation that begins with the moves of trees of the path's symbols, and then goes on with the move for which an item of
+/// the last state calls at the token.
+pub(crate) fn derive<StorageT: StorageIndex>(
     alloc: Global,
     grm: &YaccGrammar<StorageT>,
     firsts: &[TokenSet],
@@ -35,23 +29,47 @@ pub(crate) fn derive_by_reduce<StorageT: StorageIndex>(
     steps: &[Step<StorageT>],
     last: StIdx<StorageT>,
     front: &[Move<StorageT>],
-    prod: PIdx<StorageT>,
     token: TIdx<StorageT>,
+    next: Move<StorageT>,
 ) -> Result<Vec<Move<StorageT>>, AllocError>
-    requires firsts { AreFirsts grm.now (rows_of firsts.now) }
-    requires shortest { AreShortest grm.now usize.MAX shortest.now }
-    requires each { EachReachableHasTree grm.now }
-    requires canonical { IsCanonical grm.now graph.now }
-    requires token { StorageT.index token.0 < dummy_lookahead grm.now }
-    requires access_path { IsAccessPath grm.now graph.now (steps_of StorageT.index steps.now) (StorageT.index last.0) }
-    requires prod { StorageT.index prod.0 < prods_len grm.now }
-    requires listed { StorageT.index prod.0 ≢ start_prod grm.now }
-    requires item { HasItem graph.now (StorageT.index last.0) (StorageT.index prod.0) (prod_len grm.now (StorageT.index prod.0)) (StorageT.index token.0) }
-    ensures { IfOk result (λ moves. (trees : Forest ℕ) → AreTreesOf grm.now (symbols_in (steps_of StorageT.index steps.now)) trees
-        → moves_in StorageT.index front.now ≡ forest_moves trees
-        → (tree : Tree ℕ) × IsDerivation grm.now (forest_leaves trees) (StorageT.index token.0) trees (Makes (StorageT.index prod.0))
-        (moves_in StorageT.index moves.items) tree) }
+    requires parts { CanComplete grm.now graph.now usize.MAX (rows_of firsts.now) shortest.now }
+    requires token { IsTokenOf StorageT.index grm.now token }
+    requires last { IsStateOf StorageT.index graph.now last }
+    requires access_path { AreAccessPath StorageT.index grm.now graph.now steps.now last }
+    requires called { IsCalledFor StorageT.index grm.now graph.now last token next }
+    ensures { IfOk result (λ moves. DerivesBy StorageT.index grm.now steps.now front.now token next moves.items) }
 {
+    match next {
+        Move::Make(prod) => derive_by_reduce(
+            alloc, grm, firsts, shortest, graph, steps, last, front, token, prod,
+        ),
+        Move::Take(_) => derive_by_shift(
+            alloc, grm, firsts, shortest, graph, steps, last, front, token,
+        ),
+    }
+}
+
+// The moves of such a derivation, which reduces the production next. The last state has a complete item of it, with the token.
+fn derive_by_reduce<StorageT: StorageIndex>(
+    alloc: Global,
+    grm: &YaccGrammar<StorageT>,
+    firsts: &[TokenSet],
+    shortest: &Shortest<StorageT>,
+    graph: &StateGraph<StorageT>,
+    steps: &[Step<StorageT>],
+    last: StIdx<StorageT>,
+    front: &[Move<StorageT>],
+    token: TIdx<StorageT>,
+    prod: PIdx<StorageT>,
+) -> Result<Vec<Move<StorageT>>, AllocError>
+    requires parts { CanComplete grm.now graph.now usize.MAX (rows_of firsts.now) shortest.now }
+    requires token { IsTokenOf StorageT.index grm.now token }
+    requires access_path { AreAccessPath StorageT.index grm.now graph.now steps.now last }
+    requires last { IsStateOf StorageT.index graph.now last }
+    requires called { IsCalledFor StorageT.index grm.now graph.now last token (Make prod) }
+    ensures { IfOk result (λ moves. DerivesBy StorageT.index grm.now steps.now front.now token (Make prod) moves.items) }
+{
+    let _start = grm.start_prod();
     let mut moves = Vec::from_slice(alloc, front)?;
     let dot = grm.prod(prod).len();
     complete_derivation(
@@ -70,9 +88,8 @@ pub(crate) fn derive_by_reduce<StorageT: StorageIndex>(
     Ok(moves)
 }
 
-/// The moves of a derivation that begins with the moves of trees of the path's symbols, and then shifts the token, which comes after the
-/// dot of an item of the last state.
-pub(crate) fn derive_by_shift<StorageT: StorageIndex>(
+// The moves of such a derivation, which shifts the token next. It comes after the dot of an item of the last state.
+fn derive_by_shift<StorageT: StorageIndex>(
     alloc: Global,
     grm: &YaccGrammar<StorageT>,
     firsts: &[TokenSet],
@@ -83,18 +100,12 @@ pub(crate) fn derive_by_shift<StorageT: StorageIndex>(
     front: &[Move<StorageT>],
     token: TIdx<StorageT>,
 ) -> Result<Vec<Move<StorageT>>, AllocError>
-    requires firsts { AreFirsts grm.now (rows_of firsts.now) }
-    requires shortest { AreShortest grm.now usize.MAX shortest.now }
-    requires each { EachReachableHasTree grm.now }
-    requires canonical { IsCanonical grm.now graph.now }
-    requires token { StorageT.index token.0 < dummy_lookahead grm.now }
-    requires access_path { IsAccessPath grm.now graph.now (steps_of StorageT.index steps.now) (StorageT.index last.0) }
-    requires last { StorageT.index last.0 < graph_len graph.now }
-    requires before { HasAfterDot grm.now (sets_of graph.now) (StorageT.index last.0) (Terminal (StorageT.index token.0)) }
-    ensures { IfOk result (λ moves. (trees : Forest ℕ) → AreTreesOf grm.now (symbols_in (steps_of StorageT.index steps.now)) trees
-        → moves_in StorageT.index front.now ≡ forest_moves trees
-        → (tree : Tree ℕ) × IsDerivation grm.now (forest_leaves trees) (StorageT.index token.0) trees (Takes (StorageT.index token.0))
-        (moves_in StorageT.index moves.items) tree) }
+    requires parts { CanComplete grm.now graph.now usize.MAX (rows_of firsts.now) shortest.now }
+    requires token { IsTokenOf StorageT.index grm.now token }
+    requires access_path { AreAccessPath StorageT.index grm.now graph.now steps.now last }
+    requires last { IsStateOf StorageT.index graph.now last }
+    requires before { HasCoreBefore StorageT.index grm.now graph.now last token }
+    ensures { IfOk result (λ moves. DerivesBy StorageT.index grm.now steps.now front.now token (Take token) moves.items) }
 {
     let _start = grm.start_prod();
     let core = core_before(grm, graph, last, token).unwrap();
@@ -116,10 +127,8 @@ fn core_before<StorageT: StorageIndex>(
 ) -> Option<Core<StorageT>>
     requires well_formed { IsWellFormed grm.now }
     requires canonical { IsCanonical grm.now graph.now }
-    requires state { StorageT.index state.0 < graph_len graph.now }
-    ensures { MatchOption result (¬ (HasAfterDot grm.now (sets_of graph.now) (StorageT.index state.0) (Terminal (StorageT.index token.0))))
-        (λ core. HasCore graph.now (StorageT.index state.0) (StorageT.index core.0.0) core.1
-        × (slice_get (symbols_of grm.now (StorageT.index core.0.0)) core.1 ≡ Some (Terminal (StorageT.index token.0)))) }
+    requires state { IsStateOf StorageT.index graph.now state }
+    ensures { FindsCoreBefore StorageT.index grm.now graph.now state token result }
 {
     for core in graph.cores(state) {
         if has_after_dot(grm, *core, token) {
@@ -136,7 +145,7 @@ fn has_after_dot<StorageT: StorageIndex>(
     token: TIdx<StorageT>,
 ) -> bool
     requires { StorageT.index core.0.0 < prods_len grm.now }
-    ensures { IsTrue result ↔ (slice_get (symbols_of grm.now (StorageT.index core.0.0)) core.1 ≡ Some (Terminal (StorageT.index token.0))) }
+    ensures { IsTrue result ↔ IsCoreBefore StorageT.index grm.now core token }
 {
     let symbols = grm.prod(core.0);
     core.1 < symbols.len() && is_token(symbols[core.1], token)

@@ -1,7 +1,8 @@
 //! A counterexample of a conflict.
-ghost use Rattle.std.specs.Prelude.{◌≡◌, ◌↔◌, IfOk, IsTrue, length};
+ghost use Rattle.std.specs.Prelude.{◌≡◌, ◌↔◌, IfOk, IsTrue};
 ghost use Rattle.lrpar_table_sentences.specs.Moves.{moves_in};
-ghost use Rattle.lrpar_conflict_derivations.specs.Texts.{tokens_in, token_numbers};
+ghost use Rattle.lrpar_conflict_derivations.specs.Stored.{AreSameTokens, AreTokensOf, HaveAsMany, HaveOneText, IsExampleBy};
+ghost use Rattle.lrpar_conflict_derivations.specs.Texts.{token_numbers};
 
 use lrpar_grammar::span::{StorageIndex, TIdx};
 use lrpar_table_sentences::moves::Move;
@@ -57,13 +58,7 @@ impl<StorageT: StorageIndex> Example<StorageT> {
         shortest: bool,
         bound: usize,
     ) -> Result<Self, AllocError>
-        ensures before { IfOk result (λ x. x.before ≡ tokens_in (moves_in StorageT.index front.now)) }
-        ensures first { IfOk result (λ x. x.first ≡ moves_in StorageT.index first.items) }
-        ensures second { IfOk result (λ x. x.second ≡ moves_in StorageT.index second.items) }
-        ensures ambiguous { IfOk result (λ x. IsTrue x.ambiguous
-            ↔ (tokens_in (moves_in StorageT.index first.items) ≡ tokens_in (moves_in StorageT.index second.items))) }
-        ensures shortest { IfOk result (λ x. x.shortest ≡ shortest) }
-        ensures bound { IfOk result (λ x. x.bound ≡ bound) }
+        ensures { IfOk result (IsExampleBy StorageT.index front.now first.items second.items shortest bound) }
     {
         let before = tokens_of(alloc, front)?;
         let ambiguous = have_same_text(alloc, &first, &second)?;
@@ -127,8 +122,7 @@ pub(crate) fn have_as_many<StorageT: StorageIndex>(
     one: &[Move<StorageT>],
     other: &[Move<StorageT>],
 ) -> Result<bool, AllocError>
-    ensures { IfOk result (λ same. IsTrue same
-        ↔ (length (tokens_in (moves_in StorageT.index one.now)) ≡ length (tokens_in (moves_in StorageT.index other.now)))) }
+    ensures { IfOk result (λ same. IsTrue same ↔ HaveAsMany StorageT.index one.now other.now) }
 {
     let one = tokens_of(alloc, one)?;
     let other = tokens_of(alloc, other)?;
@@ -141,8 +135,7 @@ fn have_same_text<StorageT: StorageIndex>(
     first: &[Move<StorageT>],
     second: &[Move<StorageT>],
 ) -> Result<bool, AllocError>
-    ensures { IfOk result (λ same. IsTrue same
-        ↔ (tokens_in (moves_in StorageT.index first.now) ≡ tokens_in (moves_in StorageT.index second.now))) }
+    ensures { IfOk result (λ same. IsTrue same ↔ HaveOneText StorageT.index first.now second.now) }
 {
     let one = tokens_of(alloc, first)?;
     let other = tokens_of(alloc, second)?;
@@ -151,7 +144,7 @@ fn have_same_text<StorageT: StorageIndex>(
 
 // Whether the tokens are the same.
 fn are_same<StorageT: StorageIndex>(one: &[TIdx<StorageT>], other: &[TIdx<StorageT>]) -> bool
-    ensures { IsTrue result ↔ (token_numbers StorageT.index one.now ≡ token_numbers StorageT.index other.now) }
+    ensures { IsTrue result ↔ AreSameTokens StorageT.index one.now other.now }
 {
     if one.len() != other.len() {
         return false;
@@ -169,7 +162,7 @@ pub fn tokens_of<StorageT: StorageIndex>(
     alloc: Global,
     moves: &[Move<StorageT>],
 ) -> Result<Vec<TIdx<StorageT>>, AllocError>
-    ensures { IfOk result (λ tokens. token_numbers StorageT.index tokens.items ≡ tokens_in (moves_in StorageT.index moves.now)) }
+    ensures { IfOk result (λ tokens. AreTokensOf StorageT.index moves.now tokens.items) }
 {
     let mut tokens = Vec::new(alloc);
     for step in moves {

@@ -1,19 +1,17 @@
 //! Counterexamples of the conflicts of a table that was built of a grammar.
-ghost use Rattle.std.specs.Prelude.{◌≡◌, ◌≢◌, ◌<◌, IfErr, IfOk, IfSome, map};
+ghost use Rattle.std.specs.Prelude.{◌≡◌, ◌<◌, IfErr, IfOk, IfSome};
 ghost use Rattle.std.specs.List.{Contains};
-ghost use Rattle.lrpar_grammar.specs.Symbols.{symbol_of};
-ghost use Rattle.lrpar_table_rows.specs.Graph.{graph_len};
 ghost use Rattle.lrpar_table_rows.specs.PlainConflicts.{reduce_reduce_of, shift_reduce_of};
 ghost use Rattle.lrpar_table_build.specs.Built.{IsBuilt};
 ghost use Rattle.lrpar_table_build.specs.BuilderLaws.{lists_in};
 ghost use Rattle.lrpar_table_sentences.specs.Choices.{AreShortest};
-ghost use Rattle.lrpar_table_sentences.specs.Moves.{Makes, Takes, move_of, moves_in};
 ghost use Rattle.lrpar_table_sentences.specs.Reachable.{EachReachableHasTree};
-ghost use Rattle.lrpar_table_sentences.specs.AccessStrings.{steps_of, symbols_in};
-ghost use Rattle.lrpar_conflict_derivations.specs.Example.{AreExamplesFor, IsExample, IsExampleFault, IsShortestFront};
+ghost use Rattle.lrpar_conflict_derivations.specs.Conflict.{IsConflict, IsExampleOf, IsReduceReduceExample, IsShiftReduceExample, conflict_of};
+ghost use Rattle.lrpar_conflict_derivations.specs.Example.{AreExamplesFor, IsExampleFault};
+ghost use Rattle.lrpar_conflict_derivations.specs.Stored.{IsFrontTo, IsStateOf};
 
 use crate::context::Context;
-use crate::derivations::{derive_by_reduce, derive_by_shift};
+use crate::derivations::derive;
 pub use crate::example::{Example, tokens_of};
 pub use crate::fault::ExampleFault;
 use crate::min_lengths::MinLengths;
@@ -70,9 +68,9 @@ impl<StorageT: StorageIndex> Model for Examples<StorageT> {
 
 // The steps of a shortest access path of a state, and the moves of minimal sentences' trees of its symbols.
 #[derive(Drop)]
-struct Front<StorageT> {
-    steps: Vec<Step<StorageT>>,
-    moves: Vec<Move<StorageT>>,
+pub(crate) struct Front<StorageT> {
+    pub(crate) steps: Vec<Step<StorageT>>,
+    pub(crate) moves: Vec<Move<StorageT>>,
 }
 
 impl<StorageT: StorageIndex> Examples<StorageT> {
@@ -127,17 +125,17 @@ impl<StorageT: StorageIndex> Examples<StorageT> {
         requires built { IsBuilt grm.now sgraph.now stable.now }
         requires made { AreExamplesFor grm.now sgraph.now stable.now usize.MAX self.now }
         requires member { Contains (lists_in stable.now.conflicts).reduce_reduce (reduce_reduce_of StorageT.index conflict.now) }
-        ensures example { IfOk result (λ x. IsExample grm.now sgraph.now (StorageT.index conflict.now.3.0) (StorageT.index conflict.now.0.0)
-            (Makes (StorageT.index conflict.now.1.0)) (Makes (StorageT.index conflict.now.2.0)) x) }
+        ensures example { IfOk result (IsReduceReduceExample grm.now sgraph.now (reduce_reduce_of StorageT.index conflict.now)) }
         ensures bound { IfOk result (λ x. x.bound ≡ bound) }
     {
         let (token, one, other, state) = *conflict;
-        let front = self.front(alloc, grm, sgraph, stable, state)?;
-        let plain = self.reductions(alloc, grm, sgraph, stable, &front, conflict, bound)?;
-        let (one, other) = (Move::Make(one), Move::Make(other));
-        self.with_one_text(
-            alloc, grm, sgraph, stable, &front, state, one, other, token, bound, plain,
-        )
+        let conflict = Conflict {
+            state,
+            token,
+            one: Move::Make(one),
+            other: Move::Make(other),
+        };
+        self.of_conflict(alloc, grm, sgraph, stable, &conflict, bound)
     }
 
     /// The counterexample of a conflict between a shift and a reduction, as token, production and state: one derivation reduces the
@@ -154,119 +152,88 @@ impl<StorageT: StorageIndex> Examples<StorageT> {
         requires built { IsBuilt grm.now sgraph.now stable.now }
         requires made { AreExamplesFor grm.now sgraph.now stable.now usize.MAX self.now }
         requires member { Contains (lists_in stable.now.conflicts).shift_reduce (shift_reduce_of StorageT.index conflict.now) }
-        ensures example { IfOk result (λ x. IsExample grm.now sgraph.now (StorageT.index conflict.now.2.0) (StorageT.index conflict.now.0.0)
-            (Makes (StorageT.index conflict.now.1.0)) (Takes (StorageT.index conflict.now.0.0)) x) }
+        ensures example { IfOk result (IsShiftReduceExample grm.now sgraph.now (shift_reduce_of StorageT.index conflict.now)) }
         ensures bound { IfOk result (λ x. x.bound ≡ bound) }
     {
         let (token, prod, state) = *conflict;
-        let front = self.front(alloc, grm, sgraph, stable, state)?;
-        let plain = self.shift(alloc, grm, sgraph, stable, &front, conflict, bound)?;
-        let (one, other) = (Move::Make(prod), Move::Take(token));
-        self.with_one_text(
-            alloc, grm, sgraph, stable, &front, state, one, other, token, bound, plain,
-        )
+        let conflict = Conflict {
+            state,
+            token,
+            one: Move::Make(prod),
+            other: Move::Take(token),
+        };
+        self.of_conflict(alloc, grm, sgraph, stable, &conflict, bound)
+    }
+
+    // The counterexample of a conflict: a unifying one, if one is found within the bound.
+    fn of_conflict(
+        &self,
+        alloc: Global,
+        grm: &YaccGrammar<StorageT>,
+        sgraph: &StateGraph<StorageT>,
+        stable: &StateTable<StorageT>,
+        conflict: &Conflict<StorageT>,
+        bound: usize,
+    ) -> Result<Example<StorageT>, AllocError>
+        requires built { IsBuilt grm.now sgraph.now stable.now }
+        requires made { AreExamplesFor grm.now sgraph.now stable.now usize.MAX self.now }
+        requires conflict { IsConflict grm.now sgraph.now (conflict_of StorageT.index conflict.now) }
+        ensures example { IfOk result (IsExampleOf grm.now sgraph.now (conflict_of StorageT.index conflict.now)) }
+        ensures bound { IfOk result (λ x. x.bound ≡ bound) }
+    {
+        let front = self.front(alloc, grm, sgraph, stable, conflict.state)?;
+        let plain = self.plain(alloc, grm, sgraph, stable, &front, conflict, bound)?;
+        if bound == 0 || plain.is_ambiguous() {
+            return Ok(plain);
+        }
+        match self.one_text(alloc, grm, sgraph, stable, &front, conflict, bound)? {
+            Some(found) => Ok(found),
+            None => Ok(plain),
+        }
     }
 
     // The counterexample that begins with this access path.
-    fn reductions(
+    fn plain(
         &self,
         alloc: Global,
         grm: &YaccGrammar<StorageT>,
         sgraph: &StateGraph<StorageT>,
         stable: &StateTable<StorageT>,
         front: &Front<StorageT>,
-        conflict: &(
-            TIdx<StorageT>,
-            PIdx<StorageT>,
-            PIdx<StorageT>,
-            StIdx<StorageT>,
-        ),
+        conflict: &Conflict<StorageT>,
         bound: usize,
     ) -> Result<Example<StorageT>, AllocError>
         requires built { IsBuilt grm.now sgraph.now stable.now }
         requires made { AreExamplesFor grm.now sgraph.now stable.now usize.MAX self.now }
-        requires member { Contains (lists_in stable.now.conflicts).reduce_reduce (reduce_reduce_of StorageT.index conflict.now) }
-        requires front { IsShortestFront grm.now sgraph.now (StorageT.index conflict.now.3.0) (steps_of StorageT.index front.now.steps.items)
-            (moves_in StorageT.index front.now.moves.items) }
-        ensures example { IfOk result (λ x. IsExample grm.now sgraph.now (StorageT.index conflict.now.3.0) (StorageT.index conflict.now.0.0)
-            (Makes (StorageT.index conflict.now.1.0)) (Makes (StorageT.index conflict.now.2.0)) x) }
+        requires conflict { IsConflict grm.now sgraph.now (conflict_of StorageT.index conflict.now) }
+        requires front { IsFrontTo StorageT.index grm.now sgraph.now conflict.now.state front.now }
+        ensures example { IfOk result (IsExampleOf grm.now sgraph.now (conflict_of StorageT.index conflict.now)) }
         ensures bound { IfOk result (λ x. x.bound ≡ bound) }
     {
-        let _start = grm.start_prod();
-        let (token, one, other, state) = *conflict;
         let (firsts, shortest) = (&self.firsts, &self.shortest);
-        let first = derive_by_reduce(
+        let first = derive(
             alloc,
             grm,
             firsts,
             shortest,
             sgraph,
             &front.steps,
-            state,
+            conflict.state,
             &front.moves,
-            one,
-            token,
+            conflict.token,
+            conflict.one,
         )?;
-        let second = derive_by_reduce(
+        let second = derive(
             alloc,
             grm,
             firsts,
             shortest,
             sgraph,
             &front.steps,
-            state,
+            conflict.state,
             &front.moves,
-            other,
-            token,
-        )?;
-        Example::new(alloc, &front.moves, first, second, true, bound)
-    }
-
-    // The counterexample that begins with this access path.
-    fn shift(
-        &self,
-        alloc: Global,
-        grm: &YaccGrammar<StorageT>,
-        sgraph: &StateGraph<StorageT>,
-        stable: &StateTable<StorageT>,
-        front: &Front<StorageT>,
-        conflict: &(TIdx<StorageT>, PIdx<StorageT>, StIdx<StorageT>),
-        bound: usize,
-    ) -> Result<Example<StorageT>, AllocError>
-        requires built { IsBuilt grm.now sgraph.now stable.now }
-        requires made { AreExamplesFor grm.now sgraph.now stable.now usize.MAX self.now }
-        requires member { Contains (lists_in stable.now.conflicts).shift_reduce (shift_reduce_of StorageT.index conflict.now) }
-        requires front { IsShortestFront grm.now sgraph.now (StorageT.index conflict.now.2.0) (steps_of StorageT.index front.now.steps.items)
-            (moves_in StorageT.index front.now.moves.items) }
-        ensures example { IfOk result (λ x. IsExample grm.now sgraph.now (StorageT.index conflict.now.2.0) (StorageT.index conflict.now.0.0)
-            (Makes (StorageT.index conflict.now.1.0)) (Takes (StorageT.index conflict.now.0.0)) x) }
-        ensures bound { IfOk result (λ x. x.bound ≡ bound) }
-    {
-        let _start = grm.start_prod();
-        let (token, prod, state) = *conflict;
-        let (firsts, shortest) = (&self.firsts, &self.shortest);
-        let first = derive_by_reduce(
-            alloc,
-            grm,
-            firsts,
-            shortest,
-            sgraph,
-            &front.steps,
-            state,
-            &front.moves,
-            prod,
-            token,
-        )?;
-        let second = derive_by_shift(
-            alloc,
-            grm,
-            firsts,
-            shortest,
-            sgraph,
-            &front.steps,
-            state,
-            &front.moves,
-            token,
+            conflict.token,
+            conflict.other,
         )?;
         Example::new(alloc, &front.moves, first, second, true, bound)
     }
@@ -282,9 +249,8 @@ impl<StorageT: StorageIndex> Examples<StorageT> {
     ) -> Result<Front<StorageT>, AllocError>
         requires built { IsBuilt grm.now sgraph.now stable.now }
         requires made { AreExamplesFor grm.now sgraph.now stable.now usize.MAX self.now }
-        requires state { StorageT.index state.0 < graph_len sgraph.now }
-        ensures { IfOk result (λ front. IsShortestFront grm.now sgraph.now (StorageT.index state.0) (steps_of StorageT.index front.steps.items)
-            (moves_in StorageT.index front.moves.items)) }
+        requires state { IsStateOf StorageT.index sgraph.now state }
+        ensures { IfOk result (IsFrontTo StorageT.index grm.now sgraph.now state) }
     {
         let _start = grm.start_prod();
         let _states = stable.states_len();
@@ -299,43 +265,7 @@ impl<StorageT: StorageIndex> Examples<StorageT> {
         Ok(Front { steps, moves })
     }
 
-    // A unifying counterexample, if one is found within the bound; else the plain one.
-    fn with_one_text(
-        &self,
-        alloc: Global,
-        grm: &YaccGrammar<StorageT>,
-        sgraph: &StateGraph<StorageT>,
-        stable: &StateTable<StorageT>,
-        front: &Front<StorageT>,
-        state: StIdx<StorageT>,
-        one: Move<StorageT>,
-        other: Move<StorageT>,
-        token: TIdx<StorageT>,
-        bound: usize,
-        plain: Example<StorageT>,
-    ) -> Result<Example<StorageT>, AllocError>
-        requires built { IsBuilt grm.now sgraph.now stable.now }
-        requires made { AreExamplesFor grm.now sgraph.now stable.now usize.MAX self.now }
-        requires apart { move_of StorageT.index one ≢ move_of StorageT.index other }
-        requires front { IsShortestFront grm.now sgraph.now (StorageT.index state.0) (steps_of StorageT.index front.now.steps.items)
-            (moves_in StorageT.index front.now.moves.items) }
-        requires plain { IsExample grm.now sgraph.now (StorageT.index state.0) (StorageT.index token.0) (move_of StorageT.index one) (move_of StorageT.index other) plain }
-        requires bound { plain.bound ≡ bound }
-        ensures example { IfOk result (IsExample grm.now sgraph.now (StorageT.index state.0) (StorageT.index token.0) (move_of StorageT.index one) (move_of StorageT.index other)) }
-        ensures bound { IfOk result (λ x. x.bound ≡ bound) }
-    {
-        if bound == 0 || plain.is_ambiguous() {
-            return Ok(plain);
-        }
-        match self.one_text(
-            alloc, grm, sgraph, stable, front, state, one, other, token, bound,
-        )? {
-            Some(found) => Ok(found),
-            None => Ok(plain),
-        }
-    }
-
-    // A unifying counterexample whose derivations go on by these moves, if one is found within the bound.
+    // A unifying counterexample of the conflict, if one is found within the bound.
     fn one_text(
         &self,
         alloc: Global,
@@ -343,19 +273,14 @@ impl<StorageT: StorageIndex> Examples<StorageT> {
         sgraph: &StateGraph<StorageT>,
         stable: &StateTable<StorageT>,
         front: &Front<StorageT>,
-        state: StIdx<StorageT>,
-        one: Move<StorageT>,
-        other: Move<StorageT>,
-        token: TIdx<StorageT>,
+        conflict: &Conflict<StorageT>,
         bound: usize,
     ) -> Result<Option<Example<StorageT>>, AllocError>
         requires built { IsBuilt grm.now sgraph.now stable.now }
         requires made { AreExamplesFor grm.now sgraph.now stable.now usize.MAX self.now }
-        requires apart { move_of StorageT.index one ≢ move_of StorageT.index other }
-        requires front { IsShortestFront grm.now sgraph.now (StorageT.index state.0) (steps_of StorageT.index front.now.steps.items)
-            (moves_in StorageT.index front.now.moves.items) }
-        ensures example { IfOk result (λ found. IfSome found (IsExample grm.now sgraph.now (StorageT.index state.0) (StorageT.index token.0)
-            (move_of StorageT.index one) (move_of StorageT.index other))) }
+        requires conflict { IsConflict grm.now sgraph.now (conflict_of StorageT.index conflict.now) }
+        requires front { IsFrontTo StorageT.index grm.now sgraph.now conflict.now.state front.now }
+        ensures example { IfOk result (λ found. IfSome found (IsExampleOf grm.now sgraph.now (conflict_of StorageT.index conflict.now))) }
         ensures bound { IfOk result (λ found. IfSome found (λ x. x.bound ≡ bound)) }
     {
         let context = Context {
@@ -367,13 +292,7 @@ impl<StorageT: StorageIndex> Examples<StorageT> {
             lengths: &self.lengths,
             predecessors: &self.predecessors,
         };
-        let conflict = Conflict {
-            state,
-            token,
-            one,
-            other,
-        };
-        match find_unifying(alloc, &context, &conflict, bound)? {
+        match find_unifying(alloc, &context, conflict, bound)? {
             None => Ok(None),
             Some(text) => validated(
                 alloc,
@@ -381,11 +300,8 @@ impl<StorageT: StorageIndex> Examples<StorageT> {
                 sgraph,
                 stable,
                 &self.shortest,
-                &front.moves,
-                state,
-                one,
-                other,
-                token,
+                front,
+                conflict,
                 &text,
                 bound,
             ),

@@ -1,10 +1,7 @@
 //! Minimal sentences of symbols that may derive none.
-ghost use Rattle.std.specs.Prelude.{◌≡◌, ◌++◌, ℕ, IfOk, IsTrue, map};
-ghost use Rattle.lrpar_grammar.specs.Symbols.{symbol_of};
-ghost use Rattle.lrpar_grammar.specs.Tree.{Forest};
+ghost use Rattle.std.specs.Prelude.{IfOk, IsTrue};
 ghost use Rattle.lrpar_table_sentences.specs.Choices.{AreShortest};
-ghost use Rattle.lrpar_table_sentences.specs.Moves.{forest_moves, moves_in};
-ghost use Rattle.lrpar_table_sentences.specs.Texts.{AreTreesOf};
+ghost use Rattle.lrpar_conflict_derivations.specs.Stored.{AppendsTrees};
 
 use lrpar_grammar::grammar::YaccGrammar;
 use lrpar_grammar::span::{StorageIndex, Symbol};
@@ -21,8 +18,7 @@ pub(crate) fn push_sentences<StorageT: StorageIndex>(
     out: &mut Vec<Move<StorageT>>,
 ) -> Result<bool, AllocError>
     requires shortest { AreShortest grm.now usize.MAX shortest.now }
-    ensures { IfOk result (λ done. IsTrue done → (trees : Forest ℕ) × AreTreesOf grm.now (map (symbol_of StorageT.index) symbols.now) trees
-        × (moves_in StorageT.index out.new.items ≡ moves_in StorageT.index out.old.items ++ forest_moves trees)) }
+    ensures { IfOk result (λ done. IsTrue done → AppendsTrees StorageT.index grm.now symbols.now out.old.items out.new.items) }
 {
     match shortest.len_of_all(symbols) {
         None => Ok(false),

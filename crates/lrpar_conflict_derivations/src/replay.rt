@@ -1,9 +1,10 @@
 //! Whether moves are those of a tree: they are replayed over a stack of symbols.
-ghost use Rattle.std.specs.Prelude.{◌≡◌, ◌<◌, ◌∷◌, [], IfOk, IsTrue, length, map};
+ghost use Rattle.std.specs.Prelude.{◌≡◌, ◌<◌, IfOk, IsTrue, length};
 ghost use Rattle.lrpar_grammar.specs.Grammar.{prods_len};
 ghost use Rattle.lrpar_grammar.specs.Symbols.{symbol_of};
-ghost use Rattle.lrpar_table_sentences.specs.Moves.{Makes, move_of, moves_in};
-ghost use Rattle.lrpar_conflict_derivations.specs.Replay.{AreOfTree, Replays};
+ghost use Rattle.lrpar_table_sentences.specs.Moves.{moves_in};
+ghost use Rattle.lrpar_conflict_derivations.specs.Replay.{AreOfTree};
+ghost use Rattle.lrpar_conflict_derivations.specs.Stored.{AreSameSymbols, IsAlone, ReplaysMove, ReplaysReduction};
 
 use lrpar_grammar::grammar::YaccGrammar;
 use lrpar_grammar::span::{PIdx, StorageIndex, Symbol};
@@ -30,7 +31,7 @@ pub(crate) fn are_of_tree<StorageT: StorageIndex>(
 
 // Whether this symbol is the only one.
 fn is_alone<StorageT: StorageIndex>(symbols: &[Symbol<StorageT>], symbol: Symbol<StorageT>) -> bool
-    ensures { IsTrue result → map (symbol_of StorageT.index) symbols.now ≡ symbol_of StorageT.index symbol ∷ [] }
+    ensures { IsTrue result → IsAlone StorageT.index symbol symbols.now }
 {
     if symbols.len() != 1 {
         return false;
@@ -44,8 +45,7 @@ fn replay<StorageT: StorageIndex>(
     step: Move<StorageT>,
     stack: &mut Vec<Symbol<StorageT>>,
 ) -> Result<bool, AllocError>
-    ensures { IfOk result (λ can. IsTrue can → Replays grm.now (move_of StorageT.index step) (map (symbol_of StorageT.index) stack.old.items)
-        (map (symbol_of StorageT.index) stack.new.items)) }
+    ensures { IfOk result (λ can. IsTrue can → ReplaysMove StorageT.index grm.now step stack.old.items stack.new.items) }
 {
     match step {
         Move::Take(token) => {
@@ -69,8 +69,7 @@ fn reduce<StorageT: StorageIndex>(
     stack: &mut Vec<Symbol<StorageT>>,
 ) -> Result<bool, AllocError>
     requires { StorageT.index prod.0 < prods_len grm.now }
-    ensures { IfOk result (λ can. IsTrue can → Replays grm.now (Makes (StorageT.index prod.0)) (map (symbol_of StorageT.index) stack.old.items)
-        (map (symbol_of StorageT.index) stack.new.items)) }
+    ensures { IfOk result (λ can. IsTrue can → ReplaysReduction StorageT.index grm.now prod stack.old.items stack.new.items) }
 {
     let symbols = grm.prod(prod);
     if stack.len() < symbols.len() {
@@ -88,7 +87,7 @@ fn reduce<StorageT: StorageIndex>(
 // Whether the symbols, the same number of them, are the same.
 fn are_same<StorageT: StorageIndex>(one: &[Symbol<StorageT>], other: &[Symbol<StorageT>]) -> bool
     requires { length one.now ≡ length other.now }
-    ensures { IsTrue result → map (symbol_of StorageT.index) one.now ≡ map (symbol_of StorageT.index) other.now }
+    ensures { IsTrue result → AreSameSymbols StorageT.index one.now other.now }
 {
     for place in 0..one.len() {
         if !is_same(one[place], other[place]) {

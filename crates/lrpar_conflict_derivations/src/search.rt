@@ -1,6 +1,6 @@
 //! Configurations of two derivations with a common text, and the search over them.
-ghost use Rattle.std.specs.Prelude.{◌<◌, IfSome};
-ghost use Rattle.lrpar_table_rows.specs.Graph.{graph_len};
+ghost use Rattle.std.specs.Prelude.{IfSome};
+ghost use Rattle.lrpar_conflict_derivations.specs.Stored.{IsStateOf};
 
 use crate::access_paths::AccessPaths;
 use crate::context::Context;
@@ -349,7 +349,7 @@ impl<StorageT: StorageIndex> Search<StorageT> {
 
     // The state of the level, if it is one of the graph.
     fn state_at(&self, context: &Context<'_, StorageT>, level: usize) -> Option<StIdx<StorageT>>
-        ensures { IfSome result (λ state. StorageT.index state.0 < graph_len context.now.graph.now) }
+        ensures { IfSome result (IsStateOf StorageT.index context.now.graph.now) }
     {
         let state = self.stacks.get(level)?.state;
         if usize::from(state) < context.graph.states_len() {

@@ -1,5 +1,5 @@
 //! The search for a unifying counterexample, shortest texts first. Its result is validated by a replay.
-ghost use Rattle.lrpar_table_sentences.specs.Choices.{AreShortest};
+ghost use Rattle.lrpar_conflict_derivations.specs.Stored.{HasSentences};
 
 use crate::context::Context;
 use crate::minimal_sentences::{push_sentence, push_sentences};
@@ -26,7 +26,7 @@ pub(crate) fn find_unifying<StorageT: StorageIndex>(
     conflict: &Conflict<StorageT>,
     bound: usize,
 ) -> Result<Option<Unifying<StorageT>>, AllocError>
-    requires { AreShortest context.now.grm.now usize.MAX context.now.shortest.now }
+    requires { HasSentences usize.MAX context.now }
 {
     let mut search = Search::new(alloc, context, conflict)?;
     for _ in 0..bound {
@@ -49,7 +49,7 @@ fn unifying_of<StorageT: StorageIndex>(
     search: &Search<StorageT>,
     number: usize,
 ) -> Result<Unifying<StorageT>, AllocError>
-    requires { AreShortest context.now.grm.now usize.MAX context.now.shortest.now }
+    requires { HasSentences usize.MAX context.now }
 {
     let origins = origins_of(alloc, search, number)?;
     let mut text = Unifying {
@@ -109,7 +109,7 @@ fn push_origin<StorageT: StorageIndex>(
     origin: Origin<StorageT>,
     text: &mut Unifying<StorageT>,
 ) -> Result<(), AllocError>
-    requires { AreShortest context.now.grm.now usize.MAX context.now.shortest.now }
+    requires { HasSentences usize.MAX context.now }
 {
     match origin {
         Origin::Start(level) => push_steps(&search.stacks, level, &mut text.steps),
@@ -157,7 +157,7 @@ fn push_symbol<StorageT: StorageIndex>(
     symbol: Symbol<StorageT>,
     text: &mut Unifying<StorageT>,
 ) -> Result<(), AllocError>
-    requires { AreShortest context.now.grm.now usize.MAX context.now.shortest.now }
+    requires { HasSentences usize.MAX context.now }
 {
     push_sentence(
         alloc,
@@ -182,7 +182,7 @@ fn push_both<StorageT: StorageIndex>(
     symbols: &[Symbol<StorageT>],
     text: &mut Unifying<StorageT>,
 ) -> Result<(), AllocError>
-    requires { AreShortest context.now.grm.now usize.MAX context.now.shortest.now }
+    requires { HasSentences usize.MAX context.now }
 {
     let _first = push_sentences(
         alloc,
@@ -209,7 +209,7 @@ fn finish<StorageT: StorageIndex>(
     level: usize,
     text: &mut Unifying<StorageT>,
 ) -> Result<(), AllocError>
-    requires { AreShortest context.now.grm.now usize.MAX context.now.shortest.now }
+    requires { HasSentences usize.MAX context.now }
 {
     let Some((prod, dot)) = least_core(context, stacks, level) else {
         return Ok(());
@@ -262,7 +262,7 @@ fn push_rest<StorageT: StorageIndex>(
     dot: usize,
     text: &mut Unifying<StorageT>,
 ) -> Result<(), AllocError>
-    requires { AreShortest context.now.grm.now usize.MAX context.now.shortest.now }
+    requires { HasSentences usize.MAX context.now }
 {
     if usize::from(prod) >= context.grm.prods_len() {
         return Ok(());

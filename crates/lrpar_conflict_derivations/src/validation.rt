@@ -1,20 +1,19 @@
 //! Whether the result of the search is a unifying counterexample.
-ghost use Rattle.std.specs.Prelude.{◌≡◌, ◌≢◌, ◌<◌, ◌++◌, ℕ, IfOk, IfSome, IsTrue, List, map};
+ghost use Rattle.std.specs.Prelude.{◌≡◌, ◌≢◌, ◌<◌, IfOk, IfSome, IsTrue};
 ghost use Rattle.lrpar_grammar.specs.Grammar.{Terminal};
 ghost use Rattle.lrpar_grammar.specs.Symbols.{symbol_of};
-ghost use Rattle.lrpar_table_rows.specs.Graph.{Graph};
-ghost use Rattle.lrpar_table_rows.specs.Safe.{GoesBy};
 ghost use Rattle.lrpar_table_rows.specs.Table.{states_len};
 ghost use Rattle.lrpar_table_build.specs.Built.{IsBuilt};
 ghost use Rattle.lrpar_table_sentences.specs.Choices.{AreShortest};
-ghost use Rattle.lrpar_table_sentences.specs.Moves.{move_of, moves_in};
-ghost use Rattle.lrpar_table_sentences.specs.AccessStrings.{StepOf, StepsLead, steps_of, symbols_in};
-ghost use Rattle.lrpar_conflict_derivations.specs.Example.{IsExample, IsFront, IsShortestFront};
-ghost use Rattle.lrpar_conflict_derivations.specs.Texts.{BeginsBy, ShiftsFirst};
+ghost use Rattle.lrpar_table_sentences.specs.Moves.{move_of};
+ghost use Rattle.lrpar_conflict_derivations.specs.Conflict.{IsConflict, IsExampleOf, conflict_of};
+ghost use Rattle.lrpar_conflict_derivations.specs.Stored.{AreJoined, AreMovesTo, AreSymbolsOf, BeginBy, Goes, IsExampleAfter, IsFrontTo, LeadFromStart, ShiftFirst};
 
 use crate::example::{Example, have_as_many};
+use crate::examples::Front;
 use crate::minimal_sentences::push_sentences;
 use crate::replay::are_of_tree;
+use crate::search::Conflict;
 use crate::unifying::Unifying;
 use lrpar_grammar::grammar::YaccGrammar;
 use lrpar_grammar::span::{StIdx, StorageIndex, Symbol, TIdx};
@@ -24,44 +23,37 @@ use lrpar_table_sentences::moves::Move;
 use lrpar_table_sentences::shortest::Shortest;
 use std::alloc::{AllocError, Global};
 
-/// The counterexample of an access path and two derivations that were found, if the path leads to the state, and the derivations begin with
-/// these moves, shift the token next, are those of trees, and have one text. `front` is that of a shortest access path.
+/// The counterexample of an access path and two derivations that were found, if the path leads to the conflict's state, and the derivations
+/// begin with its moves, shift its token next, are those of trees, and have one text. `front` is that of a shortest access path.
 pub(crate) fn validated<StorageT: StorageIndex>(
     alloc: Global,
     grm: &YaccGrammar<StorageT>,
     graph: &StateGraph<StorageT>,
     table: &StateTable<StorageT>,
     shortest: &Shortest<StorageT>,
-    front: &[Move<StorageT>],
-    state: StIdx<StorageT>,
-    one: Move<StorageT>,
-    other: Move<StorageT>,
-    token: TIdx<StorageT>,
+    front: &Front<StorageT>,
+    conflict: &Conflict<StorageT>,
     text: &Unifying<StorageT>,
     bound: usize,
 ) -> Result<Option<Example<StorageT>>, AllocError>
     requires built { IsBuilt grm.now graph.now table.now }
     requires shortest { AreShortest grm.now usize.MAX shortest.now }
-    requires apart { move_of StorageT.index one ≢ move_of StorageT.index other }
-    requires front { (steps : List StepOf) × IsShortestFront grm.now graph.now (StorageT.index state.0) steps (moves_in StorageT.index front.now) }
-    ensures example { IfOk result (λ found. IfSome found (IsExample grm.now graph.now (StorageT.index state.0) (StorageT.index token.0)
-        (move_of StorageT.index one) (move_of StorageT.index other))) }
+    requires conflict { IsConflict grm.now graph.now (conflict_of StorageT.index conflict.now) }
+    requires front { IsFrontTo StorageT.index grm.now graph.now conflict.now.state front.now }
+    ensures example { IfOk result (λ found. IfSome found (IsExampleOf grm.now graph.now (conflict_of StorageT.index conflict.now))) }
     ensures bound { IfOk result (λ found. IfSome found (λ x. x.bound ≡ bound)) }
 {
-    match path_moves(alloc, grm, graph, table, shortest, &text.steps, state)? {
+    match path_moves(
+        alloc,
+        grm,
+        graph,
+        table,
+        shortest,
+        &text.steps,
+        conflict.state,
+    )? {
         None => Ok(None),
-        Some(moves) => example_of(
-            alloc,
-            grm,
-            &moves,
-            front,
-            one,
-            other,
-            token,
-            &text.first,
-            &text.second,
-            bound,
-        ),
+        Some(moves) => example_of(alloc, grm, &moves, &front.moves, conflict, text, bound),
     }
 }
 
@@ -77,8 +69,7 @@ fn path_moves<StorageT: StorageIndex>(
 ) -> Result<Option<Vec<Move<StorageT>>>, AllocError>
     requires built { IsBuilt grm.now graph.now table.now }
     requires shortest { AreShortest grm.now usize.MAX shortest.now }
-    ensures { IfOk result (λ found. IfSome found (λ moves. IsFront grm.now graph.now (StorageT.index state.0) (steps_of StorageT.index steps.now)
-        (moves_in StorageT.index moves.items))) }
+    ensures { IfOk result (λ found. IfSome found (λ moves. AreMovesTo StorageT.index grm.now graph.now state steps.now moves.items)) }
 {
     let _graph = graph.states_len();
     let _states = table.states_len();
@@ -99,7 +90,7 @@ fn lead<StorageT: StorageIndex>(
     steps: &[Step<StorageT>],
     last: StIdx<StorageT>,
 ) -> bool
-    ensures { IsTrue result → StepsLead table.now (table.now).start (steps_of StorageT.index steps.now) (StorageT.index last.0) }
+    ensures { IsTrue result → LeadFromStart StorageT.index table.now steps.now last }
 {
     let mut state = table.start_state();
     let mut rest = steps;
@@ -122,7 +113,7 @@ fn next_by<StorageT: StorageIndex>(
     state: StIdx<StorageT>,
     symbol: Symbol<StorageT>,
 ) -> Option<StIdx<StorageT>>
-    ensures { IfSome result (λ next. GoesBy table.now (StorageT.index state.0) (symbol_of StorageT.index symbol) (StorageT.index next.0)) }
+    ensures { IfSome result (Goes StorageT.index table.now state (symbol_of StorageT.index symbol)) }
 {
     if usize::from(state) >= table.states_len() {
         return None;
@@ -146,7 +137,7 @@ fn shift_by<StorageT: StorageIndex>(
     token: TIdx<StorageT>,
 ) -> Option<StIdx<StorageT>>
     requires { StorageT.index state.0 < states_len table.now }
-    ensures { IfSome result (λ next. GoesBy table.now (StorageT.index state.0) (Terminal (StorageT.index token.0)) (StorageT.index next.0)) }
+    ensures { IfSome result (Goes StorageT.index table.now state (Terminal (StorageT.index token.0))) }
 {
     if usize::from(token) >= table.tokens_len() {
         return None;
@@ -157,27 +148,23 @@ fn shift_by<StorageT: StorageIndex>(
     }
 }
 
-// The counterexample of two derivations that continue these first moves, if they begin with `one` and `other`, shift the token next, are
+// The counterexample of two derivations that continue these first moves, if they begin with the conflict's moves, shift its token next, are
 // those of trees, and have one text.
 fn example_of<StorageT: StorageIndex>(
     alloc: Global,
     grm: &YaccGrammar<StorageT>,
     front: &[Move<StorageT>],
     short: &[Move<StorageT>],
-    one: Move<StorageT>,
-    other: Move<StorageT>,
-    token: TIdx<StorageT>,
-    first: &[Move<StorageT>],
-    second: &[Move<StorageT>],
+    conflict: &Conflict<StorageT>,
+    text: &Unifying<StorageT>,
     bound: usize,
 ) -> Result<Option<Example<StorageT>>, AllocError>
-    requires { move_of StorageT.index one ≢ move_of StorageT.index other }
-    ensures example { IfOk result (λ found. IfSome found (λ x. (graph : Graph) (s : ℕ) (steps short_steps : List StepOf)
-        → IsFront grm.now graph s steps (moves_in StorageT.index front.now)
-        → IsShortestFront grm.now graph s short_steps (moves_in StorageT.index short.now)
-        → IsExample grm.now graph s (StorageT.index token.0) (move_of StorageT.index one) (move_of StorageT.index other) x)) }
+    requires { move_of StorageT.index conflict.now.one ≢ move_of StorageT.index conflict.now.other }
+    ensures example { IfOk result (λ found. IfSome found (IsExampleAfter StorageT.index grm.now conflict.now front.now short.now)) }
     ensures bound { IfOk result (λ found. IfSome found (λ x. x.bound ≡ bound)) }
 {
+    let (first, second) = (text.first.as_slice(), text.second.as_slice());
+    let (one, other, token) = (conflict.one, conflict.other, conflict.token);
     if !begin_with(first, one, token) || !begin_with(second, other, token) {
         return Ok(None);
     }
@@ -200,15 +187,15 @@ fn begin_with<StorageT: StorageIndex>(
     next: Move<StorageT>,
     token: TIdx<StorageT>,
 ) -> bool
-    ensures begins { IsTrue result → BeginsBy (move_of StorageT.index next) (moves_in StorageT.index moves.now) }
-    ensures shifts { IsTrue result → ShiftsFirst (StorageT.index token.0) (moves_in StorageT.index moves.now) }
+    ensures begins { IsTrue result → BeginBy StorageT.index next moves.now }
+    ensures shifts { IsTrue result → ShiftFirst StorageT.index token moves.now }
 {
     begins_by(moves, next) && shifts_first(moves, token)
 }
 
 // Whether the moves begin with this one.
 fn begins_by<StorageT: StorageIndex>(moves: &[Move<StorageT>], next: Move<StorageT>) -> bool
-    ensures { IsTrue result → BeginsBy (move_of StorageT.index next) (moves_in StorageT.index moves.now) }
+    ensures { IsTrue result → BeginBy StorageT.index next moves.now }
 {
     if moves.is_empty() {
         return false;
@@ -218,7 +205,7 @@ fn begins_by<StorageT: StorageIndex>(moves: &[Move<StorageT>], next: Move<Storag
 
 // Whether the token is the first that the moves shift.
 fn shifts_first<StorageT: StorageIndex>(moves: &[Move<StorageT>], token: TIdx<StorageT>) -> bool
-    ensures { IsTrue result → ShiftsFirst (StorageT.index token.0) (moves_in StorageT.index moves.now) }
+    ensures { IsTrue result → ShiftFirst StorageT.index token moves.now }
 {
     for step in moves {
         match *step {
@@ -251,7 +238,7 @@ fn joined<StorageT: StorageIndex>(
     front: &[Move<StorageT>],
     moves: &[Move<StorageT>],
 ) -> Result<Vec<Move<StorageT>>, AllocError>
-    ensures { IfOk result (λ all. moves_in StorageT.index all.items ≡ moves_in StorageT.index front.now ++ moves_in StorageT.index moves.now) }
+    ensures { IfOk result (λ all. AreJoined StorageT.index front.now moves.now all.items) }
 {
     let mut all = Vec::from_slice(alloc, front)?;
     all.extend_from_slice(moves)?;
@@ -263,7 +250,7 @@ pub(crate) fn symbols_of<StorageT: StorageIndex>(
     alloc: Global,
     steps: &[Step<StorageT>],
 ) -> Result<Vec<Symbol<StorageT>>, AllocError>
-    ensures { IfOk result (λ symbols. map (symbol_of StorageT.index) symbols.items ≡ symbols_in (steps_of StorageT.index steps.now)) }
+    ensures { IfOk result (λ symbols. AreSymbolsOf StorageT.index steps.now symbols.items) }
 {
     let mut symbols = Vec::with_capacity(alloc, steps.len())?;
     for step in steps {

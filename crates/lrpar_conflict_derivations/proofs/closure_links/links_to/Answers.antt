@@ -34,7 +34,7 @@ note_rule-requires-clause-rule g c =
     let low : i < length links = OnTrue_at c.links-test.true c.goes_on.ensures.more in
     let same = link_is index links i c.index-link.result.now low c.index-link.ensures in
     let there : i < length (links_of index links) = let long = length-map links (link_of index) in omega (arith, long, low) in
-    let own = rule_within grm set token c.start_prod-start.ensures.well_formed (link_at (links_of index links) i) (c.links.invariant.1 i there).step in
+    let own = rule_within grm set token c.requires.asked.well_formed (link_at (links_of index links) i) (c.links.invariant.1 i there).step in
     subst (λ (x : LinkOf). x.rule < rules_len grm) (sym same) own.1
 
 pub links-smaller : goal.links-smaller
@@ -51,7 +51,7 @@ links-preserved g c =
     let grm = c.args.grm.now in
     let set = sets_of c.args.graph.now (index c.args.state.0) in
     let token = index c.args.token.0 in
-    let well = c.start_prod-start.ensures.well_formed in
+    let well = c.requires.asked.well_formed in
     let links = c.links.found.links.items in
     let old = links_of index links in
     let new = links_of index c.note_rule.new.found.links.items in
@@ -82,13 +82,13 @@ returns-clause-linked g c =
     let asked = c.args.asked in
     let set = sets_of c.args.graph.now s in
     let links = links_of index c.links.found.links.items in
-    let reached = c.requires.canonical.reached s c.requires.state in
+    let reached = c.requires.asked.canonical.reached s c.requires.asked.state in
     λ y has_item front listed own of_rule.
     elim (OnFalse_at c.links-test.false c.goes_on.ensures.done) as (λ _. HasLink links asked r) [
       | inl past ↦
           let end : length links ≤ c.links.at = let long = length-map c.links.found.links.items (link_of index) in omega (arith, long, past) in
           let all =
-          all_linked grm c.start_prod-start.ensures.well_formed (index c.args.token.0) links
+          all_linked grm c.requires.asked.well_formed (index c.args.token.0) links
           (λ i low. c.links.invariant.3 i (omega (arith, low, end))) set reached.0 reached.1 c.links.invariant.2 in
           subst (HasLink links asked) of_rule (all y asked has_item front listed own)
       | inr there ↦ there

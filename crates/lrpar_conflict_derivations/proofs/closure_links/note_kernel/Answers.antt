@@ -18,15 +18,9 @@ pub note_core-requires-clause-core : goal.note_core-requires-clause-core
 note_core-requires-clause-core g c =
     let index = g.StorageT.StorageIndex.index in
     let core = c.core-item.result in
-    ((c.begun_cores-core-items.ensures.all (index core.0.0) core.1).1
-    (core_in index c.begun_cores-core-items.result.now c.loop-core.core-index core c.loop-core-test.true c.core-item.is)).0
-
-pub note_core-requires-clause-begun : goal.note_core-requires-clause-begun
-note_core-requires-clause-begun g c =
-    let index = g.StorageT.StorageIndex.index in
-    let core = c.core-item.result in
-    inl ((c.begun_cores-core-items.ensures.all (index core.0.0) core.1).1
-    (core_in index c.begun_cores-core-items.result.now c.loop-core.core-index core c.loop-core-test.true c.core-item.is)).1
+    let begun = (c.begun_cores-core-items.ensures.all (index core.0.0) core.1).1
+    (core_in index c.begun_cores-core-items.result.now c.loop-core.core-index core c.loop-core-test.true c.core-item.is) in
+    (begun.0, inl begun.1)
 
 pub loop-core-preserved : goal.loop-core-preserved
 loop-core-preserved g c =

@@ -16,13 +16,14 @@ loop-pidx-init g c =
       λ p has_one. absurd (let low = has_one.1 in omega arith),
     )
 
-pub note-requires-clause-prod : goal.note-requires-clause-prod
-note-requires-clause-prod g c =
+pub note-requires-clause-core : goal.note-requires-clause-core
+note-requires-clause-core g c =
     let index = g.StorageT.StorageIndex.index in
     let p = c.pidx-item.result in
     let listed = prod_in index c.rule_to_prods-pidx-items.result.now c.loop-pidx.pidx-index p c.loop-pidx-test.true c.pidx-item.is in
-    (of_prods c.args.grm.now (index c.args.link.rule.0) (index p.0)
-    (subst (λ (xs : List ℕ). Contains xs (index p.0)) c.rule_to_prods-pidx-items.ensures listed)).0
+    let known =
+    of_prods c.args.grm.now (index c.args.link.rule.0) (index p.0) (subst (λ (xs : List ℕ). Contains xs (index p.0)) c.rule_to_prods-pidx-items.ensures listed) in
+    (known.0, omega arith)
 
 pub loop-pidx-preserved : goal.loop-pidx-preserved
 loop-pidx-preserved g c =

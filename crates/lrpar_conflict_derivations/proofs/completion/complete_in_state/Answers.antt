@@ -1,24 +1,33 @@
 use Rattle.std.proofs.Common.{refl, sym, subst}
+use Rattle.std.proofs.lemmas.Result.{IfOk-weaker}
 use Rattle.lrpar_table_rows.specs.Graph.{item_at}
 use Rattle.lrpar_table_items.specs.Canonical.{sets_of}
 use Rattle.lrpar_grammar.specs.Grammar.{rule_of}
 use Rattle.lrpar_conflict_derivations.specs.Completion.{AreUpLinks, EndsLink, up_of}
 use Rattle.lrpar_conflict_derivations.specs.ClosureLinks.{HasLink, IsKernelItem, links_of}
 use Rattle.lrpar_conflict_derivations.proofs.LinkLemmas.{core_known}
-use Rattle.lrpar_conflict_derivations.proofs.OkLemmas.{IfOk-then}
 use Rattle.lrpar_conflict_derivations.proofs.UpLemmas.{ends_begun, up_links}
 use Rattle.lrpar_conflict_derivations.proofs.completion.complete_in_state.Goals as goal
 
 pub prod_to_rule-rule-requires : goal.prod_to_rule-rule-requires
 prod_to_rule-rule-requires g c =
     let index = g.StorageT.StorageIndex.index in
-    (core_known c.args.grm.now c.start_prod-start.ensures.well_formed c.args.graph.now c.requires.canonical (index c.args.state.0) (index c.args.prod.0) 0
+    (core_known c.args.grm.now c.start_prod-start.ensures.well_formed c.args.graph.now c.requires.parts.canonical (index c.args.state.0) (index c.args.prod.0) 0
     c.requires.state (c.requires.item.0, c.requires.item.1)).0
+
+pub links_to-requires-clause-asked : goal.links_to-requires-clause-asked
+links_to-requires-clause-asked g c = record {
+  well_formed = c.start_prod-start.ensures.well_formed;
+  firsts = c.requires.parts.firsts;
+  canonical = c.requires.parts.canonical;
+  state = c.requires.state;
+  token = c.requires.token;
+}
 
 pub complete_by_links-requires-clause-prod : goal.complete_by_links-requires-clause-prod
 complete_by_links-requires-clause-prod g c =
     let index = g.StorageT.StorageIndex.index in
-    (core_known c.args.grm.now c.start_prod-start.ensures.well_formed c.args.graph.now c.requires.canonical (index c.args.state.0) (index c.args.prod.0) 0
+    (core_known c.args.grm.now c.start_prod-start.ensures.well_formed c.args.graph.now c.requires.parts.canonical (index c.args.state.0) (index c.args.prod.0) 0
     c.requires.state (c.requires.item.0, c.requires.item.1)).0
 
 pub complete_by_links-requires-clause-links : goal.complete_by_links-requires-clause-links
@@ -26,7 +35,7 @@ complete_by_links-requires-clause-links g c =
     let index = g.StorageT.StorageIndex.index in
     let grm = c.args.grm.now in
     let s = index c.args.state.0 in
-    let reached = c.requires.canonical.reached s c.requires.state in
+    let reached = c.requires.parts.canonical.reached s c.requires.state in
     subst (λ xs. AreUpLinks grm (index c.args.token.0) (links_of index xs)) (sym c.deref.ensures.value)
     (up_links grm c.start_prod-start.ensures.well_formed (sets_of c.args.graph.now s) reached.0 reached.1 (index c.args.token.0)
     (links_of index c.in_ok-links.links.items) c.in_ok-links.ensures.links)
@@ -47,7 +56,7 @@ returns-clause-begun g c =
     let set = sets_of c.args.graph.now (index c.args.state.0) in
     let token = index c.args.token.0 in
     let links = links_of index c.in_ok-links.links.items in
-    IfOk-then c.complete_by_links.result _ (λ up. IsKernelItem grm set token (index up.prod.0) up.dot up.asked)
+    IfOk-weaker c.complete_by_links.result _ (λ up. IsKernelItem grm set token (index up.prod.0) up.dot up.asked)
     (λ up ends.
     ends_begun grm set token links (up_of index up) c.in_ok-links.ensures.links
     (subst (λ xs. EndsLink grm (links_of index xs) (up_of index up)) c.deref.ensures.value ends))

@@ -1,10 +1,9 @@
 use Rattle.std.proofs.Common.{◌≡◌, ◌+◌, ◌⊎◌, inl, inr, true, false}
+use Rattle.std.proofs.lemmas.Result.{on_ok_weaker}
 use Rattle.lrpar_grammar.specs.Grammar.{symbols_of}
 use Rattle.lrpar_grammar.specs.Symbols.{symbol_of}
 use Rattle.lrpar_table_sentences.specs.Moves.{moves_in}
-use Rattle.lrpar_conflict_derivations.specs.Completion.{HasRest}
 use Rattle.lrpar_conflict_derivations.specs.ClosureLinks.{link_of}
-use Rattle.lrpar_conflict_derivations.proofs.OkLemmas.{OnOk-then}
 use Rattle.lrpar_conflict_derivations.proofs.RestLemmas.{rest_any, rest_begin, rest_of, some_begin, some_trees}
 use Rattle.lrpar_conflict_derivations.proofs.completion.push_rest.Goals.{else-link-via-then-link+else-not-link, else-link-via-else-link}
 use Rattle.lrpar_conflict_derivations.proofs.completion.push_rest.Goals as goal
@@ -26,7 +25,7 @@ returns-then-not-link g c =
     let link = c.args.link in
     let out = moves_in index c.args.out.now.items in
     let new = moves_in index c.push_moves_from.new.out.items in
-    OnOk-then c.push_moves_from.result _ (HasRest grm (index c.args.token.0) (link_of index link) out new)
+    on_ok_weaker c.push_moves_from.result
     (λ pushed.
     rest_begin grm c.requires.well_formed c.requires.each (index c.args.token.0) c.requires.token (link_of index link) c.requires.step c.requires.reached out new
     c.if-link.true _
@@ -54,7 +53,7 @@ returns g c =
       | else-link-via-then-link+else-not-link w ↦ inr w.if-not-link.false
       | else-link-via-else-link w ↦ inl w.if-link.false
     ] in
-    OnOk-then c.push_all_moves.result _ (HasRest grm (index c.args.token.0) (link_of index link) out new)
+    on_ok_weaker c.push_all_moves.result
     (λ pushed.
     rest_any grm c.requires.well_formed c.requires.each (index c.args.token.0) c.requires.token (link_of index link) c.requires.step c.requires.reached out new
     either _

@@ -20,7 +20,7 @@ push_all_moves-requires-clause-some g c =
     let found = rw c.unwrap-core.ensures at c.core_before.ensures in
     let rest = rest_of (symbol_of index) (core.1 + 1) c.prod.result.now (symbols_of grm p) c.prod.ensures in
     subst (HaveTrees grm) (sym rest)
-    (core_rest grm c.start_prod-start.ensures.well_formed c.requires.each c.args.graph.now c.requires.canonical (index c.args.last.0) p core.1
+    (core_rest grm c.start_prod-start.ensures.well_formed c.requires.parts.each c.args.graph.now c.requires.parts.canonical (index c.args.last.0) p core.1
     (Terminal (index c.args.token.0)) c.requires.last found.0 found.1)
 
 pub returns : goal.returns

@@ -11,11 +11,12 @@ pub returns-clause-example : goal.returns-clause-example
 returns-clause-example g c =
     let index = g.StorageT.StorageIndex.index in
     let grm = c.args.grm.now in
-    let t = index c.args.token.0 in
+    let conflict = c.args.conflict.now in
+    let t = index conflict.token.0 in
     let front = moves_in index c.args.front.now in
     let short = moves_in index c.args.short.now in
-    let one = move_of index c.args.one in
-    let other = move_of index c.args.other in
+    let one = move_of index conflict.one in
+    let other = move_of index conflict.other in
     let a = moves_in index c.in_ok-first.first.items in
     let b = moves_in index c.in_ok-second.second.items in
     let tree_a = subst (λ xs. AreOfTree grm (moves_in index xs)) c.deref.ensures.value (c.in_ok-are_of_tree.ensures c.if-not-branch.false) in
@@ -25,11 +26,11 @@ returns-clause-example g c =
     let flag = c.in_ok-shortest.shortest in
     λ graph s steps short_steps lead least.
     example_done grm graph s t steps front a b one other example c.requires lead
-    (validated_derives grm steps t front (moves_in index c.args.first.now) a one c.in_ok-first.ensures (c.begin_with.ensures.begins c.if-not-begin_with.false)
+    (validated_derives grm steps t front _ a one c.in_ok-first.ensures (c.begin_with.ensures.begins c.if-not-begin_with.false)
     (c.begin_with.ensures.shifts c.if-not-begin_with.false) tree_a)
-    (validated_derives grm steps t front (moves_in index c.args.second.now) b other c.in_ok-second.ensures (c.begin_with-else-not-begin_with.ensures.begins c.if-not-begin_with-2.false)
+    (validated_derives grm steps t front _ b other c.in_ok-second.ensures (c.begin_with-else-not-begin_with.ensures.begins c.if-not-begin_with-2.false)
     (c.begin_with-else-not-begin_with.ensures.shifts c.if-not-begin_with-2.false) tree_b)
-    made.before made.first made.second made.ambiguous
+    flag c.args.bound made
     (subst (λ is. IsTrue is ↔ IsLeastTo grm graph s (tokens_in front)) (sym made.shortest)
     (least_by grm graph s steps short_steps front short flag lead least c.in_ok-shortest.ensures))
     (inr (sym c.is_ambiguous.ensures ∙ c.if-not-is_ambiguous.false))

@@ -1,13 +1,7 @@
 use Rattle.lrpar_table_rows.specs.PlainConflicts.{shift_reduce_of}
-use Rattle.lrpar_conflict_derivations.proofs.ExampleLemmas.{node_and_token}
+use Rattle.lrpar_conflict_derivations.proofs.ExampleLemmas.{shift_conflict}
 use Rattle.lrpar_conflict_derivations.proofs.examples.Examples.of_shift_reduce.Goals as goal
 
-pub front-requires-clause-state : goal.front-requires-clause-state
-front-requires-clause-state g c = ((c.requires.built.conflicts.shift_reduce (shift_reduce_of g.StorageT.StorageIndex.index c.args.conflict.now)).0 c.requires.member).0
-
-pub with_one_text-requires-clause-apart : goal.with_one_text-requires-clause-apart
-with_one_text-requires-clause-apart g c =
-    let index = g.StorageT.StorageIndex.index in
-    let conflict = c.args.conflict.now in
-    let facts = (c.requires.built.conflicts.shift_reduce (shift_reduce_of index conflict)).0 c.requires.member in
-    node_and_token (index conflict.1.0) (index conflict.0.0)
+pub of_conflict-requires-clause-conflict : goal.of_conflict-requires-clause-conflict
+of_conflict-requires-clause-conflict g c =
+    shift_conflict c.args.grm.now c.args.sgraph.now c.args.stable.now c.requires.built (shift_reduce_of g.StorageT.StorageIndex.index c.args.conflict.now) c.requires.member

@@ -1,8 +1,6 @@
 use Rattle.std.proofs.Common.{List, Option, sym, ap, subst}
 use Rattle.lrpar_table_sentences.specs.Choices.{AreShortest, ChoiceOf}
-use Rattle.lrpar_table_sentences.specs.Moves.{moves_in}
-use Rattle.lrpar_table_sentences.specs.AccessStrings.{steps_of}
-use Rattle.lrpar_conflict_derivations.specs.Example.{ExamplesOf, IsShortestFront}
+use Rattle.lrpar_conflict_derivations.specs.Example.{ExamplesOf}
 use Rattle.lrpar_conflict_derivations.proofs.examples.Examples.one_text.Goals as goal
 
 pub find_unifying-requires : goal.find_unifying-requires
@@ -14,11 +12,3 @@ pub validated-requires-clause-shortest : goal.validated-requires-clause-shortest
 validated-requires-clause-shortest g c =
     subst (λ (w : List (Option ChoiceOf)). AreShortest c.args.grm.now 18446744073709551615 w)
     (sym (ap (λ (x : ExamplesOf). x.shortest) c.self.view_is)) c.requires.made.shortest
-
-pub validated-requires-clause-front : goal.validated-requires-clause-front
-validated-requires-clause-front g c =
-    let index = g.StorageT.StorageIndex.index in
-    let steps = steps_of index c.args.front.now.steps.items in (
-      steps,
-      subst (λ xs. IsShortestFront c.args.grm.now c.args.sgraph.now (index c.args.state.0) steps (moves_in index xs)) (sym c.deref.ensures.value) c.requires.front,
-    )
