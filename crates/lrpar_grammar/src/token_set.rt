@@ -43,13 +43,7 @@ impl TokenSet {
     pub fn has_any(&self) -> bool
         ensures { IsTrue result ↔ ((t : ℕ) × IsTrue (has self.now.bits.items t)) }
     {
-        let bits = self.bits.as_slice();
-        // Without a branch, so that many tokens are looked at at once.
-        let mut any = false;
-        for token in 0..bits.len() {
-            any = any || bits[token];
-        }
-        any
+        self.bits.contains(&true)
     }
 
     /// Puts the token into the set.
@@ -62,7 +56,6 @@ impl TokenSet {
     }
 
     /// Puts all tokens of the other set below `end` into this one. Returns whether any of them was new.
-    #[inline(never)]
     pub fn unite_below(&mut self, other: &TokenSet, end: usize) -> bool
         requires room { end ≤ length self.old.bits.items }
         requires other { end ≤ length other.now.bits.items }
@@ -73,7 +66,7 @@ impl TokenSet {
     {
         let bits = self.bits.as_mut_slice();
         let others = other.bits.as_slice();
-        // Without a branch, and in a function of its own, so that many tokens are united at once.
+        // Without a branch, so that many tokens are united at once.
         let mut grown = false;
         for token in 0..end {
             let was = bits[token];
