@@ -2,25 +2,18 @@
 """Writes docs/DEFINITIONS.md from the comments in crates/*/specs: definitions.py [--check]
 
 What comes before the page's first part is kept. Each crate is a part, each file of its specs a part below it, in the order in which
-`Lib.antt` names them, and each public definition a row: its name, and the comment above it. Definitions that follow one another under one
-comment share a row. With --check nothing is written, and the status is 1 if the page isn't the one that would be written."""
+`Lib.antt` names them, and each definition that users reach (tools/public.py) a row: its name, and the comment above it. Definitions that
+follow one another under one comment share a row. With --check nothing is written, and the status is 1 if the page isn't the one that would be written."""
 
-import pathlib
 import re
 import sys
 
-ROOT = pathlib.Path(__file__).resolve().parent.parent
+from public import ROOT, crates, reached
+
 PAGE = ROOT / "docs" / "DEFINITIONS.md"
 # A line that begins a block whose lines may be definitions, and one of a definition.
 BLOCK = re.compile(r"(?:abbrev |unfoldable )?(?:mutual$|module )")
 DEFINITION = re.compile(r"(?:(?:abbrev |unfoldable )?pub (?:record |data )?)(?!use |mod )([^\s:]+)")
-
-
-def crates():
-    """The crates in the order of crates.txt."""
-    for line in (ROOT / "crates.txt").read_text().splitlines():
-        if line and not line.startswith("#"):
-            yield line.split(":")[0]
 
 
 def files(crate):
@@ -67,11 +60,14 @@ def rows(lines):
     return found
 
 
-def section(path):
-    """The part of a file: what its first comment says, and its definitions."""
+def section(crate, path, shown_names):
+    """The part of a file: what its first comment says, and those of its definitions that are shown."""
     head, lines = split_head(path.read_text().split("\n"))
     shown = [f"### `{path.relative_to(path.parent.parent)}`", "", comment_of(head), ""]
-    table = rows(lines)
+    found = rows(lines)
+    table = [row for row in found if not crate.startswith("lrpar") or any((crate, path.stem, name) in shown_names for name in row[0])]
+    if found and not table:
+        return []
     if table:
         shown += ["| name | meaning |", "|---|---|"]
         for names, meaning in table:
@@ -84,8 +80,9 @@ def section(path):
 def page():
     """The whole page."""
     lines = PAGE.read_text().split("\n## ", 1)[0].rstrip().split("\n") + [""]
+    shown_names = reached()
     for crate in crates():
-        parts = [line for path in files(crate) for line in section(path)]
+        parts = [line for path in files(crate) for line in section(crate, path, shown_names)]
         if parts:
             lines += [f"## `{crate}`", "", *parts]
     return "\n".join(lines).rstrip() + "\n"
