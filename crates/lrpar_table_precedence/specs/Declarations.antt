@@ -27,7 +27,7 @@ HasProdsByName g d made = (p : ℕ) → p < prods_len g → prod_precedence made
 abbrev pub HasNamesOf : List Level → BTreeMap (Bor (List ℕ)) Precedence → Type 0
 HasNamesOf levels names = HasPrecedences names (name_entries (map level_of levels))
 
--- the words were added with this precedence, but those that had one: as if they were listed after all other names
+-- the words were added with this precedence, after the entries that the map has: of equal names the first counts
 abbrev pub AddsNames : List Word → Precedence → BTreeMap (Bor (List ℕ)) Precedence → BTreeMap (Bor (List ℕ)) Precedence → Type 0
 AddsNames words precedence old new =
     (entries : List (List ℕ × Precedence)) → HasPrecedences old entries

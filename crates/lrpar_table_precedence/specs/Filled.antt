@@ -27,7 +27,7 @@ AreProdSlots g slots = length slots.items ≡ prods_len g
 abbrev pub HasSlotsFor : List (ℕ × Precedence) → List (Option Precedence) → Type 0
 HasSlotsFor entries slots = All (λ entry. entry.0 < length slots) entries
 
--- two entries have the number
+-- more than one entry has the number
 abbrev pub IsTwiceIn : List (ℕ × Precedence) → ℕ → Type 0
 IsTwiceIn entries n = 2 ≤ times_listed (keys_of entries) n
 
