@@ -1,6 +1,6 @@
 -- The result of the table builder: the canonical collection of a grammar as the item sets of states, the canonical LR(1) table, and its
 -- conflicts.
-use Rattle.std.specs.Prelude.{◌≡◌, ◌<◌, ◌↔◌, ℕ, List, All, None}
+use Rattle.std.specs.Prelude.{◌≡◌, ◌<◌, ◌≤◌, ◌↔◌, ℕ, List, [], All, None}
 use Rattle.std.specs.List.Sorted.{IsStrictlySortedBy}
 use Rattle.std.specs.Ordering.{nat_cmp, ordering_then}
 use Rattle.std.specs.declared.cmp.Ordering.{Ordering}
@@ -74,3 +74,23 @@ IsBuildRefusal g most limit TooManyStates = ReachesMore g most
 IsBuildRefusal g most limit StorageTooSmall = ReachesMore g limit
 IsBuildRefusal g most limit (AcceptReduceConflict n) = HasAcceptConflict g n
 IsBuildRefusal g most limit Memory = Unit {0}
+
+-- a graph and a table that are built for the grammar
+abbrev pub AreBuilt : Grammar → Graph × Table → Type 0
+AreBuilt g built = IsBuilt g built.0 built.1
+
+-- the same, by the precedences
+abbrev pub AreBuiltBy : Grammar → PrecedenceLists → Graph × Table → Type 0
+AreBuiltBy g precedences built = IsBuiltBy g precedences built.0 built.1
+
+-- the graph has at most so many states
+abbrev pub HaveAtMost : ℕ → Graph × Table → Type 0
+HaveAtMost most built = graph_len built.0 ≤ most
+
+-- the graph has so many states
+abbrev pub HaveStates : ℕ → Graph × Table → Type 0
+HaveStates n built = graph_len built.0 ≡ n
+
+-- the table has no resolved conflicts
+abbrev pub HaveNoneResolved : Graph × Table → Type 0
+HaveNoneResolved built = built.1.resolved ≡ []

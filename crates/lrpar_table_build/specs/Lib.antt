@@ -1,3 +1,4 @@
 pub mod BuilderLaws
 pub mod Built
 pub mod KeptApart
+pub mod Stored

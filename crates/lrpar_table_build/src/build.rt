@@ -1,7 +1,6 @@
 //! The table builder: the canonical collection of LR(1) item sets of a grammar, and its canonical LR(1) table.
-ghost use Rattle.std.specs.Prelude.{◌≡◌, ◌≤◌, [], IfErr, IfOk};
-ghost use Rattle.lrpar_table_rows.specs.Graph.{graph_len};
-ghost use Rattle.lrpar_table_build.specs.Built.{IsBuildRefusal, IsBuilt, IsBuiltBy};
+ghost use Rattle.std.specs.Prelude.{IfErr, IfOk};
+ghost use Rattle.lrpar_table_build.specs.Built.{AreBuilt, AreBuiltBy, HaveAtMost, HaveNoneResolved, IsBuildRefusal};
 
 use crate::tables::tables;
 use lrpar_grammar::grammar::YaccGrammar;
@@ -29,9 +28,9 @@ pub fn from_yacc<StorageT: StorageIndex>(
 ) -> Result<(StateGraph<StorageT>, StateTable<StorageT>), BuildFault>
     // The item sets are the canonical collection, and the table has their actions after conflict resolution. It is safe, and its
     // conflicts are theirs and fit.
-    ensures built { IfOk result (λ built. IsBuilt grm.now built.0 built.1) }
-    ensures room { IfOk result (λ built. graph_len built.0 ≤ max_states) }
-    ensures nothing_resolved { IfOk result (λ built. built.1.resolved ≡ []) }
+    ensures built { IfOk result (AreBuilt grm.now) }
+    ensures room { IfOk result (HaveAtMost max_states) }
+    ensures nothing_resolved { IfOk result HaveNoneResolved }
     // `TooManyStates` and `StorageTooSmall`: there are too many item sets; `AcceptReduceConflict`: one calls for accept and a reduction.
     ensures refused { IfErr result (IsBuildRefusal grm.now max_states StorageT.limit) }
 {
@@ -59,8 +58,8 @@ pub fn from_yacc_with<StorageT: StorageIndex>(
 ) -> Result<(StateGraph<StorageT>, StateTable<StorageT>), BuildFault>
     // The item sets are the canonical collection, and the table has their actions after conflict resolution by the precedences. It is
     // safe. Its conflicts are those that the precedences don't resolve, its resolved conflicts are the others, and both fit.
-    ensures built { IfOk result (λ built. IsBuiltBy grm.now precedences.now built.0 built.1) }
-    ensures room { IfOk result (λ built. graph_len built.0 ≤ max_states) }
+    ensures built { IfOk result (AreBuiltBy grm.now precedences.now) }
+    ensures room { IfOk result (HaveAtMost max_states) }
     // As for `from_yacc`.
     ensures refused { IfErr result (IsBuildRefusal grm.now max_states StorageT.limit) }
 {

@@ -1,16 +1,10 @@
 //! The state graph and the table of states: of the canonical collection, and of any item sets.
-ghost use Rattle.std.specs.Prelude.{◌≡◌, ◌≢◌, ◌<◌, ◌≤◌, ◌↔◌, ◌++◌, ℕ, [], IfErr, IfOk, OnOk, length, map};
-ghost use Rattle.lrpar_grammar.specs.Grammar.{tokens_len};
-ghost use Rattle.lrpar_table_rows.specs.Graph.{HasItem, graph_len};
-ghost use Rattle.lrpar_table_rows.specs.PlainConflicts.{reduce_reduce_of, resolved_conflict_of, shift_reduce_of};
-ghost use Rattle.lrpar_table_rows.specs.PlainRows.{action_entry, goto_entry, sparse_table_of};
+ghost use Rattle.std.specs.Prelude.{◌≡◌, ◌≢◌, ◌<◌, ◌≤◌, IfErr, IfOk, OnOk, length};
+ghost use Rattle.lrpar_table_rows.specs.Graph.{graph_len};
+ghost use Rattle.lrpar_table_rows.specs.PlainRows.{sparse_table_of};
 ghost use Rattle.lrpar_table_rows.specs.Table.{IsTable};
-ghost use Rattle.lrpar_table_build.specs.Built.{IsBuiltBy};
-ghost use Rattle.lrpar_table_items.specs.StateRows as spec;
-ghost use Rattle.lrpar_table_items.specs.StateRows.{IsRefusalOf, IsRefusedState, action_rows, conflicts_of_states, goto_rows, item_rows, reduce_conflicts_below, resolved_of_states, shift_conflicts_below, table_with, unless_empty};
-ghost use Rattle.lrpar_table_precedence.specs.Precedence.{PrecedenceLists};
-ghost use Rattle.lrpar_table_items.specs.States.{AreStateRows, AreStates, state_at, state_of};
-ghost use Rattle.lrpar_table_items.specs.Resolution.{IsAcceptReduce, resolutions, unresolved};
+ghost use Rattle.lrpar_table_build.specs.Built.{AreBuiltBy, HaveStates};
+ghost use Rattle.lrpar_table_build.specs.Stored.{AppendsReduceReduce, AppendsResolved, AppendsUnresolved, AreActions, AreActionsBySome, AreConflicts, AreGotos, AreResolved, AreStatesOf, HasItemsOf, HasRows, HaveNoAcceptReduce, HaveRows, IsFaultOf, IsTableOf, conflicts_of};
 ghost use Rattle.lrpar_table_items.specs.declared.fault.BuildFault.TheVariants.{Memory};
 ghost use Rattle.lrpar_table_rows.specs.declared.fault.TableFault.{TableFault};
 
@@ -44,11 +38,11 @@ pub(crate) fn tables<StorageT: StorageIndex>(
     precedences: &Precedences,
     states: Vec<State<StorageT>>,
 ) -> Result<(StateGraph<StorageT>, StateTable<StorageT>), BuildFault>
-    requires states { AreStates grm.now (map (state_of StorageT.index) states.items) }
+    requires states { AreStatesOf StorageT.index grm.now states.items }
     requires fit { length states.items ≤ StorageT.limit }
-    ensures built { IfOk result (λ built. IsBuiltBy grm.now precedences.now built.0 built.1) }
-    ensures len { IfOk result (λ built. graph_len built.0 ≡ length states.items) }
-    ensures refused { IfErr result (IsRefusalOf (length states.items) (IsRefusedState grm.now (map (state_of StorageT.index) states.items))) }
+    ensures built { IfOk result (AreBuiltBy grm.now precedences.now) }
+    ensures len { IfOk result (HaveStates (length states.items)) }
+    ensures refused { IfErr result (IsFaultOf StorageT.index grm.now states.items) }
 {
     let _start = grm.start_prod();
     state_tables(alloc, grm, precedences, states)
@@ -65,16 +59,14 @@ pub fn state_tables<StorageT: StorageIndex>(
     precedences: &Precedences,
     states: Vec<State<StorageT>>,
 ) -> Result<(StateGraph<StorageT>, StateTable<StorageT>), BuildFault>
-    requires rows { AreStateRows grm.now (map (state_of StorageT.index) states.items) }
+    requires rows { HaveRows StorageT.index grm.now states.items }
     requires some { 0 < length states.items }
     requires fit { length states.items ≤ StorageT.limit }
-    ensures len { IfOk result (λ built. graph_len built.0 ≡ length states.items) }
-    ensures items { IfOk result (λ built. (s p k t : ℕ)
-        → HasItem built.0 s p k t ↔ HasItem (item_rows grm.now (map (state_of StorageT.index) states.items)) s p k t) }
-    ensures table { IfOk result (λ built. built.1 ≡ spec.table_of_states precedences.now grm.now (map (state_of StorageT.index) states.items)) }
-    ensures none { IfOk result (λ _. (s t : ℕ) → s < length states.items → t < tokens_len grm.now
-        → ¬ (let state = state_at (map (state_of StorageT.index) states.items) s in IsAcceptReduce grm.now state.cores state.shifts t)) }
-    ensures refused { IfErr result (IsRefusalOf (length states.items) (IsRefusedState grm.now (map (state_of StorageT.index) states.items))) }
+    ensures len { IfOk result (HaveStates (length states.items)) }
+    ensures items { IfOk result (λ built. HasItemsOf StorageT.index grm.now states.items built.0) }
+    ensures table { IfOk result (λ built. IsTableOf StorageT.index precedences.now grm.now states.items built.1) }
+    ensures none { IfOk result (λ _. HaveNoAcceptReduce StorageT.index grm.now states.items) }
+    ensures refused { IfErr result (IsFaultOf StorageT.index grm.now states.items) }
 {
     let (actions, conflicts, resolved) = all_actions(alloc, grm, precedences, &states)?;
     let graph = graph_of(alloc, grm, &states)?;
@@ -96,15 +88,13 @@ fn all_actions<StorageT: StorageIndex>(
     ),
     BuildFault,
 >
-    requires rows { AreStateRows grm.now (map (state_of StorageT.index) states.now) }
+    requires rows { HaveRows StorageT.index grm.now states.now }
     requires fit { length states.now ≤ StorageT.limit }
-    ensures rows { IfOk result (λ made. map (λ row. map (action_entry StorageT.index) row.items) made.0.items
-        ≡ action_rows precedences.now grm.now (map (state_of StorageT.index) states.now)) }
-    ensures conflicts { IfOk result (λ made. made.1 ≡ conflicts_of_states precedences.now grm.now (map (state_of StorageT.index) states.now)) }
-    ensures resolved { IfOk result (λ made. made.2 ≡ resolved_of_states precedences.now grm.now (map (state_of StorageT.index) states.now)) }
-    ensures none { IfOk result (λ _. (s t : ℕ) → s < length states.now → t < tokens_len grm.now
-        → ¬ (let state = state_at (map (state_of StorageT.index) states.now) s in IsAcceptReduce grm.now state.cores state.shifts t)) }
-    ensures refused { IfErr result (IsRefusalOf (length states.now) (IsRefusedState grm.now (map (state_of StorageT.index) states.now))) }
+    ensures rows { IfOk result (λ made. AreActions StorageT.index precedences.now grm.now states.now made.0) }
+    ensures conflicts { IfOk result (λ made. AreConflicts StorageT.index precedences.now grm.now states.now made.1) }
+    ensures resolved { IfOk result (λ made. AreResolved StorageT.index precedences.now grm.now states.now made.2) }
+    ensures none { IfOk result (λ _. HaveNoAcceptReduce StorageT.index grm.now states.now) }
+    ensures refused { IfErr result (IsFaultOf StorageT.index grm.now states.now) }
 {
     let mut rr = Vec::new(alloc);
     let mut sr = Vec::new(alloc);
@@ -132,19 +122,14 @@ fn rows_of_actions<StorageT: StorageIndex>(
     sr: &mut Vec<ShiftReduce<StorageT>>,
     resolved: &mut Vec<ResolvedConflict<StorageT>>,
 ) -> Result<Vec<ActionRow<StorageT>>, BuildFault>
-    requires rows { AreStateRows grm.now (map (state_of StorageT.index) states.now) }
+    requires rows { HaveRows StorageT.index grm.now states.now }
     requires fit { length states.now ≤ StorageT.limit }
-    ensures rows { IfOk result (λ rows. map (λ row. map (action_entry StorageT.index) row.items) rows.items
-        ≡ action_rows precedences.now grm.now (map (state_of StorageT.index) states.now)) }
-    ensures rr { OnOk result (map (reduce_reduce_of StorageT.index) rr.new.items ≡ map (reduce_reduce_of StorageT.index) rr.old.items
-        ++ reduce_conflicts_below grm.now (map (state_of StorageT.index) states.now) (length states.now)) }
-    ensures sr { OnOk result (map (shift_reduce_of StorageT.index) sr.new.items ≡ map (shift_reduce_of StorageT.index) sr.old.items
-        ++ unresolved precedences.now (shift_conflicts_below grm.now (map (state_of StorageT.index) states.now) (length states.now))) }
-    ensures resolved { OnOk result (map (resolved_conflict_of StorageT.index) resolved.new.items ≡ map (resolved_conflict_of StorageT.index) resolved.old.items
-        ++ resolutions precedences.now (shift_conflicts_below grm.now (map (state_of StorageT.index) states.now) (length states.now))) }
-    ensures none { IfOk result (λ _. (s t : ℕ) → s < length states.now → t < tokens_len grm.now
-        → ¬ (let state = state_at (map (state_of StorageT.index) states.now) s in IsAcceptReduce grm.now state.cores state.shifts t)) }
-    ensures refused { IfErr result (IsRefusalOf (length states.now) (IsRefusedState grm.now (map (state_of StorageT.index) states.now))) }
+    ensures rows { IfOk result (AreActions StorageT.index precedences.now grm.now states.now) }
+    ensures rr { OnOk result (AppendsReduceReduce StorageT.index grm.now states.now rr.old rr.new) }
+    ensures sr { OnOk result (AppendsUnresolved StorageT.index precedences.now grm.now states.now sr.old sr.new) }
+    ensures resolved { OnOk result (AppendsResolved StorageT.index precedences.now grm.now states.now resolved.old resolved.new) }
+    ensures none { IfOk result (λ _. HaveNoAcceptReduce StorageT.index grm.now states.now) }
+    ensures refused { IfErr result (IsFaultOf StorageT.index grm.now states.now) }
 {
     let mut rows = Vec::with_capacity(alloc, states.len())?;
     for number in 0..states.len() {
@@ -174,8 +159,7 @@ fn graph_of<StorageT: StorageIndex>(
 ) -> Result<StateGraph<StorageT>, BuildFault>
     requires { length states.now ≤ StorageT.limit }
     ensures len { IfOk result (λ graph. graph_len graph ≡ length states.now) }
-    ensures items { IfOk result (λ graph. (s p k t : ℕ)
-        → HasItem graph s p k t ↔ HasItem (item_rows grm.now (map (state_of StorageT.index) states.now)) s p k t) }
+    ensures items { IfOk result (HasItemsOf StorageT.index grm.now states.now) }
     ensures refused { IfErr result (λ fault. fault ≡ Memory) }
 {
     let sets = item_sets(alloc, grm, states)?;
@@ -190,8 +174,7 @@ fn rows_of_gotos<StorageT: StorageIndex>(
     alloc: Global,
     states: Vec<State<StorageT>>,
 ) -> Result<Vec<GotoRow<StorageT>>, AllocError>
-    ensures { IfOk result (λ rows. map (λ row. map (goto_entry StorageT.index) row.items) rows.items
-        ≡ goto_rows (map (state_of StorageT.index) states.items)) }
+    ensures { IfOk result (AreGotos StorageT.index states.items) }
 {
     let mut rows = Vec::with_capacity(alloc, states.len())?;
     for state in states {
@@ -205,7 +188,7 @@ fn conflicts_of<StorageT: StorageIndex>(
     rr: Vec<ReduceReduce<StorageT>>,
     sr: Vec<ShiftReduce<StorageT>>,
 ) -> Option<Conflicts<StorageT>>
-    ensures { result ≡ unless_empty (map (reduce_reduce_of StorageT.index) rr.items) (map (shift_reduce_of StorageT.index) sr.items) }
+    ensures { result ≡ conflicts_of StorageT.index rr sr }
 {
     if rr.is_empty() && sr.is_empty() {
         None
@@ -222,13 +205,11 @@ fn table_of_states<StorageT: StorageIndex>(
     actions: Vec<ActionRow<StorageT>>,
     conflicts: Option<Conflicts<StorageT>>,
 ) -> Result<StateTable<StorageT>, BuildFault>
-    requires rows { AreStateRows grm.now (map (state_of StorageT.index) states.items) }
+    requires rows { HaveRows StorageT.index grm.now states.items }
     requires some { 0 < length states.items }
     requires fit { length states.items ≤ StorageT.limit }
-    requires actions { (lists : PrecedenceLists) × (map (λ row. map (action_entry StorageT.index) row.items) actions.items
-        ≡ action_rows lists grm.now (map (state_of StorageT.index) states.items)) }
-    ensures table { IfOk result (λ table. table ≡ table_with grm.now (map (state_of StorageT.index) states.items)
-        (map (λ row. map (action_entry StorageT.index) row.items) actions.items) conflicts []) }
+    requires actions { AreActionsBySome StorageT.index grm.now states.items actions }
+    ensures table { IfOk result (HasRows StorageT.index grm.now states.items actions conflicts) }
     ensures valid { IfOk result (IsTable StorageT.limit) }
     ensures refused { IfErr result (λ fault. fault ≡ Memory) }
 {

@@ -1,8 +1,7 @@
 //! The rule after the dot of an item.
-ghost use Rattle.std.specs.Prelude.{◌≡◌, ◌≢◌, ◌<◌, ◌≤◌, ◌∷◌, ℕ, List, All, IfSome, MatchOption, drop, map};
-ghost use Rattle.lrpar_grammar.specs.Grammar.{GrammarSymbol, IsWellFormed, Nonterminal, prod_len, prods_len, rules_len, symbols_of, tokens_len};
-ghost use Rattle.lrpar_grammar.specs.Symbols.{symbol_of};
-ghost use Rattle.lrpar_table_first.specs.FirstRows.{IsSymbolBelow};
+ghost use Rattle.std.specs.Prelude.{◌<◌, ◌≤◌, IfSome};
+ghost use Rattle.lrpar_grammar.specs.Grammar.{IsWellFormed, prod_len, prods_len, rules_len};
+ghost use Rattle.lrpar_table_first.specs.Stored.{AreSymbolsOf, FindsRule};
 
 use lrpar_grammar::grammar::YaccGrammar;
 use lrpar_grammar::span::{PIdx, RIdx, StorageIndex, Symbol};
@@ -16,12 +15,9 @@ pub fn rule_after<'a, StorageT: StorageIndex>(
     requires well_formed { IsWellFormed grm.now }
     requires prod { StorageT.index pidx.0 < prods_len grm.now }
     requires dot { dot ≤ prod_len grm.now (StorageT.index pidx.0) }
-    ensures rule { let after = drop dot (symbols_of grm.now (StorageT.index pidx.0)) in
-        MatchOption result ((r : ℕ) (w : List GrammarSymbol) → after ≢ Nonterminal r ∷ w)
-        (λ found. after ≡ Nonterminal (StorageT.index found.0.0) ∷ map (symbol_of StorageT.index) found.1.now) }
+    ensures rule { FindsRule StorageT.index grm.now pidx dot result }
     ensures within { IfSome result (λ found. StorageT.index found.0.0 < rules_len grm.now) }
-    ensures rest { IfSome result (λ found. All (IsSymbolBelow (rules_len grm.now) (tokens_len grm.now))
-        (map (symbol_of StorageT.index) found.1.now)) }
+    ensures rest { IfSome result (λ found. AreSymbolsOf StorageT.index grm.now found.1.now) }
 {
     let symbols = &grm.prod(pidx)[dot..];
     match symbols.split_first() {

@@ -1,10 +1,8 @@
 //! FIRST sets of rules, and which rules are nullable.
-ghost use Rattle.std.specs.Prelude.{◌≡◌, ◌<◌, ◌+◌, ◌||◌, ◌↔◌, ◌⊎◌, ℕ, All, IfOk, IsTrue, false, length, map};
+ghost use Rattle.std.specs.Prelude.{◌≡◌, ◌<◌, ◌+◌, IfOk, length};
 ghost use Rattle.std.specs.Bool.{OnFalse, OnTrue};
-ghost use Rattle.lrpar_grammar.specs.Grammar.{IsWellFormed, prods_len, rules_len, tokens_len};
-ghost use Rattle.lrpar_grammar.specs.Symbols.{symbol_of};
-ghost use Rattle.lrpar_table_first.specs.FirstRows.{AreFirsts, AreSound, HaveRoom, HoldNothing, IsClosedAt, IsFirstBefore, IsSymbolBelow, begins, dummy_lookahead, rows_of, total_missing};
-ghost use Rattle.lrpar_grammar.specs.Tokens.{has};
+ghost use Rattle.lrpar_grammar.specs.Grammar.{IsWellFormed, prods_len};
+ghost use Rattle.lrpar_table_first.specs.Stored.{AddsBefore, AddsFirst, AreClosed, AreEmpty, AreFirstsOf, AreSymbolsBelow, AreSymbolsOf, AreWide, HaveFirsts, HaveGrown, HaveRoomFor, HaveSpace, IsClosedFor, IsWide, KeepRoom, KeepTokens, StaySound};
 
 use lrpar_grammar::grammar::YaccGrammar;
 use lrpar_grammar::span::{PIdx, StorageIndex, Symbol};
@@ -17,7 +15,7 @@ pub fn first_sets<StorageT: StorageIndex>(
     alloc: Global,
     grm: &YaccGrammar<StorageT>,
 ) -> Result<Vec<TokenSet>, AllocError>
-    ensures { IfOk result (λ sets. AreFirsts grm.now (rows_of sets.items)) }
+    ensures { IfOk result (HaveFirsts grm.now) }
 {
     let _start = grm.start_prod();
     let mut sets = empty_sets(alloc, grm)?;
@@ -31,8 +29,8 @@ pub fn empty_sets<StorageT: StorageIndex>(
     alloc: Global,
     grm: &YaccGrammar<StorageT>,
 ) -> Result<Vec<TokenSet>, AllocError>
-    ensures room { IfOk result (λ sets. HaveRoom grm.now (rows_of sets.items)) }
-    ensures none { IfOk result (λ sets. HoldNothing (rows_of sets.items)) }
+    ensures room { IfOk result (HaveSpace grm.now) }
+    ensures none { IfOk result (λ sets. AreEmpty sets.items) }
 {
     let mut sets = Vec::with_capacity(alloc, grm.rules_len())?;
     for _ in 0..grm.rules_len() {
@@ -43,8 +41,8 @@ pub fn empty_sets<StorageT: StorageIndex>(
 
 /// Empties the sets.
 pub fn clear_all(sets: &mut [TokenSet])
-    ensures none { HoldNothing (rows_of sets.new) }
-    ensures room { map (λ row. length row) (rows_of sets.new) ≡ map (λ row. length row) (rows_of sets.old) }
+    ensures none { AreEmpty sets.new }
+    ensures room { KeepRoom sets.old sets.new }
 {
     for rule in 0..sets.len() {
         sets[rule].clear();
@@ -59,13 +57,11 @@ fn grow_all<StorageT: StorageIndex>(
     front: &mut TokenSet,
 ) -> bool
     requires well_formed { IsWellFormed grm.now }
-    requires room { HaveRoom grm.now (rows_of sets.old) }
-    requires front { length front.old.bits.items ≡ dummy_lookahead grm.now + 1 }
-    ensures room { HaveRoom grm.now (rows_of sets.new) }
-    ensures front { length front.new.bits.items ≡ dummy_lookahead grm.now + 1 }
-    ensures sound { AreSound grm.now (rows_of sets.old) → AreSound grm.now (rows_of sets.new) }
-    ensures grown { OnTrue result (total_missing (rows_of sets.new) < total_missing (rows_of sets.old)) }
-    ensures closed { OnFalse result ((p : ℕ) → p < prods_len grm.now → IsClosedAt grm.now (rows_of sets.new) p) }
+    requires room { AreWide grm.now sets.old front.old }
+    ensures room { AreWide grm.now sets.new front.new }
+    ensures sound { StaySound grm.now sets.old sets.new }
+    ensures grown { OnTrue result (HaveGrown sets.old sets.new) }
+    ensures closed { OnFalse result (AreClosed grm.now sets.new) }
 {
     let mut grown = false;
     for prod in 0..grm.prods_len() {
@@ -86,14 +82,12 @@ fn grow<StorageT: StorageIndex>(
 ) -> bool
     requires prod { StorageT.index pidx.0 < prods_len grm.now }
     requires well_formed { IsWellFormed grm.now }
-    requires room { HaveRoom grm.now (rows_of sets.old) }
-    requires front { length front.old.bits.items ≡ dummy_lookahead grm.now + 1 }
-    ensures room { HaveRoom grm.now (rows_of sets.new) }
-    ensures front { length front.new.bits.items ≡ dummy_lookahead grm.now + 1 }
-    ensures sound { AreSound grm.now (rows_of sets.old) → AreSound grm.now (rows_of sets.new) }
-    ensures grown { OnTrue result (total_missing (rows_of sets.new) < total_missing (rows_of sets.old)) }
-    ensures same { OnFalse result (rows_of sets.new ≡ rows_of sets.old) }
-    ensures closed { OnFalse result (IsClosedAt grm.now (rows_of sets.new) (StorageT.index pidx.0)) }
+    requires room { AreWide grm.now sets.old front.old }
+    ensures room { AreWide grm.now sets.new front.new }
+    ensures sound { StaySound grm.now sets.old sets.new }
+    ensures grown { OnTrue result (HaveGrown sets.old sets.new) }
+    ensures same { OnFalse result (KeepTokens sets.old sets.new) }
+    ensures closed { OnFalse result (IsClosedFor StorageT.index grm.now sets.new pidx) }
 {
     let dummy = grm.tokens_len();
     front.clear();
@@ -111,16 +105,14 @@ pub fn add_first_before<StorageT: StorageIndex>(
     front: &mut TokenSet,
     set: &mut TokenSet,
 )
-    requires well_formed { IsWellFormed grm.now }
-    requires firsts { AreFirsts grm.now (rows_of sets.now) }
-    requires symbols { All (IsSymbolBelow (rules_len grm.now) (tokens_len grm.now)) (map (symbol_of StorageT.index) symbols.now) }
-    requires after { length after.now.bits.items ≡ dummy_lookahead grm.now + 1 }
-    requires front { length front.old.bits.items ≡ dummy_lookahead grm.now + 1 }
-    requires set { length set.old.bits.items ≡ dummy_lookahead grm.now + 1 }
-    ensures front { length front.new.bits.items ≡ dummy_lookahead grm.now + 1 }
-    ensures set { length set.new.bits.items ≡ dummy_lookahead grm.now + 1 }
-    ensures tokens { (t : ℕ) → IsTrue (has set.new.bits.items t) ↔ (IsTrue (has set.old.bits.items t)
-        ⊎ IsFirstBefore grm.now after.now.bits.items (map (symbol_of StorageT.index) symbols.now) t) }
+    requires firsts { AreFirstsOf grm.now sets.now }
+    requires symbols { AreSymbolsOf StorageT.index grm.now symbols.now }
+    requires after { IsWide grm.now after.now }
+    requires front { IsWide grm.now front.old }
+    requires set { IsWide grm.now set.old }
+    ensures front { IsWide grm.now front.new }
+    ensures set { IsWide grm.now set.new }
+    ensures tokens { AddsBefore StorageT.index grm.now after.now symbols.now set.old set.new }
 {
     if !after.has_any() {
         return;
@@ -142,12 +134,11 @@ pub fn add_first<StorageT: StorageIndex>(
     dummy: usize,
     front: &mut TokenSet,
 )
-    requires rules { All (IsSymbolBelow (length sets.now) dummy) (map (symbol_of StorageT.index) symbols.now) }
-    requires wide { All (λ row. length row ≡ dummy + 1) (rows_of sets.now) }
+    requires rules { AreSymbolsBelow StorageT.index (length sets.now) dummy symbols.now }
+    requires wide { HaveRoomFor dummy sets.now }
     requires front { length front.old.bits.items ≡ dummy + 1 }
     ensures front { length front.new.bits.items ≡ dummy + 1 }
-    ensures tokens { (t : ℕ) → has front.new.bits.items t
-        ≡ (has front.old.bits.items t || begins dummy (rows_of sets.now) (map (symbol_of StorageT.index) symbols.now) t) }
+    ensures tokens { AddsFirst StorageT.index dummy sets.now symbols.now front.old front.new }
 {
     for symbol in symbols {
         match *symbol {

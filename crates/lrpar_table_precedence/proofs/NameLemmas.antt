@@ -1,8 +1,8 @@
 -- Precedences by names: a map of them, and the slots of tokens and productions.
-use Rattle.std.proofs.Common.{◌≡◌, ◌<◌, ◌+◌, ◌++◌, ◌∷◌, ◌==◌, ◌∙◌, ◌⊎◌, inl, inr, ℕ, zero, suc, Bool, true, false, cond, List, [], Option, Some, None, Bor, bytes_eq, drop, get_or, length, map, take, slice_get, slice_index_or, refl, sym, ap, subst}
+use Rattle.std.proofs.Common.{◌≡◌, ◌<◌, ◌+◌, ◌++◌, ◌∷◌, ◌==◌, ◌∙◌, ℕ, zero, suc, Bool, true, false, cond, List, [], Option, Some, None, Bor, bytes_eq, drop, get_or, length, map, take, slice_get, slice_index_or, refl, sym, ap, subst}
 use Rattle.std.specs.BTreeMap.{BTreeMap}
 use Rattle.std.specs.Cmp.Lexicographic.{nat_list_eq_equiv}
-use Rattle.std.specs.List.{find, flat_map, range_with_len}
+use Rattle.std.specs.List.{flat_map, range_with_len}
 use Rattle.std.specs.Map.{lookup, update}
 use Rattle.std.specs.Option.{is_some, option_and_then, option_map_or, option_or}
 use Rattle.std.proofs.lemmas.List.{append_assoc, drop_more, get_or-map, map-append, take_more}
@@ -17,7 +17,7 @@ use Rattle.lrpar_grammar_yacc.specs.Declares.{TextLevel, TextPrec, level_of, pre
 use Rattle.lrpar_table_precedence.specs.declared.precedence.Precedence.{Precedence}
 use Rattle.lrpar_table_precedence.specs.ByName.{HasPrecedences, names_at, prec_of_prod, precedence_in, text_level_at}
 use Rattle.lrpar_table_precedence.proofs.FilledLemmas.{empty_from_test, lookup_push, or_none}
-use Rattle.lrpar_table_precedence.proofs.LevelLemmas.{and_then_same, flat_more}
+use Rattle.lrpar_table_precedence.proofs.LevelLemmas.{flat_more}
 
 -- what is there, or something else
 or_some : (o other : Option Precedence) → is_some o ≡ true → option_or o other ≡ o

@@ -2,3 +2,5 @@ pub mod Precedence
 pub mod Levels
 pub mod ByName
 pub mod Filled
+pub mod Stored
+pub mod Declarations

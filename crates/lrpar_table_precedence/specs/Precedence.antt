@@ -1,9 +1,10 @@
 -- What precedences decide between a shift and a reduction: yacc's rule, as in Aho, Johnson and Ullman, 'Deterministic Parsing of
 -- Ambiguous Grammars'.
-use Rattle.std.specs.Prelude.{ℕ, List, [], Option, Some, None, slice_index_or}
+use Rattle.std.specs.Prelude.{◌≡◌, ◌≤◌, ℕ, List, [], Option, Some, None, slice_index_or}
 use Rattle.std.specs.Ordering.{nat_cmp}
 use Rattle.std.specs.declared.cmp.Ordering.{Ordering}
 use Rattle.std.specs.declared.cmp.Ordering.TheVariants.{Less, Equal, Greater}
+use Rattle.lrpar_grammar.specs.Grammar.{Grammar, prods_len}
 use Rattle.lrpar_grammar_yacc.specs.declared.parts.AssocKind.{AssocKind}
 use Rattle.lrpar_grammar_yacc.specs.declared.parts.AssocKind.TheVariants.{Left, Right, Nonassoc}
 use Rattle.lrpar_table_precedence.specs.declared.precedence.Precedence.{Precedence}
@@ -48,6 +49,10 @@ token_precedence lists t = slice_index_or lists.tokens t None
 -- the precedence of production p
 abbrev pub prod_precedence : PrecedenceLists → ℕ → Option Precedence
 prod_precedence lists p = slice_index_or lists.prods p None
+
+-- no production past those of the grammar has a precedence
+abbrev pub HasNoOtherProds : Grammar → PrecedenceLists → Type 0
+HasNoOtherProds g lists = (p : ℕ) → prods_len g ≤ p → prod_precedence lists p ≡ None
 
 -- p against t: how a conflict between the reduction by p and the shift of t is resolved, if it is
 abbrev pub resolution_of : PrecedenceLists → ℕ → ℕ → Option Resolution

@@ -1,13 +1,7 @@
 //! The precedences that a `.y` file declares, by names.
-ghost use Rattle.std.specs.Prelude.{◌≡◌, ◌<◌, ◌≤◌, ◌++◌, List, ℕ, IfOk, None, OnOk, length, map};
-ghost use Rattle.std.specs.Option.{option_map_or};
-ghost use Rattle.lrpar_grammar.specs.Grammar.{prods_len};
-ghost use Rattle.lrpar_grammar_words.specs.Words.{placed};
-ghost use Rattle.lrpar_grammar_yacc.specs.Declares.{declarations_of, level_of, prec_of};
-ghost use Rattle.lrpar_table_precedence.specs.declared.precedence.Precedence.{Precedence};
-ghost use Rattle.lrpar_table_precedence.specs.ByName.{HasPrecedences, name_entries, prec_of_prod, precedence_in, prod_by_name, token_by_name};
-ghost use Rattle.lrpar_table_precedence.specs.Filled.{slot_at};
-ghost use Rattle.lrpar_table_precedence.specs.Precedence.{prod_precedence, token_precedence};
+ghost use Rattle.std.specs.Prelude.{IfOk, OnOk};
+ghost use Rattle.lrpar_table_precedence.specs.Declarations.{AddsNames, AreNamePrecedences, HasNamesOf, HasProdsByName, HasTokensByName, TakesPrecs};
+ghost use Rattle.lrpar_table_precedence.specs.Precedence.{HasNoOtherProds};
 
 use crate::filled::empty_slots;
 use crate::precedence::Precedence;
@@ -31,9 +25,9 @@ impl Precedences {
         grm: &YaccGrammar<StorageT>,
         declarations: &Declarations<'_>,
     ) -> Result<Precedences, AllocError>
-        ensures tokens { IfOk result (λ made. (t : ℕ) → token_precedence made t ≡ token_by_name grm.now (declarations_of declarations.now).levels t) }
-        ensures prods { IfOk result (λ made. (p : ℕ) → p < prods_len grm.now → prod_precedence made p ≡ prod_by_name grm.now (declarations_of declarations.now) p) }
-        ensures others { IfOk result (λ made. (p : ℕ) → prods_len grm.now ≤ p → prod_precedence made p ≡ None) }
+        ensures tokens { IfOk result (HasTokensByName grm.now declarations.now) }
+        ensures prods { IfOk result (HasProdsByName grm.now declarations.now) }
+        ensures others { IfOk result (HasNoOtherProds grm.now) }
     {
         let names = names_of_levels(alloc, &declarations.levels)?;
         let tokens = tokens_by_name(alloc, grm, &names)?;
@@ -49,7 +43,7 @@ fn names_of_levels<'a>(
     alloc: Global,
     levels: &[Level<'a>],
 ) -> Result<BTreeMap<&'a str, Precedence>, AllocError>
-    ensures { IfOk result (λ names. HasPrecedences names (name_entries (map level_of levels.now))) }
+    ensures { IfOk result (HasNamesOf levels.now) }
 {
     let mut names = BTreeMap::new(alloc);
     for number in 0..levels.len() {
@@ -69,8 +63,7 @@ fn add_names<'a>(
     words: &[Word<'a>],
     precedence: Precedence,
 ) -> Result<(), AllocError>
-    ensures { OnOk result ((entries : List (List ℕ × Precedence)) → HasPrecedences names.old entries
-        → HasPrecedences names.new (entries ++ map (λ w. (w.name, precedence)) (map placed words.now))) }
+    ensures { OnOk result (AddsNames words.now precedence names.old names.new) }
 {
     for word in words {
         if !names.contains_key(word.name) {
@@ -86,7 +79,7 @@ fn tokens_by_name<StorageT: StorageIndex>(
     grm: &YaccGrammar<StorageT>,
     names: &BTreeMap<&str, Precedence>,
 ) -> Result<Vec<Option<Precedence>>, AllocError>
-    ensures { IfOk result (λ tokens. tokens.items ≡ map (precedence_in names.now) (map (λ token. token.name) (grm.now).tokens)) }
+    ensures { IfOk result (AreNamePrecedences grm.now names.now) }
 {
     let named = grm.tokens_map(alloc)?;
     let mut tokens = Vec::with_capacity(alloc, named.len())?;
@@ -102,8 +95,7 @@ fn take_precs(
     precs: &[Prec<'_>],
     names: &BTreeMap<&str, Precedence>,
 )
-    ensures { (p : ℕ) → p < length prods.old → slot_at prods.new p
-        ≡ option_map_or (λ x. precedence_in names.now x.name.name) (prec_of_prod (map prec_of precs.now) p) (slot_at prods.old p) }
+    ensures { TakesPrecs names.now precs.now prods.old prods.new }
 {
     let mut left = precs.len();
     while left > 0 {

@@ -1,8 +1,6 @@
 //! Slots for precedences, one for each token or production, filled from entries.
-ghost use Rattle.std.specs.Prelude.{◌≡◌, ◌<◌, ◌≤◌, ℕ, All, IfNone, IfOk, IfSome, None, length};
-ghost use Rattle.std.specs.Map.{keys_of};
-ghost use Rattle.lrpar_table_precedence.specs.Filled.{AreFilled, slot_at};
-ghost use Rattle.lrpar_table_precedence.specs.Levels.{times_listed};
+ghost use Rattle.std.specs.Prelude.{◌≡◌, IfNone, IfOk, IfSome, length};
+ghost use Rattle.lrpar_table_precedence.specs.Filled.{AreEmpty, AreFilled, HasSlotsFor, IsTwiceIn};
 
 use crate::precedence::Precedence;
 use std::alloc::{AllocError, Global};
@@ -10,7 +8,7 @@ use std::alloc::{AllocError, Global};
 // So many empty slots.
 pub(crate) fn empty_slots(alloc: Global, len: usize) -> Result<Vec<Option<Precedence>>, AllocError>
     ensures len { IfOk result (λ slots. length slots.items ≡ len) }
-    ensures empty { IfOk result (λ slots. (n : ℕ) → slot_at slots.items n ≡ None) }
+    ensures empty { IfOk result (λ slots. AreEmpty slots.items) }
 {
     let mut slots = Vec::with_capacity(alloc, len)?;
     for _ in 0..len {
@@ -24,10 +22,10 @@ pub(crate) fn fill(
     slots: &mut [Option<Precedence>],
     entries: &[(usize, Precedence)],
 ) -> Option<usize>
-    requires within { All (λ entry. entry.0 < length slots.old) entries.now }
-    requires empty { (n : ℕ) → slot_at slots.old n ≡ None }
+    requires within { HasSlotsFor entries.now slots.old }
+    requires empty { AreEmpty slots.old }
     ensures filled { IfNone result (AreFilled entries.now slots.new) }
-    ensures twice { IfSome result (λ n. 2 ≤ times_listed (keys_of entries.now) n) }
+    ensures twice { IfSome result (IsTwiceIn entries.now) }
 {
     for entry in entries {
         let (number, precedence) = *entry;

@@ -1,7 +1,6 @@
 //! Levels of precedence: their tokens, and the productions that name one of them.
-ghost use Rattle.std.specs.Prelude.{◌≡◌, ◌<◌, ◌++◌, All, IfOk, IsTrue, ◌↔◌, OnOk, length, map};
-ghost use Rattle.lrpar_grammar.specs.Grammar.{prods_len, tokens_len};
-ghost use Rattle.lrpar_table_precedence.specs.Levels.{AreWithin, level_of, named_of, precedence_at, prod_entries, token_entries};
+ghost use Rattle.std.specs.Prelude.{◌<◌, IfOk, IsTrue, ◌↔◌, OnOk, length};
+ghost use Rattle.lrpar_table_precedence.specs.Stored.{AppendsTokens, AreBelow, AreKnown, AreLevelsKnown, AreNamedBelow, AreProdsOf, AreTokensOf, HaveTokensBelow, IsOfLevel};
 
 use crate::precedence::{AssocKind, Precedence};
 use lrpar_grammar::grammar::YaccGrammar;
@@ -21,7 +20,7 @@ pub(crate) fn are_within<StorageT: StorageIndex>(
     levels: &[Level<StorageT>],
     named: &[(PIdx<StorageT>, usize)],
 ) -> bool
-    ensures { IsTrue result ↔ AreWithin grm.now (map (level_of StorageT.index) levels.now) (map (named_of StorageT.index) named.now) }
+    ensures { IsTrue result ↔ AreKnown StorageT.index grm.now levels.now named.now }
 {
     all_tokens_within(levels, grm.tokens_len())
         && all_named_within(named, grm.prods_len(), levels.len())
@@ -29,7 +28,7 @@ pub(crate) fn are_within<StorageT: StorageIndex>(
 
 // Whether each token of the levels is below the number.
 fn all_tokens_within<StorageT: StorageIndex>(levels: &[Level<StorageT>], tokens: usize) -> bool
-    ensures { IsTrue result ↔ All (λ level. All (λ t. StorageT.index t.0 < tokens) level.tokens.items) levels.now }
+    ensures { IsTrue result ↔ HaveTokensBelow StorageT.index tokens levels.now }
 {
     for level in levels {
         if !are_tokens_within(&level.tokens, tokens) {
@@ -41,7 +40,7 @@ fn all_tokens_within<StorageT: StorageIndex>(levels: &[Level<StorageT>], tokens:
 
 // Whether each token is below the number.
 fn are_tokens_within<StorageT: StorageIndex>(level: &[TIdx<StorageT>], tokens: usize) -> bool
-    ensures { IsTrue result ↔ All (λ t. StorageT.index t.0 < tokens) level.now }
+    ensures { IsTrue result ↔ AreBelow StorageT.index tokens level.now }
 {
     for token in level {
         if usize::from(*token) >= tokens {
@@ -57,7 +56,7 @@ fn all_named_within<StorageT: StorageIndex>(
     prods: usize,
     levels: usize,
 ) -> bool
-    ensures { IsTrue result ↔ All (λ entry. (StorageT.index entry.0.0 < prods) × (entry.1 < levels)) named.now }
+    ensures { IsTrue result ↔ AreNamedBelow StorageT.index prods levels named.now }
 {
     for entry in named {
         let (prod, level) = *entry;
@@ -73,7 +72,7 @@ pub(crate) fn entries_of_tokens<StorageT: StorageIndex>(
     alloc: Global,
     levels: &[Level<StorageT>],
 ) -> Result<Vec<(usize, Precedence)>, AllocError>
-    ensures { IfOk result (λ entries. entries.items ≡ token_entries (map (level_of StorageT.index) levels.now)) }
+    ensures { IfOk result (AreTokensOf StorageT.index levels.now) }
 {
     let mut entries = Vec::new(alloc);
     for number in 0..levels.len() {
@@ -86,7 +85,7 @@ pub(crate) fn entries_of_tokens<StorageT: StorageIndex>(
 // The precedence of a level.
 fn precedence_of<StorageT: StorageIndex>(levels: &[Level<StorageT>], level: usize) -> Precedence
     requires { level < length levels.now }
-    ensures { result ≡ precedence_at (map (level_of StorageT.index) levels.now) level }
+    ensures { IsOfLevel StorageT.index levels.now level result }
 {
     let kind = levels[level].kind;
     Precedence { level, kind }
@@ -98,7 +97,7 @@ fn push_tokens<StorageT: StorageIndex>(
     precedence: Precedence,
     entries: &mut Vec<(usize, Precedence)>,
 ) -> Result<(), AllocError>
-    ensures { OnOk result (entries.new.items ≡ entries.old.items ++ map (λ t. (StorageT.index t.0, precedence)) tokens.now) }
+    ensures { OnOk result (AppendsTokens StorageT.index precedence tokens.now entries.old entries.new) }
 {
     for token in tokens {
         entries.push((usize::from(*token), precedence))?;
@@ -112,9 +111,8 @@ pub(crate) fn entries_of_prods<StorageT: StorageIndex>(
     levels: &[Level<StorageT>],
     named: &[(PIdx<StorageT>, usize)],
 ) -> Result<Vec<(usize, Precedence)>, AllocError>
-    requires { All (λ entry. entry.1 < length levels.now) named.now }
-    ensures { IfOk result (λ entries. entries.items
-        ≡ prod_entries (map (level_of StorageT.index) levels.now) (map (named_of StorageT.index) named.now)) }
+    requires { AreLevelsKnown StorageT.index levels.now named.now }
+    ensures { IfOk result (AreProdsOf StorageT.index levels.now named.now) }
 {
     let mut entries = Vec::with_capacity(alloc, named.len())?;
     for entry in named {

@@ -1,12 +1,10 @@
 //! The precedences of a grammar's tokens and productions.
-ghost use Rattle.std.specs.Prelude.{◌≡◌, ◌<◌, ◌≤◌, ◌↔◌, ℕ, List, All, IfErr, IfOk, IsErrOf, None, length, map};
-ghost use Rattle.std.specs.Option.{option_and_then, option_map, option_or};
-ghost use Rattle.lrpar_grammar.specs.Grammar.{prods_len, symbols_of, tokens_len};
-ghost use Rattle.lrpar_grammar.specs.Symbols.{symbol_of};
-ghost use Rattle.lrpar_table_precedence.specs.Filled.{AreFilled, slot_at};
-ghost use Rattle.lrpar_table_precedence.specs.Levels.{AreOnce, AreWithin, IsPrecedenceFault, LevelOf, declared_prod, declared_token, last_token, level_of, named_of, prod_entries, token_entries};
-ghost use Rattle.lrpar_table_precedence.specs.Precedence.{no_precedences, prod_precedence, resolution_of, token_precedence};
-ghost use Rattle.lrpar_table_precedence.specs.declared.fault.PrecedenceFault.{PrecedenceFault};
+ghost use Rattle.std.specs.Prelude.{◌≡◌, ◌↔◌, IfErr, IfOk, IsErrOf, length};
+ghost use Rattle.lrpar_grammar.specs.Grammar.{prods_len};
+ghost use Rattle.lrpar_table_precedence.specs.Filled.{AreProdSlots, TakesLast, slot_at};
+ghost use Rattle.lrpar_table_precedence.specs.Precedence.{HasNoOtherProds, no_precedences, prod_precedence, resolution_of, token_precedence};
+ghost use Rattle.lrpar_table_precedence.specs.Stored.{AreDeclaredOnce, AreKnown, AreTokensKnown, HasProds, HasTokens, HaveNamed, HaveTokens, IsFaultOf, IsLastToken, IsTokenFault, last_precedence};
+ghost use Rattle.lrpar_table_precedence.specs.declared.fault.PrecedenceFault.TheVariants.{BadIndex};
 
 pub use crate::fault::PrecedenceFault;
 use crate::filled::{empty_slots, fill};
@@ -60,14 +58,12 @@ impl Precedences {
         levels: &[Level<StorageT>],
         named: &[(PIdx<StorageT>, usize)],
     ) -> Result<Precedences, PrecedenceFault>
-        ensures tokens { IfOk result (λ made. (t : ℕ) → token_precedence made t ≡ declared_token (map (level_of StorageT.index) levels.now) t) }
-        ensures prods { IfOk result (λ made. (p : ℕ) → p < prods_len grm.now → prod_precedence made p
-            ≡ declared_prod grm.now (map (level_of StorageT.index) levels.now) (map (named_of StorageT.index) named.now) p) }
-        ensures others { IfOk result (λ made. (p : ℕ) → prods_len grm.now ≤ p → prod_precedence made p ≡ None) }
-        ensures once { IfOk result (λ _. AreOnce (map (level_of StorageT.index) levels.now) (map (named_of StorageT.index) named.now)) }
-        ensures bad_index { IsErrOf result PrecedenceFault.BadIndex
-            ↔ ¬ (AreWithin grm.now (map (level_of StorageT.index) levels.now) (map (named_of StorageT.index) named.now)) }
-        ensures refused { IfErr result (IsPrecedenceFault grm.now (map (level_of StorageT.index) levels.now) (map (named_of StorageT.index) named.now)) }
+        ensures tokens { IfOk result (HasTokens StorageT.index levels.now) }
+        ensures prods { IfOk result (HasProds StorageT.index grm.now levels.now named.now) }
+        ensures others { IfOk result (HasNoOtherProds grm.now) }
+        ensures once { IfOk result (λ _. AreDeclaredOnce StorageT.index levels.now named.now) }
+        ensures bad_index { IsErrOf result BadIndex ↔ ¬ (AreKnown StorageT.index grm.now levels.now named.now) }
+        ensures refused { IfErr result (IsFaultOf StorageT.index grm.now levels.now named.now) }
     {
         if !are_within(grm, levels, named) {
             return Err(PrecedenceFault::BadIndex);
@@ -135,13 +131,12 @@ fn made<StorageT: StorageIndex>(
     levels: &[Level<StorageT>],
     named: &[(PIdx<StorageT>, usize)],
 ) -> Result<Precedences, PrecedenceFault>
-    requires { AreWithin grm.now (map (level_of StorageT.index) levels.now) (map (named_of StorageT.index) named.now) }
-    ensures tokens { IfOk result (λ made. (t : ℕ) → token_precedence made t ≡ declared_token (map (level_of StorageT.index) levels.now) t) }
-    ensures prods { IfOk result (λ made. (p : ℕ) → p < prods_len grm.now → prod_precedence made p
-        ≡ declared_prod grm.now (map (level_of StorageT.index) levels.now) (map (named_of StorageT.index) named.now) p) }
-    ensures others { IfOk result (λ made. (p : ℕ) → prods_len grm.now ≤ p → prod_precedence made p ≡ None) }
-    ensures once { IfOk result (λ _. AreOnce (map (level_of StorageT.index) levels.now) (map (named_of StorageT.index) named.now)) }
-    ensures refused { IfErr result (IsPrecedenceFault grm.now (map (level_of StorageT.index) levels.now) (map (named_of StorageT.index) named.now)) }
+    requires { AreKnown StorageT.index grm.now levels.now named.now }
+    ensures tokens { IfOk result (HasTokens StorageT.index levels.now) }
+    ensures prods { IfOk result (HasProds StorageT.index grm.now levels.now named.now) }
+    ensures others { IfOk result (HasNoOtherProds grm.now) }
+    ensures once { IfOk result (λ _. AreDeclaredOnce StorageT.index levels.now named.now) }
+    ensures refused { IfErr result (IsFaultOf StorageT.index grm.now levels.now named.now) }
 {
     let tokens = token_slots(alloc, grm, levels)?;
     let mut prods = prod_slots(alloc, grm, levels, named)?;
@@ -155,9 +150,9 @@ fn token_slots<StorageT: StorageIndex>(
     grm: &YaccGrammar<StorageT>,
     levels: &[Level<StorageT>],
 ) -> Result<Vec<Option<Precedence>>, PrecedenceFault>
-    requires { All (λ (level : LevelOf). All (λ t. t < tokens_len grm.now) level.tokens) (map (level_of StorageT.index) levels.now) }
-    ensures filled { IfOk result (λ slots. AreFilled (token_entries (map (level_of StorageT.index) levels.now)) slots.items) }
-    ensures refused { (named : List (ℕ × ℕ)) → IfErr result (IsPrecedenceFault grm.now (map (level_of StorageT.index) levels.now) named) }
+    requires { AreTokensKnown StorageT.index grm.now levels.now }
+    ensures filled { IfOk result (HaveTokens StorageT.index levels.now) }
+    ensures refused { IfErr result (IsTokenFault StorageT.index grm.now levels.now) }
 {
     let entries = entries_of_tokens(alloc, levels)?;
     let mut slots = empty_slots(alloc, grm.tokens_len())?;
@@ -174,11 +169,10 @@ fn prod_slots<StorageT: StorageIndex>(
     levels: &[Level<StorageT>],
     named: &[(PIdx<StorageT>, usize)],
 ) -> Result<Vec<Option<Precedence>>, PrecedenceFault>
-    requires { AreWithin grm.now (map (level_of StorageT.index) levels.now) (map (named_of StorageT.index) named.now) }
-    ensures filled { IfOk result (λ slots. AreFilled
-        (prod_entries (map (level_of StorageT.index) levels.now) (map (named_of StorageT.index) named.now)) slots.items) }
-    ensures len { IfOk result (λ slots. length slots.items ≡ prods_len grm.now) }
-    ensures refused { IfErr result (IsPrecedenceFault grm.now (map (level_of StorageT.index) levels.now) (map (named_of StorageT.index) named.now)) }
+    requires { AreKnown StorageT.index grm.now levels.now named.now }
+    ensures filled { IfOk result (HaveNamed StorageT.index levels.now named.now) }
+    ensures len { IfOk result (AreProdSlots grm.now) }
+    ensures refused { IfErr result (IsFaultOf StorageT.index grm.now levels.now named.now) }
 {
     let entries = entries_of_prods(alloc, levels, named)?;
     let mut slots = empty_slots(alloc, grm.prods_len())?;
@@ -195,8 +189,7 @@ pub(crate) fn add_last_tokens<StorageT: StorageIndex>(
     prods: &mut [Option<Precedence>],
 )
     requires { length prods.old ≡ prods_len grm.now }
-    ensures each { (p : ℕ) → p < prods_len grm.now → slot_at prods.new p
-        ≡ option_or (slot_at prods.old p) (option_and_then (slot_at tokens.now) (last_token (symbols_of grm.now p))) }
+    ensures each { TakesLast grm.now tokens.now prods.old prods.new }
 {
     for number in 0..grm.prods_len() {
         let pidx = PIdx(StorageT::from_index(number).unwrap());
@@ -210,7 +203,7 @@ fn last_precedence<StorageT: StorageIndex>(
     tokens: &[Option<Precedence>],
     symbols: &[Symbol<StorageT>],
 ) -> Option<Precedence>
-    ensures { result ≡ option_and_then (slot_at tokens.now) (last_token (map (symbol_of StorageT.index) symbols.now)) }
+    ensures { result ≡ last_precedence StorageT.index tokens.now symbols.now }
 {
     match last_token(symbols) {
         Some(token) => at(tokens, usize::from(token)),
@@ -220,7 +213,7 @@ fn last_precedence<StorageT: StorageIndex>(
 
 // The last token among the symbols, if there is one.
 fn last_token<StorageT: StorageIndex>(symbols: &[Symbol<StorageT>]) -> Option<TIdx<StorageT>>
-    ensures { option_map (λ t. StorageT.index t.0) result ≡ last_token (map (symbol_of StorageT.index) symbols.now) }
+    ensures { IsLastToken StorageT.index symbols.now result }
 {
     let mut last = None;
     for symbol in symbols {

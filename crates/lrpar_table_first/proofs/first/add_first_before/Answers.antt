@@ -34,7 +34,7 @@ returns-else-contains-clause-tokens g c =
     λ t. c.unite_below-new.ensures.tokens t ∙ ap (λ n. has old t || (nat_lt t n && has front t)) marked in
     let some = c.has_any.ensures.0 c.if-not-has_any.false in
     let ends : has front (dummy_lookahead grm) ≡ false = ap (has front) (sym marked) ∙ sym c.contains.ensures ∙ c.if-contains.false in
-    added_before grm c.requires.well_formed rows c.requires.firsts w free after front old middle some begun put ends
+    added_before grm c.requires.firsts.0 rows c.requires.firsts.1 w free after front old middle some begun put ends
 
 pub returns-then-contains-clause-tokens : goal.returns-then-contains-clause-tokens
 returns-then-contains-clause-tokens g c =
@@ -56,4 +56,4 @@ returns-then-contains-clause-tokens g c =
     let new = c.unite_below-more.new.self.bits.items in
     let more : (t : ℕ) → has new t ≡ (has middle t || (nat_lt t (dummy_lookahead grm + 1) && has after t)) =
     λ t. c.unite_below-more.ensures.tokens t ∙ ap (λ n. has middle t || (nat_lt t (n + 1) && has after t)) marked in
-    added_through grm c.requires.well_formed rows c.requires.firsts w free after front old middle some begun put new c.requires.after through more
+    added_through grm c.requires.firsts.0 rows c.requires.firsts.1 w free after front old middle some begun put new c.requires.after through more

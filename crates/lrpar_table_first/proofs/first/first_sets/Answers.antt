@@ -11,12 +11,12 @@ returns g c =
     let old = c.passes.sets.items in
     let new = c.grow_all.new.sets in
     let before = sets_len grm old c.passes.invariant.0 in
-    let after = sets_len grm new c.grow_all.ensures.room in
+    let after = sets_len grm new c.grow_all.ensures.room.0 in
     let full : c.passes.sets.len ≡ length old = c.passes.sets.ok.0 in
     let back = lent_back old new c.passes.sets.len (sym full) (after ∙ sym before ∙ sym full) in
     let sound = c.grow_all.ensures.sound (rw c.deref_mut.ensures.value c.passes.invariant.1) in
     let closed = OnFalse_at c.passes-test.false c.grow_all.ensures.closed in
-    subst (λ sets. AreFirsts grm (rows_of sets)) (sym back) (exact_sets grm c.start_prod-start.ensures.well_formed (rows_of new) c.grow_all.ensures.room sound closed)
+    subst (λ sets. AreFirsts grm (rows_of sets)) (sym back) (exact_sets grm c.start_prod-start.ensures.well_formed (rows_of new) c.grow_all.ensures.room.0 sound closed)
 
 pub returns-in_err-sets : goal.returns-in_err-sets
 returns-in_err-sets g c = no_value c.from_residual.result _ _ c.from_residual.ensures.1

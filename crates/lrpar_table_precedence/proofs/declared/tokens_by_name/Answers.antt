@@ -1,6 +1,4 @@
-use Rattle.std.proofs.Common.{◌≡◌, ◌++◌, ◌∷◌, ◌∙◌, [], sym, ap, map, take}
-use Rattle.std.proofs.lemmas.List.{map-append}
-use Rattle.lrpar_grammar_places.proofs.ListLemmas.{map-take_more}
+use Rattle.std.proofs.Common.{◌∙◌}
 use Rattle.lrpar_table_precedence.specs.ByName.{precedence_in}
 use Rattle.lrpar_table_precedence.proofs.NameLemmas.{name_slots}
 use Rattle.lrpar_table_precedence.proofs.declared.tokens_by_name.Goals as goal
