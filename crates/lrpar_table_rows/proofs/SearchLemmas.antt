@@ -60,29 +60,6 @@ searched_out ns sought base size so_far small other there =
           ]
     ]
 
--- a number between two neighbours isn't there
-pub between_sides : (ns : List ℕ) (sought place : ℕ) → IsStrictlyIncreasing ns → place + 1 < length ns → slice_index ns place < sought
-    → sought < slice_index ns (place + 1) → ¬ (Contains ns sought)
-between_sides ns sought place up next below above =
-    let none : IsSearched ns sought (place + 1) 0 = record {
-      within = omega (arith, next);
-      below = λ k h.
-          elim (cases_lt k place) as (λ _. slice_index ns k < sought) [
-            | inl before ↦ let less = AllPairs-from_increasing ns up k place 0 before (omega (arith, next)) in omega (arith, less, below)
-            | inr not_before ↦
-                let same : k ≡ place = omega (arith, h, not_before) in
-                subst (λ (i : ℕ). slice_index ns i < sought) (sym same) below
-          ];
-      above = λ k low high.
-          elim (cases_lt (place + 1) k) as (λ _. sought < slice_index ns k) [
-            | inl after ↦ let more = AllPairs-from_increasing ns up (place + 1) k 0 after high in omega (arith, more, above)
-            | inr not_after ↦
-                let same : k ≡ place + 1 = omega (arith, low, not_after) in
-                subst (λ (i : ℕ). sought < slice_index ns i) (sym same) above
-          ];
-    } in
-    searched_out ns sought (place + 1) 0 none (omega arith) (λ one. absurd (omega (arith, one)))
-
 -- the number of an element that was read is the number at its place
 pub number_read : {X : Type 0} (f : X → ℕ) (xs : List X) (i : ℕ) (x : X) → i < length xs → x ≡ slice_index_or xs i x → slice_index (map f xs) i ≡ f x
 number_read f xs i x below is = get_or-map f xs i x 0 below ∙ ap f (sym is)

@@ -1,7 +1,8 @@
 -- Rows in ascending order.
-use Rattle.std.specs.Prelude.{◌≡◌, ◌<◌, ◌↔◌, ℕ, List, length, slice_index_or}
+use Rattle.std.specs.Prelude.{◌≡◌, ◌<◌, ◌↔◌, ◌∷◌, ◌++◌, ℕ, List, [], MatchOption, Option, length, slice_index_or}
 use Rattle.std.specs.List.{Contains}
 use Rattle.std.specs.List.Sorted.{IsStrictlySortedBy}
+use Rattle.std.specs.declared.vec.Vec.{Vec}
 use Rattle.std.specs.declared.cmp.Ordering.{Ordering}
 use Rattle.std.specs.declared.cmp.Ordering.TheVariants.{Equal}
 
@@ -23,3 +24,11 @@ pub record IsOnlyPlace {X : Type 0} (xs : List X) (x : X) (place : ℕ) : Type 0
   pub within : place < length xs
   pub is : slice_index_or xs place x ≡ x
   pub only : (k : ℕ) → k < length xs → slice_index_or xs k x ≡ x → k ≡ place
+
+-- the only place of the element; none if it isn't there
+abbrev pub FindsOnlyPlace : {X : Type 0} → List X → X → Option ℕ → Type 0
+FindsOnlyPlace xs x found = MatchOption found (¬ (Contains xs x)) (IsOnlyPlace xs x)
+
+-- the elements are those that were there, and this one
+abbrev pub AddsElement : {X Z : Type 0} → X → Vec X Z → Vec X Z → Type 0
+AddsElement x old new = HaveSame new.items (old.items ++ x ∷ [])

@@ -10,6 +10,8 @@ pub mod Sum
 pub mod PlainConflicts
 pub mod PlainRows
 pub mod PlainTable
+pub mod StoredRows
 pub mod PlainItems
 pub mod Ascending
 pub mod Runs
+pub mod StoredItems

@@ -1,5 +1,5 @@
 -- The conflicts that values of code represent, by the numbers of their indexes.
-use Rattle.std.specs.Prelude.{ℕ}
+use Rattle.std.specs.Prelude.{ℕ, List, map}
 use Rattle.lrpar_grammar_places.specs.declared.span.TIdx.{TIdx}
 use Rattle.lrpar_grammar_places.specs.declared.span.PIdx.{PIdx}
 use Rattle.lrpar_grammar_places.specs.declared.span.StIdx.{StIdx}
@@ -10,10 +10,22 @@ use Rattle.lrpar_table_rows.specs.Table.{ReduceReduce, ResolvedOf, ShiftReduce}
 abbrev pub reduce_reduce_of : {S : Type 0} → (S → ℕ) → TIdx S × PIdx S × PIdx S × StIdx S → ReduceReduce
 reduce_reduce_of index x = record { token = index x.0.0; first = index x.1.0; second = index x.2.0; state = index x.3.0 }
 
+-- all of them
+abbrev pub reductions_of : {S : Type 0} → (S → ℕ) → List (TIdx S × PIdx S × PIdx S × StIdx S) → List ReduceReduce
+reductions_of index xs = map (reduce_reduce_of index) xs
+
 -- a resolved conflict: the token, the production, the state, and how it was resolved
 abbrev pub resolved_conflict_of : {S : Type 0} → (S → ℕ) → TIdx S × PIdx S × StIdx S × Resolution → ResolvedOf
 resolved_conflict_of index x = record { conflict = record { token = index x.0.0; prod = index x.1.0; state = index x.2.0 }; by = x.3 }
 
+-- all of them
+abbrev pub resolved_of : {S : Type 0} → (S → ℕ) → List (TIdx S × PIdx S × StIdx S × Resolution) → List ResolvedOf
+resolved_of index xs = map (resolved_conflict_of index) xs
+
 -- a shift/reduce conflict: the token, the production and the state
 abbrev pub shift_reduce_of : {S : Type 0} → (S → ℕ) → TIdx S × PIdx S × StIdx S → ShiftReduce
 shift_reduce_of index x = record { token = index x.0.0; prod = index x.1.0; state = index x.2.0 }
+
+-- all of them
+abbrev pub shifts_of : {S : Type 0} → (S → ℕ) → List (TIdx S × PIdx S × StIdx S) → List ShiftReduce
+shifts_of index xs = map (shift_reduce_of index) xs

@@ -21,6 +21,18 @@ IsActionRow tokens states row = (length row ≡ tokens) × All (IsActionWithin s
 abbrev pub IsGotoRow : ℕ → ℕ → List (Option ℕ) → Type 0
 IsGotoRow rules states row = (length row ≡ rules) × All (IsGotoWithin states) row
 
+-- each state has its two rows; the start state is one of the table; the numbers of states, tokens and rules are at most `limit`
+abbrev pub HaveNumbers : ℕ → Rows → Type 0
+HaveNumbers limit rows =
+    (length rows.gotos ≡ length rows.actions) × (rows.start < length rows.actions) × (length rows.actions ≤ limit)
+    × (rows.tokens ≤ limit) × (rows.rules ≤ limit)
+
+-- each row has its length, with states in range
+abbrev pub HaveRightRows : Rows → Type 0
+HaveRightRows rows =
+    All (IsActionRow rows.tokens (length rows.actions)) rows.actions
+    × All (IsGotoRow rows.rules (length rows.actions)) rows.gotos
+
 -- each state has its two rows; every state that they name is one of the table, and so is the start state; the numbers of
 -- states, tokens and rules are at most `limit`
 pub record AreRows (limit : ℕ) (rows : Rows) : Type 0 where

@@ -1,9 +1,9 @@
 -- The table of the grammar *sum*, an example for which the definitions are computed: tokens '+' 0, 'ID' 1, end 2; rules ^ 0,
 -- E 1, T 2; productions 0 `E: T '+' E`, 1 `E: T`, 2 `T: 'ID'`, 3 `^: E`.
-use Rattle.std.specs.Prelude.{◌+◌, ◌++◌, ℕ, List, [], ◌∷◌, Option, Some, None, slice_set}
+use Rattle.std.specs.Prelude.{◌≡◌, ◌+◌, ◌++◌, ℕ, List, [], ◌∷◌, Option, Some, None, slice_set}
 use Rattle.lrpar_table_rows.specs.Graph.{Graph, ItemOf, item_at, items_of}
 use Rattle.lrpar_table_rows.specs.Rows.{Rows}
-use Rattle.lrpar_table_rows.specs.Table.{Table, TableAction, ShiftTo, ReduceBy, Accepts, Fails}
+use Rattle.lrpar_table_rows.specs.Table.{Table, TableAction, ShiftTo, ReduceBy, Accepts, Fails, action_of, goto_of}
 
 -- its six states, by their kernel items: 0 `^: . E`, 1 `^: E .`, 2 `E: T . '+' E` and `E: T .`, 3 `T: 'ID' .`,
 -- 4 `E: T '+' . E`, 5 `E: T '+' E .`
@@ -20,6 +20,21 @@ sum_table = record {
   conflicts = None;
   resolved = [];
 }
+
+-- actions of the small table, one of each kind, and those at a state and at a token past the last one
+pub record HasSumActions (table : Table) : Type 0 where
+  pub shifts : action_of table 4 1 ≡ ShiftTo 3
+  pub reduces : action_of table 2 2 ≡ ReduceBy 1
+  pub accepts : action_of table 1 2 ≡ Accepts
+  pub fails : action_of table 0 0 ≡ Fails
+  pub no_state : action_of table 6 0 ≡ Fails
+  pub no_token : action_of table 3 3 ≡ Fails
+
+-- a goto of the small table, a rule by which there is none, and a rule past the last one
+pub record HasSumGotos (table : Table) : Type 0 where
+  pub goes : goto_of table 4 1 ≡ Some 5
+  pub goes_nowhere : goto_of table 4 0 ≡ None
+  pub no_rule : goto_of table 4 3 ≡ None
 
 -- a row of three actions: at '+', at 'ID' and at the end token
 abbrev pub three_actions : TableAction → TableAction → TableAction → List TableAction

@@ -1,5 +1,5 @@
 -- State tables: the action of each state at each token, and the goto of each state by each rule.
-use Rattle.std.specs.Prelude.{◌≡◌, ◌≢◌, ◌<◌, ◌≤◌, ◌+◌, ℕ, Bool, true, false, List, [], length, nat_eq, All, Option, Some, None, count_by, sum_by, unwrap_or, slice_index_or}
+use Rattle.std.specs.Prelude.{◌≡◌, ◌≢◌, ◌<◌, ◌≤◌, ◌+◌, ◌↔◌, ℕ, Bool, true, false, Contains, List, [], length, nat_eq, All, Option, Some, None, count_by, sum_by, unwrap_or, slice_index_or}
 use Rattle.std.specs.List.{range_with_len}
 use Rattle.std.specs.List.Sorted.{IsStrictlyIncreasing}
 use Rattle.std.specs.Map.{keys_of, lookup}
@@ -120,6 +120,19 @@ pub record AreEntries {X : Type 0} (IsEntry : ℕ × X → Type 0) (entries : Li
   pub ascending : IsStrictlyIncreasing (keys_of entries)
   pub each : All IsEntry entries
 
+-- each state has its two lists of entries; the start state is one of the table; the numbers of states, tokens and rules are at
+-- most `limit`
+abbrev pub HasNumbers : ℕ → Table → Type 0
+HasNumbers limit table =
+    (length table.actions ≡ table.states) × (length table.gotos ≡ table.states) × (table.start < table.states)
+    × (table.states ≤ limit) × (table.tokens ≤ limit) × (table.rules ≤ limit)
+
+-- the entries of each state ascend, and each is a right entry
+abbrev pub HasRightEntries : Table → Type 0
+HasRightEntries table =
+    All (AreEntries (IsActionEntry table.tokens table.states)) table.actions
+    × All (AreEntries (IsGotoEntry table.rules table.states)) table.gotos
+
 -- each state has its two lists of entries; every state that they name is one of the table, and so is the start state; the
 -- numbers of states, tokens and rules are at most `limit`
 pub record IsTable (limit : ℕ) (table : Table) : Type 0 where
@@ -137,3 +150,43 @@ pub record IsClosed (table : Table) : Type 0 where
   pub start_within : table.start < states_len table
   pub shifts_within : (s t next : ℕ) → action_of table s t ≡ ShiftTo next → next < states_len table
   pub gotos_within : (s r next : ℕ) → goto_of table s r ≡ Some next → next < states_len table
+
+-- past the last state each action is an error
+abbrev pub FailsPastStates : Table → Type 0
+FailsPastStates table = (s t : ℕ) → states_len table ≤ s → action_of table s t ≡ Fails
+
+-- past the last state there is no goto
+abbrev pub HasNoGotoPastStates : Table → Type 0
+HasNoGotoPastStates table = (s r : ℕ) → states_len table ≤ s → goto_of table s r ≡ None
+
+-- past the last token each action is an error
+abbrev pub FailsPastTokens : Table → Type 0
+FailsPastTokens table = (s t : ℕ) → table.tokens ≤ t → action_of table s t ≡ Fails
+
+-- past the last rule there is no goto
+abbrev pub HasNoGotoPastRules : Table → Type 0
+HasNoGotoPastRules table = (s r : ℕ) → table.rules ≤ r → goto_of table s r ≡ None
+
+-- what is stored for state s are its actions but errors
+abbrev pub StoresActions : Table → ℕ → Type 0
+StoresActions table s = (t : ℕ) (action : TableAction) → Contains (actions_at table s) (t, action) ↔ ((action_of table s t ≡ action) × (action ≢ Fails))
+
+-- what is stored for state s are its gotos
+abbrev pub StoresGotos : Table → ℕ → Type 0
+StoresGotos table s = (r next : ℕ) → Contains (gotos_at table s) (r, next) ↔ (goto_of table s r ≡ Some next)
+
+-- the tokens of the actions that are stored for state s ascend, each once
+abbrev pub ActionsAscend : Table → ℕ → Type 0
+ActionsAscend table s = IsStrictlyIncreasing (keys_of (actions_at table s))
+
+-- the rules of the gotos that are stored for state s ascend, each once
+abbrev pub GotosAscend : Table → ℕ → Type 0
+GotosAscend table s = IsStrictlyIncreasing (keys_of (gotos_at table s))
+
+-- each action that is stored for state s is a right entry
+abbrev pub AreActionsWithin : Table → ℕ → Type 0
+AreActionsWithin table s = All (IsActionEntry table.tokens (states_len table)) (actions_at table s)
+
+-- each goto that is stored for state s is a right entry
+abbrev pub AreGotosWithin : Table → ℕ → Type 0
+AreGotosWithin table s = All (IsGotoEntry table.rules (states_len table)) (gotos_at table s)

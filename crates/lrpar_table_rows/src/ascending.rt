@@ -1,8 +1,8 @@
 //! Rows in ascending order, each element once.
-ghost use Rattle.std.specs.Prelude.{◌≡◌, ◌↔◌, ◌∷◌, ◌++◌, [], true, IsTrue, MatchOption, OnOk};
+ghost use Rattle.std.specs.Prelude.{◌≡◌, ◌↔◌, true, IsTrue, OnOk};
 ghost use Rattle.std.specs.List.{Contains};
 ghost use Rattle.std.specs.List.Sorted.{IsStrictlySortedBy};
-ghost use Rattle.lrpar_table_rows.specs.Ascending.{ComparesExactly, HaveSame, IsOnlyPlace};
+ghost use Rattle.lrpar_table_rows.specs.Ascending.{AddsElement, ComparesExactly, FindsOnlyPlace, HaveSame};
 
 use std::alloc::AllocError;
 use std::marker::Model;
@@ -46,7 +46,7 @@ impl<T: Ord + Drop> Ascending<T> {
 
     /// The place of the element, if the row has it: a binary search.
     pub(crate) fn place(&self, element: &T) -> Option<usize>
-        ensures { MatchOption result (¬ (Contains self.now element.now)) (IsOnlyPlace self.now element.now) }
+        ensures { FindsOnlyPlace self.now element.now result }
     {
         self.elements.binary_search(element).ok()
     }
@@ -63,7 +63,7 @@ impl<T: Ord + Drop> Ascending<T> {
 /// Appends the element, unless it is the last one already.
 pub(crate) fn push_new<T: Eq + Drop>(row: &mut Vec<T>, element: T) -> Result<(), AllocError>
     requires exact { (x y : T) → T.PartialEq.eq x y ≡ true → x ≡ y }
-    ensures same { OnOk result (HaveSame row.new.items (row.old.items ++ element ∷ [])) }
+    ensures same { OnOk result (AddsElement element row.old row.new) }
 {
     if row.last() == Some(&element) {
         return Ok(());

@@ -1,7 +1,7 @@
 //! Shift/reduce and reduce/reduce conflicts that were met, and resolved, when a table was built.
-ghost use Rattle.std.specs.Prelude.{◌≡◌, ◌↔◌, All, IsTrue, length, map};
-ghost use Rattle.lrpar_table_rows.specs.ConflictsFit.{ConflictsFit, ReductionsFit, ShiftFits};
-ghost use Rattle.lrpar_table_rows.specs.PlainConflicts.{reduce_reduce_of, shift_reduce_of};
+ghost use Rattle.std.specs.Prelude.{◌≡◌, ◌↔◌, IsTrue, length};
+ghost use Rattle.lrpar_table_rows.specs.ConflictsFit.{AllReductionsFit, AllShiftsFit, ConflictsFit, ReductionsFit, ShiftFits};
+ghost use Rattle.lrpar_table_rows.specs.PlainConflicts.{reduce_reduce_of, reductions_of, shift_reduce_of, shifts_of};
 
 use lrpar_grammar::grammar::YaccGrammar;
 use lrpar_grammar::span::{PIdx, StIdx, StorageIndex, TIdx};
@@ -54,8 +54,8 @@ impl<StorageT: StorageIndex> Conflicts<StorageT> {
         >,
         sr: Vec<(TIdx<StorageT>, PIdx<StorageT>, StIdx<StorageT>)>,
     ) -> Self
-        ensures rr { result.reduce_reduce ≡ map (reduce_reduce_of StorageT.index) rr.items }
-        ensures sr { result.shift_reduce ≡ map (shift_reduce_of StorageT.index) sr.items }
+        ensures rr { result.reduce_reduce ≡ reductions_of StorageT.index rr.items }
+        ensures sr { result.shift_reduce ≡ shifts_of StorageT.index sr.items }
     {
         Conflicts { rr, sr }
     }
@@ -69,14 +69,14 @@ impl<StorageT: StorageIndex> Conflicts<StorageT> {
         PIdx<StorageT>,
         StIdx<StorageT>,
     )]
-        ensures { map (reduce_reduce_of StorageT.index) result.now ≡ self.now.reduce_reduce }
+        ensures { reductions_of StorageT.index result.now ≡ self.now.reduce_reduce }
     {
         &self.rr
     }
 
     /// The shift/reduce conflicts, as token, production and state, in the order in which they were given.
     pub fn sr_conflicts(&self) -> &[(TIdx<StorageT>, PIdx<StorageT>, StIdx<StorageT>)]
-        ensures { map (shift_reduce_of StorageT.index) result.now ≡ self.now.shift_reduce }
+        ensures { shifts_of StorageT.index result.now ≡ self.now.shift_reduce }
     {
         &self.sr
     }
@@ -115,7 +115,7 @@ fn all_reductions_fit<StorageT: StorageIndex>(
     )],
     grm: &YaccGrammar<StorageT>,
 ) -> bool
-    ensures { IsTrue result ↔ All (λ x. ReductionsFit grm.now (reduce_reduce_of StorageT.index x)) conflicts.now }
+    ensures { IsTrue result ↔ AllReductionsFit StorageT.index grm.now conflicts.now }
 {
     for conflict in conflicts {
         if !reductions_fit(*conflict, grm) {
@@ -148,7 +148,7 @@ fn all_shifts_fit<StorageT: StorageIndex>(
     conflicts: &[(TIdx<StorageT>, PIdx<StorageT>, StIdx<StorageT>)],
     grm: &YaccGrammar<StorageT>,
 ) -> bool
-    ensures { IsTrue result ↔ All (λ x. ShiftFits grm.now (shift_reduce_of StorageT.index x)) conflicts.now }
+    ensures { IsTrue result ↔ AllShiftsFit StorageT.index grm.now conflicts.now }
 {
     for conflict in conflicts {
         if !shift_fits(*conflict, grm) {

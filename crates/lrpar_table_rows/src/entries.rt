@@ -1,7 +1,7 @@
 //! Rows of entries, laid out for a look-up of their keys.
-ghost use Rattle.std.specs.Prelude.{◌≡◌, ◌<◌, ◌≤◌, ◌+◌, ◌++◌, [], List, IfOk, IsTrue, OnOk, MatchOption, Contains, length, map, slice_index, slice_index_or, slice_range, sum_by, zip};
+ghost use Rattle.std.specs.Prelude.{◌≡◌, ◌<◌, ◌≤◌, ◌+◌, ◌++◌, IfOk, OnOk, length, map, slice_range, sum_by, zip};
 ghost use Rattle.std.specs.List.Sorted.{IsStrictlyIncreasing};
-ghost use Rattle.lrpar_table_rows.specs.Entries.{HasValue};
+ghost use Rattle.lrpar_table_rows.specs.Entries.{FindsEntry, FindsKey, FindsValue, KeysAscend, StoresRows, entries_of, row_at};
 
 use crate::key::Key;
 use crate::packed::Packed;
@@ -37,7 +37,7 @@ impl<K: Key, V> Model for Entries<K, V> {
 impl<K: Key, V: Copy> Entries<K, V> {
     /// The entries of these rows, which are copied.
     pub(crate) fn from_rows(alloc: Global, rows: &[Vec<(K, V)>]) -> Result<Self, AllocError>
-        ensures { IfOk result (λ entries. entries ≡ map (λ row. row.items) rows.now) }
+        ensures { IfOk result (StoresRows rows.now) }
     {
         let mut starts = Vec::with_capacity(alloc, rows.len() + 1)?;
         starts.push(0)?;
@@ -75,9 +75,9 @@ impl<K: Key, V: Copy> Entries<K, V> {
     #[inline]
     pub(crate) fn row(&self, number: usize) -> (&[K], &[V])
         requires { number < length self.now }
-        ensures entries { zip result.0.now result.1.now ≡ slice_index_or self.now number [] }
+        ensures entries { zip result.0.now result.1.now ≡ row_at self.now number }
         ensures values { length result.1.now ≡ length result.0.now }
-        ensures len { length result.1.now ≡ length (slice_index_or self.now number []) }
+        ensures len { length result.1.now ≡ length (row_at self.now number) }
     {
         let start = self.starts[number];
         let end = self.starts[number + 1];
@@ -88,9 +88,8 @@ impl<K: Key, V: Copy> Entries<K, V> {
     #[inline]
     pub(crate) fn value_of(&self, number: usize, key: K) -> Option<V>
         requires row { number < length self.now }
-        requires ascending { IsStrictlyIncreasing (map (λ entry. K.number entry.0) (slice_index_or self.now number [])) }
-        ensures { MatchOption result (¬ (Contains (map (λ entry. K.number entry.0) (slice_index_or self.now number [])) (K.number key)))
-            (λ value. HasValue K.number (slice_index_or self.now number []) (K.number key) value) }
+        requires ascending { KeysAscend K.number (row_at self.now number) }
+        ensures { FindsValue K.number (row_at self.now number) key result }
     {
         match self.place_of(number, key) {
             Some(place) => Some(self.row(number).1[place]),
@@ -103,10 +102,8 @@ impl<K: Key, V: Copy> Entries<K, V> {
     #[inline]
     fn place_of(&self, number: usize, key: K) -> Option<usize>
         requires row { number < length self.now }
-        requires ascending { IsStrictlyIncreasing (map (λ entry. K.number entry.0) (slice_index_or self.now number [])) }
-        ensures { MatchOption result (¬ (Contains (map (λ entry. K.number entry.0) (slice_index_or self.now number [])) (K.number key)))
-            (λ place. (place < length (slice_index_or self.now number []))
-            × (slice_index (map (λ entry. K.number entry.0) (slice_index_or self.now number [])) place ≡ K.number key)) }
+        requires ascending { KeysAscend K.number (row_at self.now number) }
+        ensures { FindsEntry K.number (row_at self.now number) key result }
     {
         match self.packed.base(number) {
             Some(own) => self.packed.place(own, key.to_number()),
@@ -137,7 +134,7 @@ fn push_row<K: Copy, V: Copy>(
     requires { length values.old.items ≡ length keys.old.items }
     ensures values { OnOk result (length values.new.items ≡ length keys.new.items) }
     ensures len { OnOk result (length keys.new.items ≡ length keys.old.items + length row.now) }
-    ensures entries { OnOk result (zip keys.new.items values.new.items ≡ zip keys.old.items values.old.items ++ row.now) }
+    ensures entries { OnOk result (entries_of keys.new values.new ≡ entries_of keys.old values.old ++ row.now) }
 {
     for (key, value) in row {
         keys.push(*key)?;
@@ -151,8 +148,7 @@ fn push_row<K: Copy, V: Copy>(
 #[inline(never)]
 fn searched<K: Key>(keys: &[K], sought: usize) -> Option<usize>
     requires { IsStrictlyIncreasing (map K.number keys.now) }
-    ensures { MatchOption result (¬ (Contains (map K.number keys.now) sought))
-        (λ place. (place < length keys.now) × (slice_index (map K.number keys.now) place ≡ sought)) }
+    ensures { FindsKey K.number keys.now sought result }
 {
     let mut base = 0;
     let mut size = keys.len();

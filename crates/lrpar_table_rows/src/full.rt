@@ -1,9 +1,9 @@
 //! Full rows: whether they are those of a table, and which of their entries are stored.
-ghost use Rattle.std.specs.Prelude.{◌≡◌, ◌<◌, ◌≤◌, ◌↔◌, ◌++◌, IsTrue, IfOk, OnOk, All, length, map};
-ghost use Rattle.std.specs.Option.{option_to_list};
-ghost use Rattle.lrpar_table_rows.specs.Rows.{AreRows, IsActionRow, IsGotoRow, kept_entry, row_actions, row_gotos, unless_error};
+ghost use Rattle.std.specs.Prelude.{◌<◌, ◌≤◌, ◌↔◌, IsTrue, IfOk, OnOk, length};
+ghost use Rattle.lrpar_table_rows.specs.Rows.{AreRows, HaveRightRows, HaveNumbers, IsActionRow, IsGotoRow};
 ghost use Rattle.lrpar_table_rows.specs.Table.{IsActionWithin, IsGotoWithin};
-ghost use Rattle.lrpar_table_rows.specs.PlainRows.{action_entry, goto_entry, plain_action, plain_goto, plain_rows};
+ghost use Rattle.lrpar_table_rows.specs.PlainRows.{plain_action, plain_goto, plain_rows};
+ghost use Rattle.lrpar_table_rows.specs.StoredRows.{AppendsAction, AppendsGoto, AreActionRows, AreActionsOf, AreActionsOfRows, AreGotoRows, AreGotosOf, AreGotosOfRows, AreRowsUpTo, AreShiftsWithin, AreStatesWithin, plain_actions, plain_gotos};
 
 use crate::numbers::can_number;
 use crate::rows::{Action, TableRows};
@@ -20,9 +20,7 @@ pub(crate) fn are_rows<StorageT: StorageIndex>(rows: &TableRows<StorageT>) -> bo
 /// Whether there are as many rows of both kinds, `StorageT` can number all states, tokens and rules, and the start state is one
 /// of the states.
 fn are_numbers<StorageT: StorageIndex>(rows: &TableRows<StorageT>) -> bool
-    ensures { let plain = plain_rows StorageT.index rows.now in IsTrue result ↔ (
-        (length plain.gotos ≡ length plain.actions) × (plain.start < length plain.actions) × (length plain.actions ≤ StorageT.limit)
-        × (plain.tokens ≤ StorageT.limit) × (plain.rules ≤ StorageT.limit)) }
+    ensures { IsTrue result ↔ HaveNumbers StorageT.limit (plain_rows StorageT.index rows.now) }
 {
     let states = rows.actions.len();
     rows.gotos.len() == states
@@ -34,9 +32,7 @@ fn are_numbers<StorageT: StorageIndex>(rows: &TableRows<StorageT>) -> bool
 
 /// Whether each row has the right length, with states in range.
 fn are_entries<StorageT: StorageIndex>(rows: &TableRows<StorageT>) -> bool
-    ensures { let plain = plain_rows StorageT.index rows.now in IsTrue result ↔ (
-        All (IsActionRow plain.tokens (length plain.actions)) plain.actions
-        × All (IsGotoRow plain.rules (length plain.actions)) plain.gotos) }
+    ensures { IsTrue result ↔ HaveRightRows (plain_rows StorageT.index rows.now) }
 {
     let actions = rows.actions.as_slice();
     let gotos = rows.gotos.as_slice();
@@ -50,7 +46,7 @@ fn are_action_rows<StorageT: StorageIndex>(
     tokens: usize,
     states: usize,
 ) -> bool
-    ensures { IsTrue result ↔ All (λ row. IsActionRow tokens states (map (plain_action StorageT.index) row.items)) rows.now }
+    ensures { IsTrue result ↔ AreActionRows StorageT.index tokens states rows.now }
 {
     for row in rows {
         if !is_action_row(row, tokens, states) {
@@ -66,14 +62,14 @@ fn is_action_row<StorageT: StorageIndex>(
     tokens: usize,
     states: usize,
 ) -> bool
-    ensures { IsTrue result ↔ IsActionRow tokens states (map (plain_action StorageT.index) row.now) }
+    ensures { IsTrue result ↔ IsActionRow tokens states (plain_actions StorageT.index row.now) }
 {
     row.len() == tokens && are_actions_within(row, states)
 }
 
 /// Whether the state of each shift is below `states`.
 fn are_actions_within<StorageT: StorageIndex>(row: &[Action<StorageT>], states: usize) -> bool
-    ensures { IsTrue result ↔ All (λ action. IsActionWithin states (plain_action StorageT.index action)) row.now }
+    ensures { IsTrue result ↔ AreShiftsWithin StorageT.index states row.now }
 {
     for action in row {
         if !is_action_within(*action, states) {
@@ -99,7 +95,7 @@ fn are_goto_rows<StorageT: StorageIndex>(
     rules: usize,
     states: usize,
 ) -> bool
-    ensures { IsTrue result ↔ All (λ row. IsGotoRow rules states (map (plain_goto StorageT.index) row.items)) rows.now }
+    ensures { IsTrue result ↔ AreGotoRows StorageT.index rules states rows.now }
 {
     for row in rows {
         if !is_goto_row(row, rules, states) {
@@ -115,14 +111,14 @@ fn is_goto_row<StorageT: StorageIndex>(
     rules: usize,
     states: usize,
 ) -> bool
-    ensures { IsTrue result ↔ IsGotoRow rules states (map (plain_goto StorageT.index) row.now) }
+    ensures { IsTrue result ↔ IsGotoRow rules states (plain_gotos StorageT.index row.now) }
 {
     row.len() == rules && are_gotos_within(row, states)
 }
 
 /// Whether each state to go to is below `states`.
 fn are_gotos_within<StorageT: StorageIndex>(row: &[Option<StIdx<StorageT>>], states: usize) -> bool
-    ensures { IsTrue result ↔ All (λ goto. IsGotoWithin states (plain_goto StorageT.index goto)) row.now }
+    ensures { IsTrue result ↔ AreStatesWithin StorageT.index states row.now }
 {
     for goto in row {
         if !is_goto_within(*goto, states) {
@@ -147,9 +143,8 @@ pub(crate) fn stored_actions<StorageT: StorageIndex>(
     alloc: Global,
     rows: &[Vec<Action<StorageT>>],
 ) -> Result<Vec<Vec<(TIdx<StorageT>, Action<StorageT>)>>, AllocError>
-    requires { All (λ row. length row.items ≤ StorageT.limit) rows.now }
-    ensures { IfOk result (λ stored. map (λ row. map (action_entry StorageT.index) row.items) stored.items
-        ≡ map (λ row. row_actions (map (plain_action StorageT.index) row.items)) rows.now) }
+    requires { AreRowsUpTo StorageT.limit rows.now }
+    ensures { IfOk result (AreActionsOfRows StorageT.index rows.now) }
 {
     let mut stored = Vec::with_capacity(alloc, rows.len())?;
     for row in rows {
@@ -164,7 +159,7 @@ fn row_stored_actions<StorageT: StorageIndex>(
     row: &[Action<StorageT>],
 ) -> Result<Vec<(TIdx<StorageT>, Action<StorageT>)>, AllocError>
     requires { length row.now ≤ StorageT.limit }
-    ensures { IfOk result (λ stored. map (action_entry StorageT.index) stored.items ≡ row_actions (map (plain_action StorageT.index) row.now)) }
+    ensures { IfOk result (AreActionsOf StorageT.index row.now) }
 {
     let mut stored = Vec::new(alloc);
     for (number, action) in row.iter().enumerate() {
@@ -180,8 +175,7 @@ fn push_action<StorageT: StorageIndex>(
     action: Action<StorageT>,
 ) -> Result<(), AllocError>
     requires { number < StorageT.limit }
-    ensures { OnOk result (map (action_entry StorageT.index) stored.new.items
-        ≡ map (action_entry StorageT.index) stored.old.items ++ option_to_list (kept_entry unless_error (number, plain_action StorageT.index action))) }
+    ensures { OnOk result (AppendsAction StorageT.index number action stored.old stored.new) }
 {
     match action {
         Action::Error => Ok(()),
@@ -198,9 +192,8 @@ pub(crate) fn stored_gotos<StorageT: StorageIndex>(
     alloc: Global,
     rows: &[Vec<Option<StIdx<StorageT>>>],
 ) -> Result<Vec<Vec<(RIdx<StorageT>, StIdx<StorageT>)>>, AllocError>
-    requires { All (λ row. length row.items ≤ StorageT.limit) rows.now }
-    ensures { IfOk result (λ stored. map (λ row. map (goto_entry StorageT.index) row.items) stored.items
-        ≡ map (λ row. row_gotos (map (plain_goto StorageT.index) row.items)) rows.now) }
+    requires { AreRowsUpTo StorageT.limit rows.now }
+    ensures { IfOk result (AreGotosOfRows StorageT.index rows.now) }
 {
     let mut stored = Vec::with_capacity(alloc, rows.len())?;
     for row in rows {
@@ -215,7 +208,7 @@ fn row_stored_gotos<StorageT: StorageIndex>(
     row: &[Option<StIdx<StorageT>>],
 ) -> Result<Vec<(RIdx<StorageT>, StIdx<StorageT>)>, AllocError>
     requires { length row.now ≤ StorageT.limit }
-    ensures { IfOk result (λ stored. map (goto_entry StorageT.index) stored.items ≡ row_gotos (map (plain_goto StorageT.index) row.now)) }
+    ensures { IfOk result (AreGotosOf StorageT.index row.now) }
 {
     let mut stored = Vec::new(alloc);
     for (number, goto) in row.iter().enumerate() {
@@ -231,8 +224,7 @@ fn push_goto<StorageT: StorageIndex>(
     goto: Option<StIdx<StorageT>>,
 ) -> Result<(), AllocError>
     requires { number < StorageT.limit }
-    ensures { OnOk result (map (goto_entry StorageT.index) stored.new.items
-        ≡ map (goto_entry StorageT.index) stored.old.items ++ option_to_list (kept_entry (λ goto. goto) (number, plain_goto StorageT.index goto))) }
+    ensures { OnOk result (AppendsGoto StorageT.index number goto stored.old stored.new) }
 {
     if let Some(state) = goto {
         let rule = RIdx(StorageT::from_index(number).unwrap());

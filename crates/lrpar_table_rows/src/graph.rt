@@ -1,11 +1,8 @@
 //! State graphs: the sets of LR(1) items of the states of an LR automaton.
-ghost use Rattle.std.specs.Prelude.{◌≡◌, ◌<◌, ◌≤◌, ◌↔◌, ℕ, IsTrue, IfErr, IfOk, IsErrOf, length, map};
-ghost use Rattle.std.specs.List.{Contains, AllZip};
-ghost use Rattle.std.specs.List.Sorted.{IsStrictlySortedBy};
-ghost use Rattle.std.specs.Ordering.{nat_cmp};
-ghost use Rattle.lrpar_table_rows.specs.Ascending.{HaveSame};
-ghost use Rattle.lrpar_table_rows.specs.Graph.{HasCore, HasItem, core_cmp, graph_len, item_cmp, items_of};
-ghost use Rattle.lrpar_table_rows.specs.PlainItems.{core_of, graph_of_rows};
+ghost use Rattle.std.specs.Prelude.{◌≡◌, ◌<◌, ◌≤◌, ◌↔◌, IsTrue, IfErr, IfOk, IsErrOf, length};
+ghost use Rattle.lrpar_table_rows.specs.Graph.{graph_len, items_of};
+ghost use Rattle.lrpar_table_rows.specs.Runs.{TokensAscend};
+ghost use Rattle.lrpar_table_rows.specs.StoredItems.{AreCoresAt, AreKernelCoresAt, AreLookaheadsAt, CoresAscend, HasCoreAt, HasItemAt, HaveItemsOf, ItemsAscendAt, StatesHaveItemsOf};
 ghost use Rattle.lrpar_table_rows.specs.declared.fault.TableFault.{TableFault};
 
 use crate::fault::TableFault;
@@ -54,7 +51,7 @@ impl<StorageT: StorageIndex> StateGraph<StorageT> {
         rows: Vec<Vec<(PIdx<StorageT>, usize, TIdx<StorageT>)>>,
     ) -> Result<Self, TableFault>
         ensures states { IfOk result (λ graph. graph_len graph ≡ length rows.items) }
-        ensures items { IfOk result (λ graph. (s p k t : ℕ) → HasItem graph s p k t ↔ HasItem (graph_of_rows StorageT.index rows) s p k t) }
+        ensures items { IfOk result (StatesHaveItemsOf StorageT.index rows) }
         ensures refused { IsErrOf result TableFault.BadIndex ↔ (StorageT.limit < length rows.items) }
     {
         if can_number::<StorageT>(rows.len()) {
@@ -97,7 +94,7 @@ impl<StorageT: StorageIndex> StateGraph<StorageT> {
         dot: usize,
         t: TIdx<StorageT>,
     ) -> bool
-        ensures found { IsTrue result ↔ HasItem self.now (StorageT.index s.0) (StorageT.index p.0) dot (StorageT.index t.0) }
+        ensures found { IsTrue result ↔ HasItemAt StorageT.index self.now s p dot t }
     {
         match self.sets.get(usize::from(s)) {
             Some(set) => set.has_item(p, dot, t),
@@ -108,7 +105,7 @@ impl<StorageT: StorageIndex> StateGraph<StorageT> {
     /// Whether state `s` has the LR(0) core of production `p` with `dot` symbols before the dot: an item with some lookahead.
     /// A state out of range has none. It is a binary search, in O(log n) for the state's n cores.
     pub fn has_core(&self, s: StIdx<StorageT>, p: PIdx<StorageT>, dot: usize) -> bool
-        ensures found { IsTrue result ↔ HasCore self.now (StorageT.index s.0) (StorageT.index p.0) dot }
+        ensures found { IsTrue result ↔ HasCoreAt StorageT.index self.now s p dot }
     {
         match self.sets.get(usize::from(s)) {
             Some(set) => set.has_core(p, dot),
@@ -120,7 +117,7 @@ impl<StorageT: StorageIndex> StateGraph<StorageT> {
     pub fn items(&self, s: StIdx<StorageT>) -> Items<'_, StorageT>
         requires { StorageT.index s.0 < graph_len self.now }
         ensures all { result ≡ items_of self.now (StorageT.index s.0) }
-        ensures ascending { IsStrictlySortedBy item_cmp (items_of self.now (StorageT.index s.0)) }
+        ensures ascending { ItemsAscendAt StorageT.index self.now s }
     {
         self.sets[usize::from(s)].items()
     }
@@ -128,9 +125,8 @@ impl<StorageT: StorageIndex> StateGraph<StorageT> {
     /// The lookaheads of the LR(1) items of state `s` with the LR(0) core of production `p` with `dot` symbols before the dot,
     /// ascending, each once. A state out of range has none. It is a binary search for the core.
     pub fn lookaheads(&self, s: StIdx<StorageT>, p: PIdx<StorageT>, dot: usize) -> &[TIdx<StorageT>]
-        ensures all { (t : ℕ) → Contains (map (λ token. StorageT.index token.0) result.now) t
-            ↔ HasItem self.now (StorageT.index s.0) (StorageT.index p.0) dot t }
-        ensures ascending { IsStrictlySortedBy nat_cmp (map (λ token. StorageT.index token.0) result.now) }
+        ensures all { AreLookaheadsAt StorageT.index self.now s p dot result.now }
+        ensures ascending { TokensAscend StorageT.index result.now }
     {
         match self.sets.get(usize::from(s)) {
             Some(set) => set.lookaheads(p, dot),
@@ -141,8 +137,8 @@ impl<StorageT: StorageIndex> StateGraph<StorageT> {
     /// The LR(0) cores of the items of state `s`, ascending, each once.
     pub fn cores(&self, s: StIdx<StorageT>) -> &[Core<StorageT>]
         requires { StorageT.index s.0 < graph_len self.now }
-        ensures all { (p k : ℕ) → HasCore self.now (StorageT.index s.0) p k ↔ Contains (map (core_of StorageT.index) result.now) (p, k) }
-        ensures ascending { IsStrictlySortedBy core_cmp (map (core_of StorageT.index) result.now) }
+        ensures all { AreCoresAt StorageT.index self.now s result.now }
+        ensures ascending { CoresAscend StorageT.index result.now }
     {
         self.sets[usize::from(s)].cores()
     }
@@ -151,8 +147,8 @@ impl<StorageT: StorageIndex> StateGraph<StorageT> {
     /// start production's core with dot 0 isn't among them.
     pub fn begun_cores(&self, s: StIdx<StorageT>) -> &[Core<StorageT>]
         requires { StorageT.index s.0 < graph_len self.now }
-        ensures all { (p k : ℕ) → (HasCore self.now (StorageT.index s.0) p k × (0 < k)) ↔ Contains (map (core_of StorageT.index) result.now) (p, k) }
-        ensures ascending { IsStrictlySortedBy core_cmp (map (core_of StorageT.index) result.now) }
+        ensures all { AreKernelCoresAt StorageT.index self.now s result.now }
+        ensures ascending { CoresAscend StorageT.index result.now }
     {
         self.sets[usize::from(s)].begun()
     }
@@ -163,7 +159,7 @@ fn item_sets<StorageT: StorageIndex>(
     alloc: Global,
     rows: Vec<Vec<Item<StorageT>>>,
 ) -> Result<Vec<ItemSet<StorageT>>, AllocError>
-    ensures { IfOk result (λ sets. AllZip HaveSame sets.items (graph_of_rows StorageT.index rows)) }
+    ensures { IfOk result (HaveItemsOf StorageT.index rows) }
 {
     let mut sets = Vec::with_capacity(alloc, rows.len())?;
     for row in rows {

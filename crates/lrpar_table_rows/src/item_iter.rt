@@ -1,8 +1,8 @@
 //! The items of a state, one by one.
-ghost use Rattle.std.specs.Prelude.{◌≡◌, [], MatchOption, length, map};
+ghost use Rattle.std.specs.Prelude.{◌≡◌, length};
 ghost use Rattle.std.specs.Iterator.{YieldsFirstBy, item_count};
 ghost use Rattle.lrpar_table_rows.specs.PlainItems.{item_of};
-ghost use Rattle.lrpar_table_rows.specs.Runs.{IsNextPlace, items_left, run_items};
+ghost use Rattle.lrpar_table_rows.specs.Runs.{FindsNextPlace, set_of_runs};
 
 use crate::ascending::Ascending;
 use crate::items::{Core, Item};
@@ -35,7 +35,7 @@ impl<'a, StorageT: StorageIndex> Items<'a, StorageT> {
     // The items of these cores with these runs.
     pub(crate) fn new(cores: &'a [Core<StorageT>], runs: &'a [Ascending<TIdx<StorageT>>]) -> Self
         requires { length runs.now ≡ length cores.now }
-        ensures { result ≡ map (item_of StorageT.index) (run_items cores.now runs.now) }
+        ensures { result ≡ set_of_runs StorageT.index cores.now runs.now }
     {
         Items {
             cores,
@@ -75,7 +75,7 @@ fn next_place<StorageT: StorageIndex>(
     place: usize,
     token: usize,
 ) -> Option<(usize, usize)>
-    ensures { MatchOption result (items_left cores.now runs.now place token ≡ []) (IsNextPlace cores.now runs.now place token) }
+    ensures { FindsNextPlace cores.now runs.now place token result }
 {
     let mut place = place;
     let mut token = token;

@@ -1,12 +1,8 @@
 //! The LR(1) items of one state: its LR(0) cores, each with the run of its lookaheads.
-ghost use Rattle.std.specs.Prelude.{◌≡◌, ◌<◌, ◌↔◌, ℕ, [], All, IsTrue, IfOk, length, map};
-ghost use Rattle.std.specs.List.{Contains};
-ghost use Rattle.std.specs.List.Sorted.{IsStrictlySortedBy};
-ghost use Rattle.std.specs.Ordering.{nat_cmp};
-ghost use Rattle.lrpar_table_rows.specs.Ascending.{HaveSame};
-ghost use Rattle.lrpar_table_rows.specs.Graph.{AreWithCore, core_cmp, item_at, item_cmp};
-ghost use Rattle.lrpar_table_rows.specs.PlainItems.{AreCoresOf, core_of, item_of, row_of};
-ghost use Rattle.lrpar_table_rows.specs.Runs.{run_items, set_of_rows};
+ghost use Rattle.std.specs.Prelude.{◌≡◌, ◌↔◌, IsTrue, IfOk};
+ghost use Rattle.lrpar_table_rows.specs.PlainItems.{AreCoresOf};
+ghost use Rattle.lrpar_table_rows.specs.Runs.{ArePaired, RunsAscend, TokensAscend, run_items, set_of_runs};
+ghost use Rattle.lrpar_table_rows.specs.StoredItems.{AreCoresIn, AreKernelCoresIn, AreLookaheadsIn, CoresAscend, HasCoreIn, HasItemIn, HasItemsOf, HasItemsOfRows, ItemsAscend};
 
 use crate::ascending::Ascending;
 use crate::item_iter::Items;
@@ -50,7 +46,7 @@ impl<StorageT: StorageIndex> ItemSet<StorageT> {
     /// The set of the items of these rows, each a core with lookaheads: rows, and the lookaheads of a row, in any order, repeated
     /// or not. A row without lookaheads has no items. What is out of range of any grammar is kept as it is.
     pub fn from_rows(alloc: Global, rows: &[CoreRow<StorageT>]) -> Result<Self, AllocError>
-        ensures same { IfOk result (λ set. HaveSame set (set_of_rows StorageT.index rows.now)) }
+        ensures same { IfOk result (HasItemsOfRows StorageT.index rows.now) }
     {
         let cores = cores_of_rows(alloc, rows)?;
         let runs = runs_of_rows(alloc, &cores, rows)?;
@@ -59,7 +55,7 @@ impl<StorageT: StorageIndex> ItemSet<StorageT> {
 
     /// The set of the row's items. The row is sorted in place; memory is allocated for the cores and their runs.
     pub(crate) fn from_row(alloc: Global, row: Vec<Item<StorageT>>) -> Result<Self, AllocError>
-        ensures same { IfOk result (λ set. HaveSame set (row_of StorageT.index row)) }
+        ensures same { IfOk result (HasItemsOf StorageT.index row) }
     {
         let items = Ascending::from_vec(row);
         let cores = cores_of(alloc, items.as_slice())?;
@@ -73,10 +69,10 @@ impl<StorageT: StorageIndex> ItemSet<StorageT> {
         cores: Ascending<Core<StorageT>>,
         runs: Vec<Ascending<TIdx<StorageT>>>,
     ) -> Result<Self, AllocError>
-        requires paired { length runs.items ≡ length cores }
+        requires paired { ArePaired cores runs }
         requires cores { AreCoresOf (run_items cores runs.items) cores }
-        requires sorted { All (λ run. IsStrictlySortedBy nat_cmp (map (λ token. StorageT.index token.0) run)) runs.items }
-        ensures { IfOk result (λ set. set ≡ map (item_of StorageT.index) (run_items cores runs.items)) }
+        requires sorted { RunsAscend StorageT.index runs }
+        ensures { IfOk result (λ set. set ≡ set_of_runs StorageT.index cores runs.items) }
     {
         let begun = begun_of(alloc, cores.as_slice())?;
         Ok(ItemSet { cores, runs, begun })
@@ -84,7 +80,7 @@ impl<StorageT: StorageIndex> ItemSet<StorageT> {
 
     /// Whether the item is in the set: a binary search for its core, and one for its lookahead.
     pub(crate) fn has_item(&self, prod: PIdx<StorageT>, dot: usize, token: TIdx<StorageT>) -> bool
-        ensures found { IsTrue result ↔ Contains self.now (item_at (StorageT.index prod.0) dot (StorageT.index token.0)) }
+        ensures found { IsTrue result ↔ HasItemIn StorageT.index self.now prod dot token }
     {
         match self.cores.place(&(prod, dot)) {
             Some(place) => self.runs[place].contains(&token),
@@ -94,16 +90,15 @@ impl<StorageT: StorageIndex> ItemSet<StorageT> {
 
     /// Whether an item of the set has the core: a binary search.
     pub(crate) fn has_core(&self, prod: PIdx<StorageT>, dot: usize) -> bool
-        ensures found { IsTrue result ↔ AreWithCore self.now (StorageT.index prod.0) dot }
+        ensures found { IsTrue result ↔ HasCoreIn StorageT.index self.now prod dot }
     {
         self.cores.contains(&(prod, dot))
     }
 
     /// The lookaheads of the items with the core, ascending, each once.
     pub(crate) fn lookaheads(&self, prod: PIdx<StorageT>, dot: usize) -> &[TIdx<StorageT>]
-        ensures all { (t : ℕ) → Contains (map (λ token. StorageT.index token.0) result.now) t
-            ↔ Contains self.now (item_at (StorageT.index prod.0) dot t) }
-        ensures ascending { IsStrictlySortedBy nat_cmp (map (λ token. StorageT.index token.0) result.now) }
+        ensures all { AreLookaheadsIn StorageT.index self.now prod dot result.now }
+        ensures ascending { TokensAscend StorageT.index result.now }
     {
         match self.cores.place(&(prod, dot)) {
             Some(place) => self.runs[place].as_slice(),
@@ -114,23 +109,23 @@ impl<StorageT: StorageIndex> ItemSet<StorageT> {
     /// The items, ascending, each once.
     pub(crate) fn items(&self) -> Items<'_, StorageT>
         ensures all { result ≡ self.now }
-        ensures ascending { IsStrictlySortedBy item_cmp self.now }
+        ensures ascending { ItemsAscend self.now }
     {
         Items::new(self.cores.as_slice(), &self.runs)
     }
 
     /// The cores, ascending, each once.
     pub(crate) fn cores(&self) -> &[Core<StorageT>]
-        ensures all { (p k : ℕ) → AreWithCore self.now p k ↔ Contains (map (core_of StorageT.index) result.now) (p, k) }
-        ensures ascending { IsStrictlySortedBy core_cmp (map (core_of StorageT.index) result.now) }
+        ensures all { AreCoresIn StorageT.index self.now result.now }
+        ensures ascending { CoresAscend StorageT.index result.now }
     {
         self.cores.as_slice()
     }
 
     /// The cores of the kernel items, whose dot isn't at the start, ascending, each once.
     pub(crate) fn begun(&self) -> &[Core<StorageT>]
-        ensures all { (p k : ℕ) → (AreWithCore self.now p k × (0 < k)) ↔ Contains (map (core_of StorageT.index) result.now) (p, k) }
-        ensures ascending { IsStrictlySortedBy core_cmp (map (core_of StorageT.index) result.now) }
+        ensures all { AreKernelCoresIn StorageT.index self.now result.now }
+        ensures ascending { CoresAscend StorageT.index result.now }
     {
         self.begun.as_slice()
     }

@@ -1,11 +1,11 @@
 //! Laws about the definitions that contracts cite. Each function has such a law as its contract, and does nothing.
-ghost use Rattle.std.specs.Prelude.{◌≡◌, ◌^◌, [], ◌∷◌, Some, None};
+ghost use Rattle.std.specs.Prelude.{◌≡◌, ◌^◌, [], ◌∷◌};
 ghost use Rattle.lrpar_grammar.specs.Sum.{sum_grammar};
 ghost use Rattle.lrpar_table_rows.specs.Graph.{HasCore, HasItem, graph_len, item_at};
 ghost use Rattle.lrpar_table_rows.specs.Rows.{AreRows, table_of};
 ghost use Rattle.lrpar_table_rows.specs.Safe.{IsSafe, IsSafeAt};
-ghost use Rattle.lrpar_table_rows.specs.Sum.{sum_graph, sum_rows, sum_table, with_actions, with_bare_items, with_bare_state, with_gotos, with_item};
-ghost use Rattle.lrpar_table_rows.specs.Table.{IsTable, ShiftTo, ReduceBy, Accepts, Fails, action_of, entries_len, goto_of, states_len};
+ghost use Rattle.lrpar_table_rows.specs.Sum.{HasSumActions, HasSumGotos, sum_graph, sum_rows, sum_table, with_actions, with_bare_items, with_bare_state, with_gotos, with_item};
+ghost use Rattle.lrpar_table_rows.specs.Table.{IsTable, ShiftTo, ReduceBy, Accepts, entries_len, states_len};
 ghost use Rattle.lrpar_table_rows.specs.declared.condition.SafetyCondition.TheVariants.{S2, S3, S4, S5, S6, S7, S8};
 
 /// The small table of sums is a table, so `from_sparse` takes it.
@@ -24,15 +24,8 @@ pub fn sum_rows_are_rows()
 pub fn sum_table_acts()
     ensures states { states_len sum_table ≡ 6 }
     ensures entries { entries_len sum_table ≡ 12 }
-    ensures shifts { action_of sum_table 4 1 ≡ ShiftTo 3 }
-    ensures reduces { action_of sum_table 2 2 ≡ ReduceBy 1 }
-    ensures accepts { action_of sum_table 1 2 ≡ Accepts }
-    ensures fails { action_of sum_table 0 0 ≡ Fails }
-    ensures no_state { action_of sum_table 6 0 ≡ Fails }
-    ensures no_token { action_of sum_table 3 3 ≡ Fails }
-    ensures goes { goto_of sum_table 4 1 ≡ Some 5 }
-    ensures goes_nowhere { goto_of sum_table 4 0 ≡ None }
-    ensures no_rule { goto_of sum_table 4 3 ≡ None }
+    ensures actions { HasSumActions sum_table }
+    ensures gotos { HasSumGotos sum_table }
 {}
 
 /// Items and cores that states of the small table have: `E: T . '+' E {end}` in state 2, `T: . 'ID'` in state 4; and some

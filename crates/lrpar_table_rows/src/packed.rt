@@ -1,6 +1,7 @@
 //! Packed rows: the place of a key in its row, by one load and one compare.
-ghost use Rattle.std.specs.Prelude.{◌≡◌, ◌<◌, ◌≤◌, ◌^◌, ◌+◌, ℕ, Some, IfOk, IfSome, IsTrue, MatchOption, length, map, slice_get, slice_set};
-ghost use Rattle.lrpar_table_rows.specs.Packed.{AreFree, AreOwned, AreShared, IsPacked, IsPut, IsShared, slot_of};
+ghost use Rattle.std.specs.Prelude.{◌≡◌, ◌<◌, ◌≤◌, ◌^◌, ◌+◌, IfOk, IfSome, IsTrue, length};
+ghost use Rattle.lrpar_table_rows.specs.Entries.{key_numbers};
+ghost use Rattle.lrpar_table_rows.specs.Packed.{AreAllPut, AreFree, AreOwned, ArePacked, AreShared, FindsSlot, IsBaseOf, IsFreeAt, IsShared, PutsSlot, row_keys};
 
 use crate::bases::bases_of;
 use crate::key::Key;
@@ -23,7 +24,7 @@ impl Packed {
         rows: &[Vec<(K, V)>],
         most: usize,
     ) -> Result<Self, AllocError>
-        ensures packed { IfOk result (λ packed. IsPacked (map (λ row. map (λ entry. K.number entry.0) row.items) rows.now) packed.bases.items packed.slots.items) }
+        ensures packed { IfOk result (λ packed. ArePacked K.number rows.now packed.bases.items packed.slots) }
         ensures few { IfOk result (λ packed. length packed.slots.items ≤ most) }
     {
         let (bases, len) = bases_of(alloc, rows, most)?;
@@ -39,7 +40,7 @@ impl Packed {
     /// The base of the row, if it is packed.
     #[inline]
     pub(crate) fn base(&self, row: usize) -> Option<Base>
-        ensures { IfSome result (λ base. slice_get self.now.bases.items row ≡ Some base) }
+        ensures { IfSome result (IsBaseOf self.now.bases row) }
     {
         match self.bases.get(row) {
             Some(base) => Some(*base),
@@ -51,9 +52,7 @@ impl Packed {
     #[inline]
     pub(crate) fn place(&self, base: Base, sought: usize) -> Option<usize>
         requires { sought < 2 ^ 32 }
-        ensures { MatchOption result
-            ((i : ℕ) → ¬ (slice_get self.now.slots.items (base.offset + sought) ≡ Some (slot_of base.owner i)))
-            (λ place. slice_get self.now.slots.items (base.offset + sought) ≡ Some (slot_of base.owner place)) }
+        ensures { FindsSlot self.now.slots base sought result }
     {
         match self.slots.get(base.offset as usize + sought) {
             Some(slot) if slot.owner == base.owner => Some(slot.place as usize),
@@ -70,8 +69,7 @@ fn filled<K: Key, V>(
     bases: &[Base],
     len: usize,
 ) -> Result<Option<Vec<Slot>>, AllocError>
-    ensures packed { IfOk result (λ made. IfSome made (λ slots.
-        IsPacked (map (λ row. map (λ entry. K.number entry.0) row.items) rows.now) bases.now slots.items)) }
+    ensures packed { IfOk result (λ made. IfSome made (ArePacked K.number rows.now bases.now)) }
     ensures len { IfOk result (λ made. IfSome made (λ slots. length slots.items ≡ len)) }
 {
     let Ok(free) = u32::try_from(rows.len()) else {
@@ -97,7 +95,7 @@ fn put_rows<K: Key, V>(slots: &mut [Slot], free: u32, bases: &[Base], rows: &[Ve
     requires len { length bases.now ≡ length rows.now }
     requires number { length rows.now ≡ free }
     requires free { AreFree free slots.old }
-    ensures { IsTrue result → AreOwned (map (λ row. map (λ entry. K.number entry.0) row.items) rows.now) bases.now slots.new free free }
+    ensures { IsTrue result → AreOwned (row_keys K.number rows.now) bases.now slots.new free free }
 {
     for (number, row) in rows.iter().enumerate() {
         let base = bases[number];
@@ -111,7 +109,7 @@ fn put_rows<K: Key, V>(slots: &mut [Slot], free: u32, bases: &[Base], rows: &[Ve
 /// Puts the keys of the row into their slots. Returns false if a slot isn't free.
 fn put_row<K: Key, V>(slots: &mut [Slot], free: u32, base: Base, row: &[(K, V)]) -> bool
     requires { base.owner < free }
-    ensures { IsTrue result → IsPut (map (λ entry. K.number entry.0) row.now) base free slots.old slots.new (length (map (λ entry. K.number entry.0) row.now)) }
+    ensures { IsTrue result → AreAllPut (key_numbers K.number row.now) base free slots.old slots.new }
 {
     for (place, entry) in row.iter().enumerate() {
         if !put_key(slots, free, base, entry.0.to_number(), place) {
@@ -124,8 +122,8 @@ fn put_row<K: Key, V>(slots: &mut [Slot], free: u32, base: Base, row: &[(K, V)])
 /// Puts the key of this number, which has this place in its row, into its slot. Returns false if the slot isn't free.
 fn put_key(slots: &mut [Slot], free: u32, base: Base, number: usize, place: usize) -> bool
     requires { number < 2 ^ 32 }
-    ensures free { IsTrue result → (i : ℕ) × (slice_get slots.old (base.offset + number) ≡ Some (slot_of free i)) }
-    ensures put { IsTrue result → slots.new ≡ slice_set slots.old (base.offset + number) (slot_of base.owner place) }
+    ensures free { IsTrue result → IsFreeAt free slots.old (base.offset + number) }
+    ensures put { IsTrue result → PutsSlot base number place slots.old slots.new }
 {
     let index = base.offset as usize + number;
     let Ok(place) = u32::try_from(place) else {
@@ -144,7 +142,7 @@ fn put_key(slots: &mut [Slot], free: u32, base: Base, number: usize, place: usiz
 /// Whether each row has the keys and the base of the row that owns its slots.
 fn are_shared<K: Key, V>(bases: &[Base], rows: &[Vec<(K, V)>]) -> bool
     requires { length bases.now ≡ length rows.now }
-    ensures { IsTrue result → AreShared (map (λ row. map (λ entry. K.number entry.0) row.items) rows.now) bases.now (length rows.now) }
+    ensures { IsTrue result → AreShared (row_keys K.number rows.now) bases.now (length rows.now) }
 {
     for (number, row) in rows.iter().enumerate() {
         if !is_shared(bases, rows, bases[number], row) {
@@ -157,7 +155,7 @@ fn are_shared<K: Key, V>(bases: &[Base], rows: &[Vec<(K, V)>]) -> bool
 /// Whether the owner of the base is a row with this base and these keys.
 fn is_shared<K: Key, V>(bases: &[Base], rows: &[Vec<(K, V)>], base: Base, row: &[(K, V)]) -> bool
     requires { length bases.now ≡ length rows.now }
-    ensures { IsTrue result → IsShared (map (λ row. map (λ entry. K.number entry.0) row.items) rows.now) bases.now base (map (λ entry. K.number entry.0) row.now) }
+    ensures { IsTrue result → IsShared (row_keys K.number rows.now) bases.now base (key_numbers K.number row.now) }
 {
     let number = base.owner as usize;
     if number >= rows.len() {
@@ -169,7 +167,7 @@ fn is_shared<K: Key, V>(bases: &[Base], rows: &[Vec<(K, V)>], base: Base, row: &
 
 /// Whether both rows have the same keys in the same order.
 pub(crate) fn have_same_keys<K: Key, V>(one: &[(K, V)], other: &[(K, V)]) -> bool
-    ensures { IsTrue result → map (λ entry. K.number entry.0) one.now ≡ map (λ entry. K.number entry.0) other.now }
+    ensures { IsTrue result → key_numbers K.number one.now ≡ key_numbers K.number other.now }
 {
     if one.len() != other.len() {
         return false;

@@ -1,6 +1,6 @@
 //! Conflicts of a shift and a reduction that precedences resolved when a table was built.
-ghost use Rattle.std.specs.Prelude.{◌≡◌, ◌==◌, [], length, map};
-ghost use Rattle.lrpar_table_rows.specs.PlainConflicts.{resolved_conflict_of};
+ghost use Rattle.std.specs.Prelude.{◌≡◌, ◌==◌, [], length};
+ghost use Rattle.lrpar_table_rows.specs.PlainConflicts.{resolved_of};
 
 use lrpar_grammar::span::{PIdx, StIdx, StorageIndex, TIdx};
 pub use lrpar_table_precedence::precedence::Resolution;
@@ -38,7 +38,7 @@ impl<StorageT: StorageIndex> Model for Resolved<StorageT> {
 impl<StorageT: StorageIndex> Resolved<StorageT> {
     /// The resolved conflicts of this list. The numbers aren't checked.
     pub fn new(conflicts: Vec<ResolvedConflict<StorageT>>) -> Self
-        ensures { result ≡ map (resolved_conflict_of StorageT.index) conflicts.items }
+        ensures { result ≡ resolved_of StorageT.index conflicts.items }
     {
         Resolved { conflicts }
     }
@@ -54,7 +54,7 @@ impl<StorageT: StorageIndex> Resolved<StorageT> {
 
     /// The resolved conflicts, in the order in which they were given.
     pub fn as_slice(&self) -> &[ResolvedConflict<StorageT>]
-        ensures { map (resolved_conflict_of StorageT.index) result.now ≡ self.now }
+        ensures { resolved_of StorageT.index result.now ≡ self.now }
     {
         &self.conflicts
     }

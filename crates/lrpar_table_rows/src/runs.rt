@@ -1,11 +1,8 @@
 //! The cores of items, and the run of lookaheads of each core.
-ghost use Rattle.std.specs.Prelude.{◌≡◌, ◌<◌, ◌∷◌, ◌++◌, [], All, IfOk, OnOk, length, map};
-ghost use Rattle.std.specs.List.{AllZip, Contains};
-ghost use Rattle.std.specs.List.Sorted.{IsStrictlySortedBy};
-ghost use Rattle.std.specs.Ordering.{nat_cmp};
-ghost use Rattle.lrpar_table_rows.specs.Ascending.{HaveSame};
+ghost use Rattle.std.specs.Prelude.{◌<◌, ◌∷◌, [], IfOk, OnOk, length};
+ghost use Rattle.std.specs.List.{Contains};
 ghost use Rattle.lrpar_table_rows.specs.PlainItems.{AreBegunOf, AreCoresOf};
-ghost use Rattle.lrpar_table_rows.specs.Runs.{core_items, items_of_rows, run_items, tokens_of};
+ghost use Rattle.lrpar_table_rows.specs.Runs.{AddsItems, AreEmptyRuns, ArePaired, AreRunsOf, HaveSameTokens, RunsAscend, core_items, items_of_rows};
 
 use crate::ascending::{Ascending, push_new};
 use crate::items::{Core, CoreRow, Item};
@@ -66,9 +63,9 @@ pub(crate) fn runs_of<StorageT: StorageIndex>(
     items: &[Item<StorageT>],
 ) -> Result<Vec<Ascending<TIdx<StorageT>>>, AllocError>
     requires { AreCoresOf items.now cores.now }
-    ensures paired { IfOk result (λ runs. length runs.items ≡ length cores.now) }
-    ensures sorted { IfOk result (λ runs. All (λ run. IsStrictlySortedBy nat_cmp (map (λ token. StorageT.index token.0) run)) runs.items) }
-    ensures same { IfOk result (λ runs. HaveSame (run_items cores.now runs.items) items.now) }
+    ensures paired { IfOk result (ArePaired cores.now) }
+    ensures sorted { IfOk result (RunsAscend StorageT.index) }
+    ensures same { IfOk result (AreRunsOf cores.now items.now) }
 {
     let mut runs = no_runs(alloc, cores.as_slice())?;
     for item in items {
@@ -85,9 +82,9 @@ pub(crate) fn runs_of_rows<StorageT: StorageIndex>(
     rows: &[CoreRow<StorageT>],
 ) -> Result<Vec<Ascending<TIdx<StorageT>>>, AllocError>
     requires { AreCoresOf (items_of_rows rows.now) cores.now }
-    ensures paired { IfOk result (λ runs. length runs.items ≡ length cores.now) }
-    ensures sorted { IfOk result (λ runs. All (λ run. IsStrictlySortedBy nat_cmp (map (λ token. StorageT.index token.0) run)) runs.items) }
-    ensures same { IfOk result (λ runs. HaveSame (run_items cores.now runs.items) (items_of_rows rows.now)) }
+    ensures paired { IfOk result (ArePaired cores.now) }
+    ensures sorted { IfOk result (RunsAscend StorageT.index) }
+    ensures same { IfOk result (AreRunsOf cores.now (items_of_rows rows.now)) }
 {
     let mut runs = no_runs(alloc, cores.as_slice())?;
     for row in rows {
@@ -102,8 +99,8 @@ fn no_runs<StorageT: StorageIndex>(
     alloc: Global,
     cores: &[Core<StorageT>],
 ) -> Result<Vec<Vec<TIdx<StorageT>>>, AllocError>
-    ensures paired { IfOk result (λ runs. length runs.items ≡ length cores.now) }
-    ensures none { IfOk result (λ runs. (x : _) → ¬ (Contains (run_items cores.now (tokens_of runs.items)) x)) }
+    ensures paired { IfOk result (ArePaired cores.now) }
+    ensures none { IfOk result (AreEmptyRuns cores.now) }
 {
     let mut runs = Vec::with_capacity(alloc, cores.len())?;
     for _ in cores {
@@ -119,10 +116,9 @@ fn put_token<StorageT: StorageIndex>(
     item: &Item<StorageT>,
 ) -> Result<(), AllocError>
     requires known { Contains cores.now (item.now.0, item.now.1) }
-    requires paired { length runs.old.items ≡ length cores.now }
-    ensures paired { OnOk result (length runs.new.items ≡ length cores.now) }
-    ensures same { OnOk result (HaveSame (run_items cores.now (tokens_of runs.new.items))
-        (run_items cores.now (tokens_of runs.old.items) ++ item.now ∷ [])) }
+    requires paired { ArePaired cores.now runs.old }
+    ensures paired { OnOk result (ArePaired cores.now runs.new) }
+    ensures same { OnOk result (AddsItems cores.now (item.now ∷ []) runs.old runs.new) }
 {
     match cores.place(&(item.0, item.1)) {
         Some(place) => {
@@ -142,10 +138,9 @@ fn put_run<StorageT: StorageIndex>(
     tokens: &[TIdx<StorageT>],
 ) -> Result<(), AllocError>
     requires known { 0 < length tokens.now → Contains cores.now core }
-    requires paired { length runs.old.items ≡ length cores.now }
-    ensures paired { OnOk result (length runs.new.items ≡ length cores.now) }
-    ensures same { OnOk result (HaveSame (run_items cores.now (tokens_of runs.new.items))
-        (run_items cores.now (tokens_of runs.old.items) ++ core_items core tokens.now)) }
+    requires paired { ArePaired cores.now runs.old }
+    ensures paired { OnOk result (ArePaired cores.now runs.new) }
+    ensures same { OnOk result (AddsItems cores.now (core_items core tokens.now) runs.old runs.new) }
 {
     match cores.place(&core) {
         Some(place) => {
@@ -162,8 +157,8 @@ fn ascending_runs<StorageT: StorageIndex>(
     alloc: Global,
     runs: Vec<Vec<TIdx<StorageT>>>,
 ) -> Result<Vec<Ascending<TIdx<StorageT>>>, AllocError>
-    ensures same { IfOk result (λ made. AllZip HaveSame made.items (tokens_of runs.items)) }
-    ensures sorted { IfOk result (λ made. All (λ run. IsStrictlySortedBy nat_cmp (map (λ token. StorageT.index token.0) run)) made.items) }
+    ensures same { IfOk result (HaveSameTokens runs) }
+    ensures sorted { IfOk result (RunsAscend StorageT.index) }
 {
     let mut made = Vec::with_capacity(alloc, runs.len())?;
     for run in runs {

@@ -1,8 +1,9 @@
 //! Sparse rows: whether they are those of a table.
-ghost use Rattle.std.specs.Prelude.{◌≡◌, ◌<◌, ◌≤◌, ◌↔◌, IsTrue, All, length, map};
-ghost use Rattle.std.specs.List.Sorted.{IsStrictlyIncreasing};
+ghost use Rattle.std.specs.Prelude.{◌↔◌, IsTrue};
+ghost use Rattle.lrpar_table_rows.specs.Entries.{KeysAscend};
 ghost use Rattle.lrpar_table_rows.specs.PlainRows.{action_entry, goto_entry, sparse_table_of};
-ghost use Rattle.lrpar_table_rows.specs.Table.{AreEntries, IsActionEntry, IsGotoEntry, IsTable};
+ghost use Rattle.lrpar_table_rows.specs.StoredRows.{AreActionEntries, AreGotoEntries, AreSparseActionRows, AreSparseGotoRows, IsSparseActionRow, IsSparseGotoRow};
+ghost use Rattle.lrpar_table_rows.specs.Table.{HasRightEntries, HasNumbers, IsActionEntry, IsGotoEntry, IsTable};
 
 use crate::key::Key;
 use crate::numbers::can_number;
@@ -19,9 +20,7 @@ pub(crate) fn is_sparse_table<StorageT: StorageIndex>(rows: &SparseRows<StorageT
 /// Whether there is a row of both kinds for each state, `StorageT` can number all states, tokens and rules, and the start state
 /// is one of the states.
 fn has_sparse_numbers<StorageT: StorageIndex>(rows: &SparseRows<StorageT>) -> bool
-    ensures { let table = sparse_table_of StorageT.index rows.now in IsTrue result ↔ (
-        (length table.actions ≡ table.states) × (length table.gotos ≡ table.states) × (table.start < table.states)
-        × (table.states ≤ StorageT.limit) × (table.tokens ≤ StorageT.limit) × (table.rules ≤ StorageT.limit)) }
+    ensures { IsTrue result ↔ HasNumbers StorageT.limit (sparse_table_of StorageT.index rows.now) }
 {
     rows.actions.len() == rows.states
         && rows.gotos.len() == rows.states
@@ -33,9 +32,7 @@ fn has_sparse_numbers<StorageT: StorageIndex>(rows: &SparseRows<StorageT>) -> bo
 
 /// Whether each row has entries that ascend, all in range, and no errors among them.
 fn are_entries<StorageT: StorageIndex>(rows: &SparseRows<StorageT>) -> bool
-    ensures { let table = sparse_table_of StorageT.index rows.now in IsTrue result ↔ (
-        All (AreEntries (IsActionEntry table.tokens table.states)) table.actions
-        × All (AreEntries (IsGotoEntry table.rules table.states)) table.gotos) }
+    ensures { IsTrue result ↔ HasRightEntries (sparse_table_of StorageT.index rows.now) }
 {
     are_action_rows(&rows.actions, rows.tokens, rows.states)
         && are_goto_rows(&rows.gotos, rows.rules, rows.states)
@@ -47,7 +44,7 @@ fn are_action_rows<StorageT: StorageIndex>(
     tokens: usize,
     states: usize,
 ) -> bool
-    ensures { IsTrue result ↔ All (λ row. AreEntries (IsActionEntry tokens states) (map (action_entry StorageT.index) row.items)) rows.now }
+    ensures { IsTrue result ↔ AreSparseActionRows StorageT.index tokens states rows.now }
 {
     for row in rows {
         if !is_action_row(row, tokens, states) {
@@ -63,7 +60,7 @@ fn is_action_row<StorageT: StorageIndex>(
     tokens: usize,
     states: usize,
 ) -> bool
-    ensures { IsTrue result ↔ AreEntries (IsActionEntry tokens states) (map (action_entry StorageT.index) row.now) }
+    ensures { IsTrue result ↔ IsSparseActionRow StorageT.index tokens states row.now }
 {
     ascends(row) && are_action_entries(row, tokens, states)
 }
@@ -74,7 +71,7 @@ fn are_action_entries<StorageT: StorageIndex>(
     tokens: usize,
     states: usize,
 ) -> bool
-    ensures { IsTrue result ↔ All (λ entry. IsActionEntry tokens states (action_entry StorageT.index entry)) row.now }
+    ensures { IsTrue result ↔ AreActionEntries StorageT.index tokens states row.now }
 {
     for entry in row {
         if !is_action_entry(entry.0, entry.1, tokens, states) {
@@ -107,7 +104,7 @@ fn are_goto_rows<StorageT: StorageIndex>(
     rules: usize,
     states: usize,
 ) -> bool
-    ensures { IsTrue result ↔ All (λ row. AreEntries (IsGotoEntry rules states) (map (goto_entry StorageT.index) row.items)) rows.now }
+    ensures { IsTrue result ↔ AreSparseGotoRows StorageT.index rules states rows.now }
 {
     for row in rows {
         if !is_goto_row(row, rules, states) {
@@ -123,7 +120,7 @@ fn is_goto_row<StorageT: StorageIndex>(
     rules: usize,
     states: usize,
 ) -> bool
-    ensures { IsTrue result ↔ AreEntries (IsGotoEntry rules states) (map (goto_entry StorageT.index) row.now) }
+    ensures { IsTrue result ↔ IsSparseGotoRow StorageT.index rules states row.now }
 {
     ascends(row) && are_goto_entries(row, rules, states)
 }
@@ -134,7 +131,7 @@ fn are_goto_entries<StorageT: StorageIndex>(
     rules: usize,
     states: usize,
 ) -> bool
-    ensures { IsTrue result ↔ All (λ entry. IsGotoEntry rules states (goto_entry StorageT.index entry)) row.now }
+    ensures { IsTrue result ↔ AreGotoEntries StorageT.index rules states row.now }
 {
     for entry in row {
         if !is_goto_entry(entry.0, entry.1, rules, states) {
@@ -158,7 +155,7 @@ fn is_goto_entry<StorageT: StorageIndex>(
 
 /// Whether the numbers of the keys ascend, each once.
 fn ascends<K: Key, V>(row: &[(K, V)]) -> bool
-    ensures { IsTrue result ↔ IsStrictlyIncreasing (map (λ entry. K.number entry.0) row.now) }
+    ensures { IsTrue result ↔ KeysAscend K.number row.now }
 {
     for place in 1..row.len() {
         if row[place].0.to_number() <= row[place - 1].0.to_number() {

@@ -1,11 +1,10 @@
 //! State tables: the actions and gotos of an LR automaton. A table is made of rows, and then only read.
-ghost use Rattle.std.specs.Prelude.{◌≡◌, ◌≢◌, ◌<◌, ◌≤◌, ◌↔◌, ℕ, [], IfOk, IsErrOf, Some, None, Contains, All, length, map, slice_index_or, zip};
-ghost use Rattle.std.specs.List.Sorted.{IsStrictlyIncreasing};
-ghost use Rattle.std.specs.Map.{keys_of};
+ghost use Rattle.std.specs.Prelude.{◌≡◌, ◌<◌, ◌≤◌, ◌↔◌, IfOk, IsErrOf, length};
 ghost use Rattle.std.specs.Option.{option_map};
-ghost use Rattle.lrpar_table_rows.specs.Rows.{AreRows, table_of};
-ghost use Rattle.lrpar_table_rows.specs.Table.{TableAction, Fails, IsActionEntry, IsActionWithin, IsClosed, IsGotoEntry, IsGotoWithin, IsTable, action_of, actions_at, entries_len, goto_of, gotos_at, states_len, with_resolved};
-ghost use Rattle.lrpar_table_rows.specs.PlainRows.{action_entry, goto_entry, plain_action, plain_goto, plain_rows, sparse_table_of};
+ghost use Rattle.lrpar_table_rows.specs.Rows.{AreRows};
+ghost use Rattle.lrpar_table_rows.specs.StoredRows.{AreActionsAt, AreGotosAt, GoesWithin, HasActionsOf, HasGotosOf, IsActionAt, IsGotoAt, IsTableOfRows, IsTableOfSparse, ShiftsWithin};
+ghost use Rattle.lrpar_table_rows.specs.Table.{ActionsAscend, AreActionsWithin, AreGotosWithin, FailsPastStates, FailsPastTokens, GotosAscend, HasNoGotoPastRules, HasNoGotoPastStates, IsClosed, IsTable, StoresActions, StoresGotos, entries_len, states_len, with_resolved};
+ghost use Rattle.lrpar_table_rows.specs.PlainRows.{plain_rows, sparse_table_of};
 ghost use Rattle.lrpar_table_rows.specs.declared.fault.TableFault.{TableFault};
 
 pub use crate::conflicts::Conflicts;
@@ -73,11 +72,9 @@ impl<StorageT: StorageIndex> StateTable<StorageT> {
     /// the rows is read a few times; then the rows are dropped.
     pub fn from_rows(alloc: Global, rows: TableRows<StorageT>) -> Result<Self, TableFault>
         ensures made { IfOk result (λ _. AreRows StorageT.limit (plain_rows StorageT.index rows)) }
-        ensures table { IfOk result (λ table. table ≡ table_of (plain_rows StorageT.index rows)) }
-        ensures actions { IfOk result (λ table. (s t : ℕ)
-            → action_of table s t ≡ slice_index_or (slice_index_or (plain_rows StorageT.index rows).actions s []) t Fails) }
-        ensures gotos { IfOk result (λ table. (s r : ℕ)
-            → goto_of table s r ≡ slice_index_or (slice_index_or (plain_rows StorageT.index rows).gotos s []) r None) }
+        ensures table { IfOk result (IsTableOfRows StorageT.index rows) }
+        ensures actions { IfOk result (HasActionsOf StorageT.index rows) }
+        ensures gotos { IfOk result (HasGotosOf StorageT.index rows) }
         ensures refused { IsErrOf result TableFault.BadIndex ↔ ¬ (AreRows StorageT.limit (plain_rows StorageT.index rows)) }
     {
         if !are_rows(&rows) {
@@ -95,7 +92,7 @@ impl<StorageT: StorageIndex> StateTable<StorageT> {
     /// entries, and not with tokens and rules.
     pub fn from_sparse(alloc: Global, rows: SparseRows<StorageT>) -> Result<Self, TableFault>
         ensures made { IfOk result (λ _. IsTable StorageT.limit (sparse_table_of StorageT.index rows)) }
-        ensures table { IfOk result (λ table. table ≡ sparse_table_of StorageT.index rows) }
+        ensures table { IfOk result (IsTableOfSparse StorageT.index rows) }
         ensures refused { IsErrOf result TableFault.BadIndex ↔ ¬ (IsTable StorageT.limit (sparse_table_of StorageT.index rows)) }
     {
         if !is_sparse_table(&rows) {
@@ -117,8 +114,8 @@ impl<StorageT: StorageIndex> StateTable<StorageT> {
         ensures states { result ≡ states_len self.now }
         ensures fits { result ≤ StorageT.limit }
         ensures closed { IsClosed self.now }
-        ensures no_action { (s t : ℕ) → states_len self.now ≤ s → action_of self.now s t ≡ Fails }
-        ensures no_goto { (s r : ℕ) → states_len self.now ≤ s → goto_of self.now s r ≡ None }
+        ensures no_action { FailsPastStates self.now }
+        ensures no_goto { HasNoGotoPastStates self.now }
     {
         self.actions.rows_len()
     }
@@ -127,7 +124,7 @@ impl<StorageT: StorageIndex> StateTable<StorageT> {
     pub fn tokens_len(&self) -> usize
         ensures tokens { result ≡ self.now.tokens }
         ensures fits { result ≤ StorageT.limit }
-        ensures end { (s t : ℕ) → self.now.tokens ≤ t → action_of self.now s t ≡ Fails }
+        ensures end { FailsPastTokens self.now }
     {
         self.tokens
     }
@@ -136,7 +133,7 @@ impl<StorageT: StorageIndex> StateTable<StorageT> {
     pub fn rules_len(&self) -> usize
         ensures rules { result ≡ self.now.rules }
         ensures fits { result ≤ StorageT.limit }
-        ensures end { (s r : ℕ) → self.now.rules ≤ r → goto_of self.now s r ≡ None }
+        ensures end { HasNoGotoPastRules self.now }
     {
         self.rules
     }
@@ -181,8 +178,8 @@ impl<StorageT: StorageIndex> StateTable<StorageT> {
     pub fn action(&self, s: StIdx<StorageT>, t: TIdx<StorageT>) -> Action<StorageT>
         requires state { StorageT.index s.0 < states_len self.now }
         requires token { StorageT.index t.0 < self.now.tokens }
-        ensures action { plain_action StorageT.index result ≡ action_of self.now (StorageT.index s.0) (StorageT.index t.0) }
-        ensures within { IsActionWithin (states_len self.now) (action_of self.now (StorageT.index s.0) (StorageT.index t.0)) }
+        ensures action { IsActionAt StorageT.index self.now s t result }
+        ensures within { ShiftsWithin StorageT.index self.now s t }
     {
         match self.actions.value_of(usize::from(s), t) {
             Some(action) => action,
@@ -197,8 +194,8 @@ impl<StorageT: StorageIndex> StateTable<StorageT> {
     pub fn goto(&self, s: StIdx<StorageT>, r: RIdx<StorageT>) -> Option<StIdx<StorageT>>
         requires state { StorageT.index s.0 < states_len self.now }
         requires rule { StorageT.index r.0 < self.now.rules }
-        ensures goto { plain_goto StorageT.index result ≡ goto_of self.now (StorageT.index s.0) (StorageT.index r.0) }
-        ensures within { IsGotoWithin (states_len self.now) (goto_of self.now (StorageT.index s.0) (StorageT.index r.0)) }
+        ensures goto { IsGotoAt StorageT.index self.now s r result }
+        ensures within { GoesWithin StorageT.index self.now s r }
     {
         self.gotos.value_of(usize::from(s), r)
     }
@@ -207,12 +204,11 @@ impl<StorageT: StorageIndex> StateTable<StorageT> {
     #[inline]
     pub fn actions_of(&self, s: StIdx<StorageT>) -> (&[TIdx<StorageT>], &[Action<StorageT>])
         requires { StorageT.index s.0 < states_len self.now }
-        ensures entries { map (action_entry StorageT.index) (zip result.0.now result.1.now) ≡ actions_at self.now (StorageT.index s.0) }
+        ensures entries { AreActionsAt StorageT.index self.now s result.0.now result.1.now }
         ensures actions { length result.1.now ≡ length result.0.now }
-        ensures exact { (t : ℕ) (action : TableAction) → Contains (actions_at self.now (StorageT.index s.0)) (t, action)
-            ↔ ((action_of self.now (StorageT.index s.0) t ≡ action) × (action ≢ Fails)) }
-        ensures ascending { IsStrictlyIncreasing (keys_of (actions_at self.now (StorageT.index s.0))) }
-        ensures within { All (IsActionEntry self.now.tokens (states_len self.now)) (actions_at self.now (StorageT.index s.0)) }
+        ensures exact { StoresActions self.now (StorageT.index s.0) }
+        ensures ascending { ActionsAscend self.now (StorageT.index s.0) }
+        ensures within { AreActionsWithin self.now (StorageT.index s.0) }
     {
         self.actions.row(usize::from(s))
     }
@@ -221,12 +217,11 @@ impl<StorageT: StorageIndex> StateTable<StorageT> {
     #[inline]
     pub fn gotos_of(&self, s: StIdx<StorageT>) -> (&[RIdx<StorageT>], &[StIdx<StorageT>])
         requires { StorageT.index s.0 < states_len self.now }
-        ensures entries { map (goto_entry StorageT.index) (zip result.0.now result.1.now) ≡ gotos_at self.now (StorageT.index s.0) }
+        ensures entries { AreGotosAt StorageT.index self.now s result.0.now result.1.now }
         ensures states { length result.1.now ≡ length result.0.now }
-        ensures exact { (r next : ℕ) → Contains (gotos_at self.now (StorageT.index s.0)) (r, next)
-            ↔ (goto_of self.now (StorageT.index s.0) r ≡ Some next) }
-        ensures ascending { IsStrictlyIncreasing (keys_of (gotos_at self.now (StorageT.index s.0))) }
-        ensures within { All (IsGotoEntry self.now.rules (states_len self.now)) (gotos_at self.now (StorageT.index s.0)) }
+        ensures exact { StoresGotos self.now (StorageT.index s.0) }
+        ensures ascending { GotosAscend self.now (StorageT.index s.0) }
+        ensures within { AreGotosWithin self.now (StorageT.index s.0) }
     {
         self.gotos.row(usize::from(s))
     }
@@ -238,7 +233,7 @@ fn of_rows<StorageT: StorageIndex>(
     rows: TableRows<StorageT>,
 ) -> Result<StateTable<StorageT>, AllocError>
     requires { AreRows StorageT.limit (plain_rows StorageT.index rows) }
-    ensures { IfOk result (λ table. table ≡ table_of (plain_rows StorageT.index rows)) }
+    ensures { IfOk result (IsTableOfRows StorageT.index rows) }
 {
     let states = rows.actions.len();
     let actions = stored_actions(alloc, &rows.actions)?;
@@ -261,7 +256,7 @@ fn of_sparse<StorageT: StorageIndex>(
     rows: SparseRows<StorageT>,
 ) -> Result<StateTable<StorageT>, AllocError>
     requires { IsTable StorageT.limit (sparse_table_of StorageT.index rows) }
-    ensures { IfOk result (λ table. table ≡ sparse_table_of StorageT.index rows) }
+    ensures { IfOk result (IsTableOfSparse StorageT.index rows) }
 {
     let actions = Entries::from_rows(alloc, &rows.actions)?;
     let gotos = Entries::from_rows(alloc, &rows.gotos)?;

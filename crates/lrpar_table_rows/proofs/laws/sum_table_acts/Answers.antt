@@ -7,13 +7,6 @@ unfolding action_of goto_of
 returns c = record {
   states = refl;
   entries = refl;
-  shifts = refl;
-  reduces = refl;
-  accepts = refl;
-  fails = refl;
-  no_state = refl;
-  no_token = refl;
-  goes = refl;
-  goes_nowhere = refl;
-  no_rule = refl;
+  actions = record { shifts = refl; reduces = refl; accepts = refl; fails = refl; no_state = refl; no_token = refl };
+  gotos = record { goes = refl; goes_nowhere = refl; no_rule = refl };
 }

@@ -1,4 +1,4 @@
-use Rattle.std.proofs.Common.{◌≡◌, ◌∙◌, ◌+◌, [], All, ap, arith, length, refl}
+use Rattle.std.proofs.Common.{◌∙◌, ◌+◌, ap, arith, length, refl}
 use Rattle.std.proofs.lemmas.List.{length_push}
 use Rattle.std.proofs.lemmas.List.Elements.{All-nil}
 use Rattle.lrpar_table_rows.proofs.RunLemmas.{empty_more, empty_runs}

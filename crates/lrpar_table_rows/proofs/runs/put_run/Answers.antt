@@ -1,5 +1,4 @@
-use Rattle.std.proofs.Common.{◌≡◌, ◌∙◌, ◌++◌, ap, arith}
-use Rattle.std.proofs.lemmas.List.{length-set}
+use Rattle.std.proofs.Common.{◌∙◌, ◌++◌, ap, arith}
 use Rattle.lrpar_table_rows.specs.Runs.{run_items, tokens_of}
 use Rattle.lrpar_table_rows.proofs.RunLemmas.{put_none, put_same}
 use Rattle.lrpar_table_rows.proofs.runs.put_run.Goals as goal

@@ -1,4 +1,4 @@
-use Rattle.std.proofs.Common.{◌≡◌, ◌∙◌, ◌++◌, ◌∷◌, [], ap, arith}
+use Rattle.std.proofs.Common.{◌∙◌, ◌++◌, ◌∷◌, [], ap, arith}
 use Rattle.lrpar_table_rows.proofs.RunLemmas.{put_same}
 use Rattle.lrpar_table_rows.proofs.runs.put_token.Goals as goal
 

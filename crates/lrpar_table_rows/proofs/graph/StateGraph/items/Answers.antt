@@ -1,7 +1,5 @@
-use Rattle.std.proofs.Common.{[], ◌≡◌, slice_index_or, ◌∙◌, length, ◌<◌, ap}
-use Rattle.std.specs.List.Sorted.{IsStrictlySortedBy}
+use Rattle.std.proofs.Common.{[], ◌≡◌, slice_index_or, ◌∙◌, length, ◌<◌}
 use Rattle.std.proofs.lemmas.List.{get_or_default}
-use Rattle.lrpar_table_rows.specs.Graph.{item_cmp}
 use Rattle.lrpar_table_rows.proofs.graph.StateGraph.items.Goals as goal
 
 pub returns-clause-all : goal.returns-clause-all
