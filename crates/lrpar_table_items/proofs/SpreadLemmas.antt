@@ -1,9 +1,8 @@
 -- One production brings the rule that it begins with: the lookaheads are added to the set of that rule.
-use Rattle.std.proofs.Common.{◌≡◌, ◌≢◌, ◌<◌, ◌+◌, ◌||◌, ◌&&◌, ◌↔◌, ◌⊎◌, ◌∙◌, sym, ap, subst, inl, inr, arith, ℕ, Bool, false, List, [], ◌∷◌, ◌++◌, All, length, set, get_or, drop, nat_lt, IsTrue}
-use Rattle.std.proofs.lemmas.Bool.{OnFalse_at, OnTrue_at, cases_Bool, cases_eq, cases_lt, false≢true}
+use Rattle.std.proofs.Common.{◌≡◌, ◌≢◌, ◌<◌, ◌+◌, ◌||◌, ◌&&◌, ◌↔◌, ◌⊎◌, ◌∙◌, sym, ap, subst, inl, inr, arith, ℕ, Bool, false, List, [], ◌∷◌, All, length, set, get_or, drop, nat_lt, IsTrue}
+use Rattle.std.proofs.lemmas.Bool.{cases_eq, false≢true}
 use Rattle.std.proofs.lemmas.List.{get_or-set_other, get_or-set_same, set-get_or}
-use Rattle.std.proofs.lemmas.List.Elements.{All-contains, All-get_or, All-push}
-use Rattle.std.specs.Bool.{OnFalse, OnTrue}
+use Rattle.std.proofs.lemmas.List.Elements.{All-contains, All-get_or}
 use Rattle.lrpar_grammar.specs.Grammar.{Grammar, GrammarSymbol, Nonterminal, Terminal, prods_len, prods_of, rule_of, rules_len, symbols_of}
 use Rattle.lrpar_table_first.specs.First.{IsFirst}
 use Rattle.lrpar_table_first.specs.FirstRows.{HaveRoom, IsFirstBefore, dummy_lookahead, row_at, rows_of, total_missing}

@@ -12,3 +12,6 @@ pub mod Kernels
 pub mod Numbers
 pub mod States
 pub mod StateRows
+pub mod StoredCores
+pub mod StoredStates
+pub mod StoredRows

@@ -1,10 +1,11 @@
 -- Data for building states: FIRST sets and scratch space for closures, and the kernels of all symbols.
-use Rattle.std.specs.Prelude.{◌≡◌, ◌<◌, ◌+◌, ℕ, Bool, false, List, length, map}
+use Rattle.std.specs.Prelude.{◌≡◌, ◌<◌, ◌+◌, ◌||◌, ◌↔◌, ℕ, Bool, false, List, length, map, slice_set}
 use Rattle.std.specs.Bool.{OnFalse, OnTrue}
+use Rattle.std.specs.declared.vec.Vec.{Vec}
 use Rattle.lrpar_grammar.specs.Grammar.{Grammar, Nonterminal, Terminal, rules_len, tokens_len}
 use Rattle.lrpar_grammar.specs.Tokens.{has}
 use Rattle.lrpar_table_first.specs.FirstRows.{AreFirsts, HaveRoom, dummy_lookahead, row_at, rows_of, total_missing}
-use Rattle.lrpar_table_items.specs.Brought.{AreBroughtFrom, IsSpreadOf, Keeps}
+use Rattle.lrpar_table_items.specs.Brought.{AreBroughtFrom, HasIn, IsBrought, IsSpreadOf, Keeps}
 use Rattle.lrpar_table_items.specs.Cores.{core_set}
 use Rattle.lrpar_table_items.specs.Next.{AreNext, kernel_rows}
 use Rattle.lrpar_table_items.specs.declared.sets.Sets.{Sets}
@@ -33,6 +34,22 @@ AreSpreadButWaiting g sets = (n : ℕ) → Rests sets n → IsSpreadOf g (brough
 -- a rule that doesn't wait afterwards didn't wait before, and has the lookaheads that it had
 abbrev pub KeepsResting : Sets → Sets → Type 0
 KeepsResting before after = (n : ℕ) → Rests after n → Rests before n × (row_at (brought_rows after) n ≡ row_at (brought_rows before) n)
+
+-- the lookaheads of each rule are those that the closure of the earlier ones brings to it
+abbrev pub IsClosureOfBrought : Grammar → Sets → Sets → Type 0
+IsClosureOfBrought g old new = (r t : ℕ) → HasIn (brought_rows new) r t ↔ IsBrought g (HasIn (brought_rows old)) r t
+
+-- no rule waits
+abbrev pub AllRest : Grammar → Sets → Type 0
+AllRest g sets = (n : ℕ) → n < rules_len g → Rests sets n
+
+-- the same rules wait
+abbrev pub WaitAsBefore : Sets → Sets → Type 0
+WaitAsBefore old new = new.waits.items ≡ old.waits.items
+
+-- the rule was marked, if its lookaheads have grown
+abbrev pub MarksIf : {A B : Type 0} → Bool → ℕ → Vec Bool A → Vec Bool B → Type 0
+MarksIf grown rule old new = new.items ≡ slice_set old.items rule (has old.items rule || grown)
 
 -- lookaheads were passed on: none is lost, and the new ones are in the closure of the old ones. The flag says whether there are new ones.
 pub record HasGrown (g : Grammar) (flag : Bool) (before after : Sets) : Type 0 where

@@ -1,13 +1,10 @@
 //! The closure of a set of LR(1) items.
-ghost use Rattle.std.specs.Prelude.{◌≡◌, ◌<◌, ◌+◌, ◌↔◌, ◌⊎◌, ◌++◌, ◌∷◌, ℕ, [], All, IfOk, OnOk, length, map};
+ghost use Rattle.std.specs.Prelude.{◌<◌, ◌+◌, ℕ, IfOk, OnOk};
 ghost use Rattle.lrpar_grammar.specs.Grammar.{IsWellFormed, rules_len};
-ghost use Rattle.lrpar_table_rows.specs.Graph.{ItemOf};
-ghost use Rattle.lrpar_table_first.specs.FirstRows.{HaveRoom, dummy_lookahead, rows_of};
-ghost use Rattle.lrpar_table_items.specs.Brought.{HasIn, IsBrought};
-ghost use Rattle.lrpar_table_items.specs.Cores.{AreBringing, Brings, IsAmong, IsCoreOf, IsOfRows, IsOfRule, core_set};
-ghost use Rattle.lrpar_table_items.specs.ItemSets.{IsInClosure};
-ghost use Rattle.lrpar_table_items.specs.CoreOrder.{AreCores, IsAhead, IsKernel};
-ghost use Rattle.lrpar_table_items.specs.Working.{AreSets, KeepsResting, brought_rows};
+ghost use Rattle.lrpar_table_first.specs.FirstRows.{HaveRoom, rows_of};
+ghost use Rattle.lrpar_table_items.specs.Brought.{HasIn};
+ghost use Rattle.lrpar_table_items.specs.StoredCores.{AddsBrought, AddsRows, AddsRule, AppendsProd, AreAhead, AreBroughtBy, AreCoresOf, AreOfGrammar, IsClosureOf, IsKernelOf, IsOfGrammar, IsWide};
+ghost use Rattle.lrpar_table_items.specs.Working.{AreSets, KeepsResting};
 
 use crate::cores::CoreItems;
 use crate::reach::spread;
@@ -29,11 +26,10 @@ pub fn closed<StorageT: StorageIndex>(
 ) -> Result<Vec<CoreItems<StorageT>>, AllocError>
     requires well_formed { IsWellFormed grm.now }
     requires sets { AreSets grm.now sets.old }
-    requires kernel { IsKernel grm.now (map (core_set StorageT.index) kernel.items) }
+    requires kernel { IsKernelOf StorageT.index grm.now kernel }
     ensures sets { AreSets grm.now sets.new }
-    ensures items { IfOk result (λ closure. (x : ItemOf) → IsAmong (map (core_set StorageT.index) closure.items) x
-        ↔ IsInClosure grm.now (IsAmong (map (core_set StorageT.index) kernel.items)) x) }
-    ensures cores { IfOk result (λ closure. AreCores grm.now (map (core_set StorageT.index) closure.items)) }
+    ensures items { IfOk result (IsClosureOf StorageT.index grm.now kernel) }
+    ensures cores { IfOk result (AreCoresOf StorageT.index grm.now) }
 {
     let mut closure = kernel;
     bring(grm, &closure, sets);
@@ -51,10 +47,9 @@ fn push_brought<StorageT: StorageIndex>(
     requires well_formed { IsWellFormed grm.now }
     requires room { HaveRoom grm.now (rows_of brought.now) }
     requires added { (t : ℕ) → ¬ (HasIn (rows_of brought.now) 0 t) }
-    requires kernel { IsKernel grm.now (map (core_set StorageT.index) closure.old.items) }
-    ensures items { OnOk result ((x : ItemOf) → IsAmong (map (core_set StorageT.index) closure.new.items) x
-        ↔ (IsAmong (map (core_set StorageT.index) closure.old.items) x ⊎ IsOfRows grm.now (rows_of brought.now) x)) }
-    ensures cores { OnOk result (AreCores grm.now (map (core_set StorageT.index) closure.new.items)) }
+    requires kernel { IsKernelOf StorageT.index grm.now closure.old }
+    ensures items { OnOk result (AddsRows StorageT.index grm.now brought.now closure.old closure.new) }
+    ensures cores { OnOk result (AreCoresOf StorageT.index grm.now closure.new) }
 {
     for rule in 1..grm.rules_len() {
         let ridx = RIdx(StorageT::from_index(rule).unwrap());
@@ -73,14 +68,12 @@ fn push_rule<StorageT: StorageIndex>(
 ) -> Result<(), AllocError>
     requires well_formed { IsWellFormed grm.now }
     requires rule { StorageT.index ridx.0 < rules_len grm.now }
-    requires wide { length tokens.now.bits.items ≡ dummy_lookahead grm.now + 1 }
-    requires cores { AreCores grm.now (map (core_set StorageT.index) closure.old.items) }
-    requires ahead { All (IsAhead grm.now (StorageT.index ridx.0)) (map (core_set StorageT.index) closure.old.items) }
-    ensures items { OnOk result ((x : ItemOf) → IsAmong (map (core_set StorageT.index) closure.new.items) x
-        ↔ (IsAmong (map (core_set StorageT.index) closure.old.items) x
-        ⊎ IsOfRule grm.now (StorageT.index ridx.0) tokens.now.bits.items x)) }
-    ensures cores { OnOk result (AreCores grm.now (map (core_set StorageT.index) closure.new.items)) }
-    ensures ahead { OnOk result (All (IsAhead grm.now (StorageT.index ridx.0 + 1)) (map (core_set StorageT.index) closure.new.items)) }
+    requires wide { IsWide grm.now tokens.now }
+    requires cores { AreCoresOf StorageT.index grm.now closure.old }
+    requires ahead { AreAhead StorageT.index grm.now (StorageT.index ridx.0) closure.old }
+    ensures items { OnOk result (AddsRule StorageT.index grm.now ridx tokens.now closure.old closure.new) }
+    ensures cores { OnOk result (AreCoresOf StorageT.index grm.now closure.new) }
+    ensures ahead { OnOk result (AreAhead StorageT.index grm.now (StorageT.index ridx.0 + 1) closure.new) }
 {
     if !tokens.has_any() {
         return Ok(());
@@ -98,8 +91,7 @@ fn push_core<StorageT: StorageIndex>(
     tokens: &TokenSet,
     closure: &mut Vec<CoreItems<StorageT>>,
 ) -> Result<(), AllocError>
-    ensures { OnOk result (map (core_set StorageT.index) closure.new.items ≡ map (core_set StorageT.index) closure.old.items
-        ++ record { prod = StorageT.index pidx.0; dot = 0; tokens = tokens.now.bits.items } ∷ []) }
+    ensures { OnOk result (AppendsProd StorageT.index pidx tokens.now closure.old closure.new) }
 {
     let tokens = tokens.copy(alloc)?;
     closure.push(CoreItems {
@@ -118,10 +110,9 @@ fn bring<StorageT: StorageIndex>(
 )
     requires well_formed { IsWellFormed grm.now }
     requires sets { AreSets grm.now sets.old }
-    requires cores { All (IsCoreOf grm.now) (map (core_set StorageT.index) cores.now) }
+    requires cores { AreOfGrammar StorageT.index grm.now cores.now }
     ensures sets { AreSets grm.now sets.new }
-    ensures exact { (r t : ℕ) → HasIn (brought_rows sets.new) r t
-        ↔ IsBrought grm.now (AreBringing grm.now (map (core_set StorageT.index) cores.now)) r t }
+    ensures exact { AreBroughtBy StorageT.index grm.now cores.now sets.new }
 {
     clear_all(&mut sets.brought);
     for core in cores {
@@ -138,10 +129,9 @@ fn bring_one<StorageT: StorageIndex>(
 )
     requires well_formed { IsWellFormed grm.now }
     requires sets { AreSets grm.now sets.old }
-    requires core { IsCoreOf grm.now (core_set StorageT.index core.now) }
+    requires core { IsOfGrammar StorageT.index grm.now core.now }
     ensures sets { AreSets grm.now sets.new }
-    ensures exact { (r t : ℕ) → HasIn (brought_rows sets.new) r t
-        ↔ (HasIn (brought_rows sets.old) r t ⊎ Brings grm.now (core_set StorageT.index core.now) r t) }
+    ensures exact { AddsBrought StorageT.index grm.now core.now sets.old sets.new }
     ensures resting { KeepsResting sets.old sets.new }
 {
     match rule_after(grm, core.prod, core.dot) {

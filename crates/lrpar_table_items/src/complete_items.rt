@@ -1,11 +1,7 @@
 //! Complete items by their cores, and the reductions and the accept that they call for at a token.
-ghost use Rattle.std.specs.Prelude.{◌≡◌, ◌<◌, ◌==◌, ◌&&◌, All, IfOk, filter, map, not};
-ghost use Rattle.std.specs.List.Sorted.{IsNonDecreasingBy, IsPermutation};
-ghost use Rattle.lrpar_grammar.specs.Grammar.{prod_len, prods_len};
-ghost use Rattle.lrpar_grammar.specs.Symbols.{prod_numbers};
-ghost use Rattle.lrpar_grammar.specs.Tokens.{has};
-ghost use Rattle.lrpar_table_items.specs.CompleteItems.{accepts_at, prods_at};
-ghost use Rattle.lrpar_table_items.specs.Cores.{core_set};
+ghost use Rattle.std.specs.Prelude.{◌≡◌, ◌<◌, IfOk};
+ghost use Rattle.lrpar_grammar.specs.Grammar.{prods_len};
+ghost use Rattle.lrpar_table_items.specs.StoredRows.{AreComplete, AreReductions, AscendByProd, HaveProds, calls_for_accept, is_accept, is_at_end, is_reduction};
 
 use crate::cores::CoreItems;
 use lrpar_grammar::grammar::YaccGrammar;
@@ -15,7 +11,7 @@ use std::alloc::{AllocError, Global};
 // Whether the core is complete: its dot is after all symbols.
 fn ends<StorageT: StorageIndex>(grm: &YaccGrammar<StorageT>, core: &CoreItems<StorageT>) -> bool
     requires { StorageT.index core.now.prod.0 < prods_len grm.now }
-    ensures { result ≡ (core.now.dot == prod_len grm.now (StorageT.index core.now.prod.0)) }
+    ensures { result ≡ is_at_end StorageT.index grm.now core.now }
 {
     core.dot == grm.prod(core.prod).len()
 }
@@ -26,11 +22,9 @@ pub fn complete_cores<'a, StorageT: StorageIndex>(
     grm: &YaccGrammar<StorageT>,
     cores: &'a [CoreItems<StorageT>],
 ) -> Result<Vec<&'a CoreItems<StorageT>>, AllocError>
-    requires { All (λ core. core.prod < prods_len grm.now) (map (core_set StorageT.index) cores.now) }
-    ensures all { IfOk result (λ complete. IsPermutation
-        (filter (λ core. core.dot == prod_len grm.now core.prod) (map (core_set StorageT.index) cores.now))
-        (map (λ core. core_set StorageT.index core.now) complete.items)) }
-    ensures sorted { IfOk result (λ complete. IsNonDecreasingBy (λ core. StorageT.index core.now.prod.0) complete.items) }
+    requires { HaveProds StorageT.index grm.now cores.now }
+    ensures all { IfOk result (AreComplete StorageT.index grm.now cores.now) }
+    ensures sorted { IfOk result (AscendByProd StorageT.index) }
 {
     let mut complete = Vec::new(alloc);
     for core in cores {
@@ -50,8 +44,7 @@ pub fn reductions_at<StorageT: StorageIndex>(
     complete: &[&CoreItems<StorageT>],
     token: usize,
 ) -> Result<Vec<PIdx<StorageT>>, AllocError>
-    ensures { IfOk result (λ prods. prod_numbers StorageT.index prods.items
-        ≡ prods_at start (map (λ core. core_set StorageT.index core.now) complete.now) token) }
+    ensures { IfOk result (AreReductions StorageT.index start complete.now token) }
 {
     let mut prods = Vec::new(alloc);
     for core in complete {
@@ -64,7 +57,7 @@ pub fn reductions_at<StorageT: StorageIndex>(
 
 // Whether the core is of another production than the start production, and has the token as lookahead.
 fn reduces<StorageT: StorageIndex>(core: &CoreItems<StorageT>, start: usize, token: usize) -> bool
-    ensures { result ≡ (not (StorageT.index core.now.prod.0 == start) && has core.now.tokens.bits.items token) }
+    ensures { result ≡ is_reduction StorageT.index start core.now token }
 {
     usize::from(core.prod) != start && core.tokens.contains(token)
 }
@@ -75,7 +68,7 @@ pub fn accepts<StorageT: StorageIndex>(
     complete: &[&CoreItems<StorageT>],
     token: usize,
 ) -> bool
-    ensures { result ≡ accepts_at start (map (λ core. core_set StorageT.index core.now) complete.now) token }
+    ensures { result ≡ calls_for_accept StorageT.index start complete.now token }
 {
     for core in complete {
         if accepts_by(core, start, token) {
@@ -91,7 +84,7 @@ fn accepts_by<StorageT: StorageIndex>(
     start: usize,
     token: usize,
 ) -> bool
-    ensures { result ≡ ((StorageT.index core.now.prod.0 == start) && has core.now.tokens.bits.items token) }
+    ensures { result ≡ is_accept StorageT.index start core.now token }
 {
     usize::from(core.prod) == start && core.tokens.contains(token)
 }

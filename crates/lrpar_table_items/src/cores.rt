@@ -1,6 +1,6 @@
 //! LR(1) items by their LR(0) cores, each with the set of its lookaheads.
-ghost use Rattle.std.specs.Prelude.{◌≡◌, ◌↔◌, IfOk, IsTrue, map};
-ghost use Rattle.lrpar_table_items.specs.Cores.{core_set};
+ghost use Rattle.std.specs.Prelude.{◌↔◌, IfOk, IsTrue};
+ghost use Rattle.lrpar_table_items.specs.StoredCores.{AreSameCores, IsCopyOf, IsSameCore};
 
 use lrpar_grammar::span::{PIdx, StorageIndex};
 use lrpar_grammar::token_set::TokenSet;
@@ -19,7 +19,7 @@ pub fn are_same<StorageT: StorageIndex>(
     cores: &[CoreItems<StorageT>],
     others: &[CoreItems<StorageT>],
 ) -> bool
-    ensures { IsTrue result ↔ (map (core_set StorageT.index) cores.now ≡ map (core_set StorageT.index) others.now) }
+    ensures { IsTrue result ↔ AreSameCores StorageT.index cores.now others.now }
 {
     if cores.len() != others.len() {
         return false;
@@ -34,7 +34,7 @@ pub fn are_same<StorageT: StorageIndex>(
 
 // Whether the cores are the same, with the same lookaheads.
 fn is_same<StorageT: StorageIndex>(core: &CoreItems<StorageT>, other: &CoreItems<StorageT>) -> bool
-    ensures { IsTrue result ↔ (core_set StorageT.index core.now ≡ core_set StorageT.index other.now) }
+    ensures { IsTrue result ↔ IsSameCore StorageT.index core.now other.now }
 {
     let prod = usize::from(core.prod);
     let same = usize::from(other.prod);
@@ -49,7 +49,7 @@ pub fn copied<StorageT: StorageIndex>(
     alloc: Global,
     cores: &[CoreItems<StorageT>],
 ) -> Result<Vec<CoreItems<StorageT>>, AllocError>
-    ensures { IfOk result (λ copy. map (core_set StorageT.index) copy.items ≡ map (core_set StorageT.index) cores.now) }
+    ensures { IfOk result (IsCopyOf StorageT.index cores.now) }
 {
     let mut copy = Vec::with_capacity(alloc, cores.len())?;
     for core in cores {

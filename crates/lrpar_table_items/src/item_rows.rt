@@ -1,9 +1,6 @@
 //! The items of the states, as sets for a state graph.
-ghost use Rattle.std.specs.Prelude.{IfOk, map};
-ghost use Rattle.std.specs.List.{AllZip};
-ghost use Rattle.lrpar_table_rows.specs.Ascending.{HaveSame};
-ghost use Rattle.lrpar_table_items.specs.StateRows.{item_rows};
-ghost use Rattle.lrpar_table_items.specs.States.{state_of};
+ghost use Rattle.std.specs.Prelude.{IfOk};
+ghost use Rattle.lrpar_table_items.specs.StoredRows.{AreItemSets};
 
 use crate::item_set::State;
 use crate::items::core_rows;
@@ -18,7 +15,7 @@ pub fn item_sets<StorageT: StorageIndex>(
     grm: &YaccGrammar<StorageT>,
     states: &[State<StorageT>],
 ) -> Result<Vec<ItemSet<StorageT>>, AllocError>
-    ensures { IfOk result (λ sets. AllZip HaveSame sets.items (item_rows grm.now (map (state_of StorageT.index) states.now))) }
+    ensures { IfOk result (AreItemSets StorageT.index grm.now states.now) }
 {
     let mut sets = Vec::with_capacity(alloc, states.len())?;
     for state in states {

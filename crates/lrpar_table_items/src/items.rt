@@ -1,9 +1,9 @@
 //! The LR(1) items of cores, as rows of lookaheads.
-ghost use Rattle.std.specs.Prelude.{◌≡◌, ◌<◌, ◌↔◌, IfOk, IsTrue, Some, length, map, slice_get};
+ghost use Rattle.std.specs.Prelude.{◌≡◌, ◌<◌, ◌↔◌, IfOk, IsTrue, length};
 ghost use Rattle.lrpar_grammar.specs.Grammar.{tokens_len};
-ghost use Rattle.lrpar_table_rows.specs.Runs.{set_of_rows};
-ghost use Rattle.lrpar_table_items.specs.CompleteItems.{AreLookaheads, AreRowsOf, items_of_cores};
-ghost use Rattle.lrpar_table_items.specs.Cores.{core_set};
+ghost use Rattle.lrpar_table_items.specs.CompleteItems.{AreRowsOf};
+ghost use Rattle.lrpar_table_items.specs.StoredCores.{HaveSameTokens};
+ghost use Rattle.lrpar_table_items.specs.StoredRows.{AreItemsOf, AreLookaheadsAt, AreLookaheadsOf};
 
 use crate::cores::CoreItems;
 use lrpar_grammar::grammar::YaccGrammar;
@@ -17,8 +17,7 @@ pub fn core_rows<StorageT: StorageIndex>(
     grm: &YaccGrammar<StorageT>,
     cores: &[CoreItems<StorageT>],
 ) -> Result<Vec<CoreRow<StorageT>>, AllocError>
-    ensures { IfOk result (λ rows. set_of_rows StorageT.index rows.items
-        ≡ items_of_cores (tokens_len grm.now) (map (core_set StorageT.index) cores.now)) }
+    ensures { IfOk result (AreItemsOf StorageT.index grm.now cores.now) }
 {
     let mut rows = Vec::with_capacity(alloc, cores.len())?;
     'cores: for place in 0..cores.len() {
@@ -41,8 +40,7 @@ fn lookaheads_at<StorageT: StorageIndex>(
     requires place { place < length cores.now }
     requires before { length rows.now ≡ place }
     requires rows { AreRowsOf StorageT.index (tokens_len grm.now) cores.now rows.now }
-    ensures { IfOk result (λ tokens. (core : _) → slice_get cores.now place ≡ Some core
-        → AreLookaheads StorageT.index (tokens_len grm.now) core tokens.items) }
+    ensures { IfOk result (AreLookaheadsAt StorageT.index grm.now cores.now place) }
 {
     if place > 0 && have_same_tokens(&cores[place - 1], &cores[place]) {
         Vec::from_slice(alloc, &rows[place - 1].2)
@@ -56,7 +54,7 @@ fn have_same_tokens<StorageT: StorageIndex>(
     core: &CoreItems<StorageT>,
     other: &CoreItems<StorageT>,
 ) -> bool
-    ensures { IsTrue result ↔ (core.now.tokens.bits.items ≡ other.now.tokens.bits.items) }
+    ensures { IsTrue result ↔ HaveSameTokens core.now other.now }
 {
     core.tokens.bits == other.tokens.bits
 }
@@ -67,7 +65,7 @@ fn lookaheads<StorageT: StorageIndex>(
     grm: &YaccGrammar<StorageT>,
     core: &CoreItems<StorageT>,
 ) -> Result<Vec<TIdx<StorageT>>, AllocError>
-    ensures { IfOk result (λ tokens. AreLookaheads StorageT.index (tokens_len grm.now) core.now tokens.items) }
+    ensures { IfOk result (AreLookaheadsOf StorageT.index grm.now core.now) }
 {
     let mut tokens = Vec::with_capacity(alloc, grm.tokens_len())?;
     for token in 0..grm.tokens_len() {

@@ -1,8 +1,6 @@
 //! Kernels, the kernel items of states by their cores, each with the number of its state.
-ghost use Rattle.std.specs.Prelude.{◌≡◌, ◌<◌, ◌∷◌, ◌++◌, [], IfErr, IfOk, MatchOption, OnOk, length, map};
-ghost use Rattle.lrpar_table_items.specs.Cores.{core_set};
-ghost use Rattle.lrpar_table_items.specs.KernelMap.{IsFound, IsFresh};
-ghost use Rattle.lrpar_table_items.specs.Next.{kernel_at};
+ghost use Rattle.std.specs.Prelude.{◌≡◌, ◌<◌, [], IfErr, IfOk, OnOk, length};
+ghost use Rattle.lrpar_table_items.specs.StoredCores.{AppendsKernel, FindsKernel, IsKernelAt, IsNewKernel};
 ghost use Rattle.lrpar_table_items.specs.declared.fault.BuildFault.TheVariants.{Memory};
 
 use crate::cores::{CoreItems, are_same, copied};
@@ -65,15 +63,14 @@ impl<StorageT: StorageIndex> Kernels<StorageT> {
         number: usize,
     ) -> Result<Vec<CoreItems<StorageT>>, AllocError>
         requires { number < length self.now }
-        ensures { IfOk result (λ kernel. map (core_set StorageT.index) kernel.items ≡ kernel_at self.now number) }
+        ensures { IfOk result (IsKernelAt StorageT.index self.now number) }
     {
         copied(alloc, &self.kernels[number])
     }
 
     /// The number of the kernel, if it has one. It takes time logarithmic in the number of kernels.
     pub fn find(&self, kernel: &[CoreItems<StorageT>]) -> Option<StIdx<StorageT>>
-        ensures { MatchOption result (IsFresh self.now (map (core_set StorageT.index) kernel.now))
-            (λ state. IsFound self.now (map (core_set StorageT.index) kernel.now) (StorageT.index state.0)) }
+        ensures { FindsKernel StorageT.index self.now kernel.now result }
     {
         let state = *self.numbers.get(kernel)?;
         let number = usize::from(state);
@@ -92,10 +89,9 @@ impl<StorageT: StorageIndex> Kernels<StorageT> {
         kernel: Vec<CoreItems<StorageT>>,
         state: StIdx<StorageT>,
     ) -> Result<(), BuildFault>
-        requires fresh { IsFresh self.old (map (core_set StorageT.index) kernel.items) }
+        requires fresh { IsNewKernel StorageT.index self.old kernel }
         requires next { StorageT.index state.0 ≡ length self.old }
-        ensures pushed { OnOk result (self.new
-            ≡ self.old ++ map (core_set StorageT.index) kernel.items ∷ []) }
+        ensures pushed { OnOk result (AppendsKernel StorageT.index kernel self.old self.new) }
         ensures fault { IfErr result (λ fault. fault ≡ Memory) }
     {
         let key = copied(alloc, &kernel)?;

@@ -1,7 +1,6 @@
 //! The numbers of kernels, which are the numbers of states.
-ghost use Rattle.std.specs.Prelude.{IfErr, IfOk, map};
-ghost use Rattle.lrpar_table_items.specs.Cores.{core_set};
-ghost use Rattle.lrpar_table_items.specs.Numbers.{IsNumberFault, IsNumberOf};
+ghost use Rattle.std.specs.Prelude.{IfErr, IfOk};
+ghost use Rattle.lrpar_table_items.specs.StoredStates.{GetsNumber, IsNumberFaultOf};
 
 use crate::cores::{CoreItems, copied};
 use crate::fault::BuildFault;
@@ -16,10 +15,8 @@ pub(crate) fn number<StorageT: StorageIndex>(
     max_states: usize,
     kernel: &[CoreItems<StorageT>],
 ) -> Result<StIdx<StorageT>, BuildFault>
-    ensures number { IfOk result (λ state. IsNumberOf max_states StorageT.limit kernels.old
-        (map (core_set StorageT.index) kernel.now) (StorageT.index state.0) kernels.new) }
-    ensures fault { IfErr result (IsNumberFault max_states StorageT.limit kernels.old
-        (map (core_set StorageT.index) kernel.now)) }
+    ensures number { IfOk result (GetsNumber StorageT.index max_states StorageT.limit kernels.old kernels.new kernel.now) }
+    ensures fault { IfErr result (IsNumberFaultOf StorageT.index max_states StorageT.limit kernels.old kernel.now) }
 {
     if let Some(state) = kernels.find(kernel) {
         return Ok(state);

@@ -1,10 +1,9 @@
 //! The rules that the closure adds for rules after the dot, with their lookaheads.
-ghost use Rattle.std.specs.Prelude.{◌≡◌, ◌<◌, ◌||◌, ◌↔◌, ℕ, length, slice_set};
+ghost use Rattle.std.specs.Prelude.{◌<◌, length};
 ghost use Rattle.std.specs.Bool.{OnFalse};
-ghost use Rattle.lrpar_grammar.specs.Grammar.{IsWellFormed, prods_len, rule_of, rules_len};
-ghost use Rattle.lrpar_grammar.specs.Tokens.{has};
-ghost use Rattle.lrpar_table_items.specs.Brought.{HasIn, IsBrought, IsSpreadAt, IsSpreadOf};
-ghost use Rattle.lrpar_table_items.specs.Working.{AreSets, AreSpreadButWaiting, HasGrown, KeepsResting, Rests, brought_rows};
+ghost use Rattle.lrpar_grammar.specs.Grammar.{IsWellFormed, prods_len, rules_len};
+ghost use Rattle.lrpar_table_items.specs.StoredCores.{ComesToRest, HasPassedOn, HasPassedOnBy};
+ghost use Rattle.lrpar_table_items.specs.Working.{AllRest, AreSets, AreSpreadButWaiting, HasGrown, IsClosureOfBrought, KeepsResting, MarksIf, WaitAsBefore};
 
 use crate::sets::Sets;
 use lrpar_grammar::grammar::YaccGrammar;
@@ -19,7 +18,7 @@ pub(crate) fn spread<StorageT: StorageIndex>(grm: &YaccGrammar<StorageT>, sets: 
     requires sets { AreSets grm.now sets.old }
     requires waiting { AreSpreadButWaiting grm.now sets.old }
     ensures sets { AreSets grm.now sets.new }
-    ensures exact { (r t : ℕ) → HasIn (brought_rows sets.new) r t ↔ IsBrought grm.now (HasIn (brought_rows sets.old)) r t }
+    ensures exact { IsClosureOfBrought grm.now sets.old sets.new }
 {
     'passes: while spread_all(grm, sets) {}
 }
@@ -32,7 +31,7 @@ fn spread_all<StorageT: StorageIndex>(grm: &YaccGrammar<StorageT>, sets: &mut Se
     ensures sets { AreSets grm.now sets.new }
     ensures waiting { AreSpreadButWaiting grm.now sets.new }
     ensures growth { HasGrown grm.now result sets.old sets.new }
-    ensures rests { OnFalse result ((n : ℕ) → n < rules_len grm.now → Rests sets.new n) }
+    ensures rests { OnFalse result (AllRest grm.now sets.new) }
 {
     let mut grown = false;
     for rule in 0..grm.rules_len() {
@@ -58,7 +57,7 @@ fn spread_waiting<StorageT: StorageIndex>(
     ensures sets { AreSets grm.now sets.new }
     ensures waiting { AreSpreadButWaiting grm.now sets.new }
     ensures growth { HasGrown grm.now result sets.old sets.new }
-    ensures rests { OnFalse result (Rests sets.new (StorageT.index ridx.0) × ((n : ℕ) → Rests sets.old n → Rests sets.new n)) }
+    ensures rests { OnFalse result (ComesToRest StorageT.index ridx sets.old sets.new) }
 {
     let rule = usize::from(ridx);
     if !sets.waits[rule] {
@@ -80,8 +79,8 @@ fn spread_rule<StorageT: StorageIndex>(
     ensures sets { AreSets grm.now sets.new }
     ensures growth { HasGrown grm.now result sets.old sets.new }
     ensures resting { KeepsResting sets.old sets.new }
-    ensures waits { OnFalse result (sets.new.waits.items ≡ sets.old.waits.items) }
-    ensures closed { Rests sets.new (StorageT.index ridx.0) → IsSpreadOf grm.now (brought_rows sets.new) (StorageT.index ridx.0) }
+    ensures waits { OnFalse result (WaitAsBefore sets.old sets.new) }
+    ensures closed { HasPassedOn StorageT.index grm.now ridx sets.new }
 {
     let mut grown = false;
     for pidx in grm.rule_to_prods(ridx) {
@@ -105,8 +104,8 @@ fn spread_from<StorageT: StorageIndex>(
     ensures sets { AreSets grm.now sets.new }
     ensures growth { HasGrown grm.now result sets.old sets.new }
     ensures resting { KeepsResting sets.old sets.new }
-    ensures waits { OnFalse result (sets.new.waits.items ≡ sets.old.waits.items) }
-    ensures closed { Rests sets.new (rule_of grm.now (StorageT.index pidx.0)) → IsSpreadAt grm.now (brought_rows sets.new) (StorageT.index pidx.0) }
+    ensures waits { OnFalse result (WaitAsBefore sets.old sets.new) }
+    ensures closed { HasPassedOnBy StorageT.index grm.now pidx sets.new }
 {
     match rule_after(grm, pidx, 0) {
         None => false,
@@ -132,7 +131,7 @@ fn spread_from<StorageT: StorageIndex>(
 // Marks the rule as one that waits, if its lookaheads have grown.
 fn mark(waits: &mut Vec<bool>, rule: usize, grown: bool)
     requires { rule < length waits.old.items }
-    ensures { waits.new.items ≡ slice_set waits.old.items rule (has waits.old.items rule || grown) }
+    ensures { MarksIf grown rule waits.old waits.new }
 {
     if grown {
         waits[rule] = true;

@@ -1,10 +1,6 @@
 //! Conflict resolution: the action of a state at a token, from the actions that its items call for, and the conflicts among these.
-ghost use Rattle.std.specs.Prelude.{◌≡◌, ◌<◌, ◌+◌, ◌++◌, ◌∷◌, ◌==◌, ℕ, Bool, IfErr, IfOk, OnOk, Option, Some, None, map, nat_eq};
-ghost use Rattle.std.specs.Map.{keys_of, lookup};
-ghost use Rattle.lrpar_grammar.specs.Symbols.{prod_numbers};
-ghost use Rattle.lrpar_table_rows.specs.PlainConflicts.{reduce_reduce_of, resolved_conflict_of, shift_reduce_of};
-ghost use Rattle.lrpar_table_rows.specs.PlainRows.{action_entry, plain_goto};
-ghost use Rattle.lrpar_table_items.specs.Resolution.{AcceptsBeside, AscendFrom, IsRefusal, chosen, decides_at, entry_at, reduce_conflicts_at, resolutions, shift_conflicts_at, shift_entry, resolved, unresolved};
+ghost use Rattle.std.specs.Prelude.{◌+◌, ◌∷◌, IfErr, IfOk, OnOk, Some, None};
+ghost use Rattle.lrpar_table_items.specs.StoredRows.{AppendsChosen, AppendsConflicts, AppendsResolved, AppendsShifted, AppendsUnresolved, AppendsUnshifted, CallsForBoth, HasLaterShifts, IsRefusedFor, IsShiftAt, ShiftsAscendFrom};
 
 use crate::fault::BuildFault;
 use lrpar_grammar::span::{PIdx, StIdx, StorageIndex, TIdx};
@@ -31,8 +27,7 @@ pub fn push_conflicts<StorageT: StorageIndex>(
     state: &StIdx<StorageT>,
     rr: &mut Vec<ReduceReduce<StorageT>>,
 ) -> Result<(), AllocError>
-    ensures { OnOk result (map (reduce_reduce_of StorageT.index) rr.new.items ≡ map (reduce_reduce_of StorageT.index) rr.old.items
-        ++ reduce_conflicts_at (StorageT.index state.now.0) (StorageT.index tidx.now.0) (prod_numbers StorageT.index prods.now)) }
+    ensures { OnOk result (AppendsConflicts StorageT.index state.now tidx.now prods.now rr.old rr.new) }
 {
     match prods.split_first() {
         Some((least, later)) => push_later(least, later, tidx, state, rr),
@@ -48,8 +43,7 @@ fn push_later<StorageT: StorageIndex>(
     state: &StIdx<StorageT>,
     rr: &mut Vec<ReduceReduce<StorageT>>,
 ) -> Result<(), AllocError>
-    ensures { OnOk result (map (reduce_reduce_of StorageT.index) rr.new.items ≡ map (reduce_reduce_of StorageT.index) rr.old.items
-        ++ reduce_conflicts_at (StorageT.index state.now.0) (StorageT.index tidx.now.0) (StorageT.index least.now.0 ∷ prod_numbers StorageT.index later.now)) }
+    ensures { OnOk result (AppendsConflicts StorageT.index state.now tidx.now (least.now ∷ later.now) rr.old rr.new) }
 {
     for prod in later {
         rr.push((*tidx, *least, *prod, *state))?;
@@ -65,11 +59,10 @@ pub fn split_shift<StorageT: StorageIndex>(
     Option<StIdx<StorageT>>,
     &[(TIdx<StorageT>, StIdx<StorageT>)],
 )
-    requires { AscendFrom token (keys_of (map (shift_entry StorageT.index) shifts.now)) }
-    ensures shift { plain_goto StorageT.index result.0 ≡ lookup (nat_eq token) (map (shift_entry StorageT.index) shifts.now) }
-    ensures rest { AscendFrom (token + 1) (keys_of (map (shift_entry StorageT.index) result.1.now)) }
-    ensures later { (t : ℕ) → token < t → lookup (nat_eq t) (map (shift_entry StorageT.index) result.1.now)
-        ≡ lookup (nat_eq t) (map (shift_entry StorageT.index) shifts.now) }
+    requires { ShiftsAscendFrom StorageT.index token shifts.now }
+    ensures shift { IsShiftAt StorageT.index shifts.now token result.0 }
+    ensures rest { ShiftsAscendFrom StorageT.index (token + 1) result.1.now }
+    ensures later { HasLaterShifts StorageT.index token shifts.now result.1.now }
 {
     match shifts.split_first() {
         Some((shift, rest)) => {
@@ -97,12 +90,9 @@ pub fn push_shifted<StorageT: StorageIndex>(
     sr: &mut Vec<ShiftReduce<StorageT>>,
     decided: &mut Vec<ResolvedConflict<StorageT>>,
 ) -> Result<(), AllocError>
-    ensures row { OnOk result ((accepting : Bool) → map (action_entry StorageT.index) row.new.items ≡ map (action_entry StorageT.index) row.old.items
-        ++ entry_at (StorageT.index tidx.now.0) (resolved (decides_at precedences.now (StorageT.index tidx.now.0)) (Some (StorageT.index next.0)) (prod_numbers StorageT.index prods.now) accepting)) }
-    ensures sr { OnOk result (map (shift_reduce_of StorageT.index) sr.new.items ≡ map (shift_reduce_of StorageT.index) sr.old.items
-        ++ unresolved precedences.now (shift_conflicts_at (StorageT.index state.now.0) (StorageT.index tidx.now.0) (Some (StorageT.index next.0)) (prod_numbers StorageT.index prods.now))) }
-    ensures resolved { OnOk result (map (resolved_conflict_of StorageT.index) decided.new.items ≡ map (resolved_conflict_of StorageT.index) decided.old.items
-        ++ resolutions precedences.now (shift_conflicts_at (StorageT.index state.now.0) (StorageT.index tidx.now.0) (Some (StorageT.index next.0)) (prod_numbers StorageT.index prods.now))) }
+    ensures row { OnOk result (AppendsShifted StorageT.index precedences.now tidx.now next prods.now row.old row.new) }
+    ensures sr { OnOk result (AppendsUnresolved StorageT.index precedences.now state.now tidx.now (Some next) prods.now sr.old sr.new) }
+    ensures resolved { OnOk result (AppendsResolved StorageT.index precedences.now state.now tidx.now (Some next) prods.now decided.old decided.new) }
 {
     match prods.split_first() {
         Some((prod, _)) => {
@@ -129,8 +119,7 @@ fn push_chosen<StorageT: StorageIndex>(
     tidx: &TIdx<StorageT>,
     row: &mut Vec<(TIdx<StorageT>, Action<StorageT>)>,
 ) -> Result<(), AllocError>
-    ensures { OnOk result (map (action_entry StorageT.index) row.new.items ≡ map (action_entry StorageT.index) row.old.items
-        ++ entry_at (StorageT.index tidx.now.0) (chosen by (StorageT.index next.0) (StorageT.index prod.now.0))) }
+    ensures { OnOk result (AppendsChosen StorageT.index tidx.now by next prod.now row.old row.new) }
 {
     match by {
         None | Some(Resolution::Shift) => row.push((*tidx, Action::Shift(next)))?,
@@ -149,10 +138,9 @@ pub fn push_unshifted<StorageT: StorageIndex>(
     state: &StIdx<StorageT>,
     row: &mut Vec<(TIdx<StorageT>, Action<StorageT>)>,
 ) -> Result<(), BuildFault>
-    ensures row { OnOk result ((by : ℕ → Option Resolution) → map (action_entry StorageT.index) row.new.items ≡ map (action_entry StorageT.index) row.old.items
-        ++ entry_at (StorageT.index tidx.now.0) (resolved by None (prod_numbers StorageT.index prods.now) accepting)) }
-    ensures none { IfOk result (λ _. ¬ (AcceptsBeside None (prod_numbers StorageT.index prods.now) accepting)) }
-    ensures refused { IfErr result (IsRefusal (StorageT.index state.now.0) (AcceptsBeside None (prod_numbers StorageT.index prods.now) accepting)) }
+    ensures row { OnOk result (AppendsUnshifted StorageT.index tidx.now prods.now accepting row.old row.new) }
+    ensures none { IfOk result (λ _. ¬ (CallsForBoth StorageT.index None prods.now accepting)) }
+    ensures refused { IfErr result (IsRefusedFor StorageT.index state.now None prods.now accepting) }
 {
     match prods.split_first() {
         Some((prod, _)) => {

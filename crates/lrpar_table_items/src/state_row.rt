@@ -1,12 +1,6 @@
 //! The actions of a state at each token, after conflict resolution, and its conflicts.
-ghost use Rattle.std.specs.Prelude.{◌≡◌, ◌<◌, ◌+◌, ◌++◌, ℕ, All, IfErr, IfOk, OnOk, map};
-ghost use Rattle.std.specs.Map.{keys_of};
-ghost use Rattle.lrpar_grammar.specs.Grammar.{prods_len, tokens_len};
-ghost use Rattle.lrpar_grammar.specs.Symbols.{prod_numbers};
-ghost use Rattle.lrpar_table_rows.specs.PlainConflicts.{reduce_reduce_of, resolved_conflict_of, shift_reduce_of};
-ghost use Rattle.lrpar_table_rows.specs.PlainRows.{action_entry, plain_goto};
-ghost use Rattle.lrpar_table_items.specs.Cores.{core_set};
-ghost use Rattle.lrpar_table_items.specs.Resolution.{AcceptsBeside, AreOnce, AscendFrom, HasAcceptReduce, IsAcceptReduce, IsRefusal, decides_at, entry_at, reduce_conflicts, resolutions, shift_conflicts, shift_conflicts_at, shift_entry, resolved, resolved_row, unresolved};
+ghost use Rattle.std.specs.Prelude.{IfErr, IfOk, OnOk};
+ghost use Rattle.lrpar_table_items.specs.StoredRows.{AppendsAction, AppendsAllResolved, AppendsAllUnresolved, AppendsReduceReduce, AppendsResolved, AppendsUnresolved, AreEachOnce, CallsForBoth, HasNoAcceptReduce, HaveProds, IsAcceptReduceFault, IsRefusedFor, IsResolvedRow, ShiftsAscendFrom};
 
 use crate::complete_items::{accepts, complete_cores, reductions_at};
 use crate::cores::CoreItems;
@@ -37,21 +31,15 @@ pub fn state_row<StorageT: StorageIndex>(
     sr: &mut Vec<ShiftReduce<StorageT>>,
     decided: &mut Vec<ResolvedConflict<StorageT>>,
 ) -> Result<Vec<(TIdx<StorageT>, Action<StorageT>)>, BuildFault>
-    requires prods { All (λ core. core.prod < prods_len grm.now) (map (core_set StorageT.index) cores.now) }
-    requires once { AreOnce (map (core_set StorageT.index) cores.now) }
-    requires shifts { AscendFrom 0 (keys_of (map (shift_entry StorageT.index) shifts.now)) }
-    ensures row { IfOk result (λ row. map (action_entry StorageT.index) row.items
-        ≡ resolved_row precedences.now grm.now (map (core_set StorageT.index) cores.now) (map (shift_entry StorageT.index) shifts.now)) }
-    ensures rr { OnOk result (map (reduce_reduce_of StorageT.index) rr.new.items ≡ map (reduce_reduce_of StorageT.index) rr.old.items
-        ++ reduce_conflicts grm.now (map (core_set StorageT.index) cores.now) (StorageT.index state.now.0)) }
-    ensures sr { OnOk result (map (shift_reduce_of StorageT.index) sr.new.items ≡ map (shift_reduce_of StorageT.index) sr.old.items
-        ++ unresolved precedences.now (shift_conflicts grm.now (map (core_set StorageT.index) cores.now) (map (shift_entry StorageT.index) shifts.now) (StorageT.index state.now.0))) }
-    ensures resolved { OnOk result (map (resolved_conflict_of StorageT.index) decided.new.items ≡ map (resolved_conflict_of StorageT.index) decided.old.items
-        ++ resolutions precedences.now (shift_conflicts grm.now (map (core_set StorageT.index) cores.now) (map (shift_entry StorageT.index) shifts.now) (StorageT.index state.now.0))) }
-    ensures none { IfOk result (λ _. (t : ℕ) → t < tokens_len grm.now
-        → ¬ (IsAcceptReduce grm.now (map (core_set StorageT.index) cores.now) (map (shift_entry StorageT.index) shifts.now) t)) }
-    ensures refused { IfErr result (IsRefusal (StorageT.index state.now.0)
-        (HasAcceptReduce grm.now (map (core_set StorageT.index) cores.now) (map (shift_entry StorageT.index) shifts.now))) }
+    requires prods { HaveProds StorageT.index grm.now cores.now }
+    requires once { AreEachOnce StorageT.index cores.now }
+    requires shifts { ShiftsAscendFrom StorageT.index 0 shifts.now }
+    ensures row { IfOk result (IsResolvedRow StorageT.index precedences.now grm.now cores.now shifts.now) }
+    ensures rr { OnOk result (AppendsReduceReduce StorageT.index grm.now state.now cores.now rr.old rr.new) }
+    ensures sr { OnOk result (AppendsAllUnresolved StorageT.index precedences.now grm.now state.now cores.now shifts.now sr.old sr.new) }
+    ensures resolved { OnOk result (AppendsAllResolved StorageT.index precedences.now grm.now state.now cores.now shifts.now decided.old decided.new) }
+    ensures none { IfOk result (λ _. HasNoAcceptReduce StorageT.index grm.now cores.now shifts.now) }
+    ensures refused { IfErr result (IsAcceptReduceFault StorageT.index grm.now state.now cores.now shifts.now) }
 {
     let start = usize::from(grm.start_prod());
     let complete = complete_cores(alloc, grm, cores)?;
@@ -91,15 +79,11 @@ fn push_token<StorageT: StorageIndex>(
     sr: &mut Vec<ShiftReduce<StorageT>>,
     decided: &mut Vec<ResolvedConflict<StorageT>>,
 ) -> Result<(), BuildFault>
-    ensures row { OnOk result (map (action_entry StorageT.index) row.new.items ≡ map (action_entry StorageT.index) row.old.items
-        ++ entry_at (StorageT.index tidx.now.0) (resolved (decides_at precedences.now (StorageT.index tidx.now.0)) (plain_goto StorageT.index shift) (prod_numbers StorageT.index prods.now) accepting)) }
-    ensures sr { OnOk result (map (shift_reduce_of StorageT.index) sr.new.items ≡ map (shift_reduce_of StorageT.index) sr.old.items
-        ++ unresolved precedences.now (shift_conflicts_at (StorageT.index state.now.0) (StorageT.index tidx.now.0) (plain_goto StorageT.index shift) (prod_numbers StorageT.index prods.now))) }
-    ensures resolved { OnOk result (map (resolved_conflict_of StorageT.index) decided.new.items ≡ map (resolved_conflict_of StorageT.index) decided.old.items
-        ++ resolutions precedences.now (shift_conflicts_at (StorageT.index state.now.0) (StorageT.index tidx.now.0) (plain_goto StorageT.index shift) (prod_numbers StorageT.index prods.now))) }
-    ensures none { IfOk result (λ _. ¬ (AcceptsBeside (plain_goto StorageT.index shift) (prod_numbers StorageT.index prods.now) accepting)) }
-    ensures refused { IfErr result (IsRefusal (StorageT.index state.now.0)
-        (AcceptsBeside (plain_goto StorageT.index shift) (prod_numbers StorageT.index prods.now) accepting)) }
+    ensures row { OnOk result (AppendsAction StorageT.index precedences.now tidx.now shift prods.now accepting row.old row.new) }
+    ensures sr { OnOk result (AppendsUnresolved StorageT.index precedences.now state.now tidx.now shift prods.now sr.old sr.new) }
+    ensures resolved { OnOk result (AppendsResolved StorageT.index precedences.now state.now tidx.now shift prods.now decided.old decided.new) }
+    ensures none { IfOk result (λ _. ¬ (CallsForBoth StorageT.index shift prods.now accepting)) }
+    ensures refused { IfErr result (IsRefusedFor StorageT.index state.now shift prods.now accepting) }
 {
     match shift {
         Some(next) => {

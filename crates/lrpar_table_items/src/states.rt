@@ -1,19 +1,12 @@
 //! The states of a grammar: the canonical collection of LR(1) item sets.
-ghost use Rattle.std.specs.Prelude.{◌≡◌, ◌<◌, ◌≤◌, ◌+◌, ℕ, List, IfErr, IfOk, OnOk, length, map};
-ghost use Rattle.std.specs.Option.{option_map};
+ghost use Rattle.std.specs.Prelude.{◌≡◌, ◌<◌, ◌≤◌, ℕ, IfErr, IfOk, OnOk, length};
 ghost use Rattle.lrpar_grammar.specs.Grammar.{Grammar, GrammarSymbol, IsWellFormed, Nonterminal, Terminal, rules_len, tokens_len};
-ghost use Rattle.lrpar_table_rows.specs.PlainRows.{goto_entry};
-ghost use Rattle.lrpar_table_items.specs.Canonical.{AreSame};
-ghost use Rattle.lrpar_table_items.specs.Cores.{IsAmong, core_set};
 ghost use Rattle.lrpar_table_first.specs.FirstRows.{IsSymbolBelow};
-ghost use Rattle.lrpar_table_items.specs.ItemSets.{IsReachedBy, IsStartItem};
-ghost use Rattle.lrpar_table_items.specs.Next.{kernel_at};
-ghost use Rattle.lrpar_table_items.specs.CoreOrder.{AreCores, IsKernel};
-ghost use Rattle.lrpar_table_items.specs.Kernels.{AreKept};
-ghost use Rattle.lrpar_table_items.specs.Numbers.{AreNumbered, IsFaultOfStates, IsStepFault, IsStepTo};
-ghost use Rattle.lrpar_table_items.specs.Resolution.{shift_entry};
-ghost use Rattle.lrpar_table_items.specs.States.{AreKernelsBy, AreStates, AreSteps, IsExpanded, StartsRight, state_of, step_entry};
-ghost use Rattle.lrpar_table_items.specs.Working.{AreSets, AreSuccessors};
+ghost use Rattle.lrpar_table_items.specs.Numbers.{AreNumbered, IsFaultOfStates};
+ghost use Rattle.lrpar_table_items.specs.States.{AreKernelsBy, StartsRight};
+ghost use Rattle.lrpar_table_items.specs.StoredCores.{IsKernelOf, IsStartKernel};
+ghost use Rattle.lrpar_table_items.specs.StoredStates.{AreGotos, AreNumberedOn, AreShifts, AreStatesOf, AreStepsBy, HasAtMost, IsReachedSet, IsStateAt, IsStepFaultOf, StepsTo};
+ghost use Rattle.lrpar_table_items.specs.Working.{AreSets};
 
 use crate::closure::closed;
 use crate::cores::CoreItems;
@@ -38,9 +31,9 @@ pub fn states<StorageT: StorageIndex>(
     grm: &YaccGrammar<StorageT>,
     max_states: usize,
 ) -> Result<Vec<State<StorageT>>, BuildFault>
-    ensures states { IfOk result (λ states. AreStates grm.now (map (state_of StorageT.index) states.items)) }
-    ensures within { IfOk result (λ states. length states.items ≤ max_states) }
-    ensures fits { IfOk result (λ states. length states.items ≤ StorageT.limit) }
+    ensures states { IfOk result (AreStatesOf StorageT.index grm.now) }
+    ensures within { IfOk result (HasAtMost max_states) }
+    ensures fits { IfOk result (HasAtMost StorageT.limit) }
     ensures fault { IfErr result (IsFaultOfStates grm.now max_states StorageT.limit) }
 {
     let mut sets = Sets::new(alloc, grm)?;
@@ -60,9 +53,9 @@ fn all_states<StorageT: StorageIndex>(
     requires sets { AreSets grm.now sets.old }
     requires kernels { AreNumbered grm.now max_states StorageT.limit kernels.old }
     requires start { StartsRight grm.now kernels.old }
-    ensures states { IfOk result (λ states. AreStates grm.now (map (state_of StorageT.index) states.items)) }
-    ensures within { IfOk result (λ states. length states.items ≤ max_states) }
-    ensures fits { IfOk result (λ states. length states.items ≤ StorageT.limit) }
+    ensures states { IfOk result (AreStatesOf StorageT.index grm.now) }
+    ensures within { IfOk result (HasAtMost max_states) }
+    ensures fits { IfOk result (HasAtMost StorageT.limit) }
     ensures fault { IfErr result (IsFaultOfStates grm.now max_states StorageT.limit) }
 {
     let mut states = Vec::new(alloc);
@@ -79,8 +72,8 @@ fn start_kernels<StorageT: StorageIndex>(
     grm: &YaccGrammar<StorageT>,
     max_states: usize,
 ) -> Result<Kernels<StorageT>, BuildFault>
-    ensures kernels { IfOk result (λ kernels. AreNumbered grm.now max_states StorageT.limit kernels) }
-    ensures start { IfOk result (λ kernels. StartsRight grm.now kernels) }
+    ensures kernels { IfOk result (AreNumbered grm.now max_states StorageT.limit) }
+    ensures start { IfOk result (StartsRight grm.now) }
     ensures well_formed { IsWellFormed grm.now }
     ensures fault { IfErr result (IsFaultOfStates grm.now max_states StorageT.limit) }
 {
@@ -95,8 +88,8 @@ pub fn start_kernel<StorageT: StorageIndex>(
     alloc: Global,
     grm: &YaccGrammar<StorageT>,
 ) -> Result<Vec<CoreItems<StorageT>>, AllocError>
-    ensures kernel { IfOk result (λ kernel. IsKernel grm.now (map (core_set StorageT.index) kernel.items)) }
-    ensures start { IfOk result (λ kernel. AreSame (IsAmong (map (core_set StorageT.index) kernel.items)) (IsStartItem grm.now)) }
+    ensures kernel { IfOk result (IsKernelOf StorageT.index grm.now) }
+    ensures start { IfOk result (IsStartKernel StorageT.index grm.now) }
     ensures well_formed { IsWellFormed grm.now }
 {
     let prod = grm.start_prod();
@@ -125,9 +118,8 @@ fn expanded<StorageT: StorageIndex>(
     requires number { number < length kernels.old }
     requires kernels { AreNumbered grm.now max_states StorageT.limit kernels.old }
     ensures sets { AreSets grm.now sets.new }
-    ensures kernels { OnOk result (AreNumbered grm.now max_states StorageT.limit kernels.new) }
-    ensures kept { OnOk result (AreKept kernels.old kernels.new) }
-    ensures state { IfOk result (λ state. IsExpanded grm.now kernels.new (kernel_at kernels.old number) (state_of StorageT.index state)) }
+    ensures kernels { OnOk result (AreNumberedOn grm.now max_states StorageT.limit kernels.old kernels.new) }
+    ensures state { IfOk result (IsStateAt StorageT.index grm.now kernels.old kernels.new number) }
     ensures fault { IfErr result (IsFaultOfStates grm.now max_states StorageT.limit) }
 {
     let kernel = kernels.kernel(alloc, number)?;
@@ -148,9 +140,8 @@ fn step<StorageT: StorageIndex>(
     kernel: &[CoreItems<StorageT>],
     kernels: &mut Kernels<StorageT>,
 ) -> Result<Option<StIdx<StorageT>>, BuildFault>
-    ensures step { IfOk result (λ next. IsStepTo max_states StorageT.limit kernels.old (map (core_set StorageT.index) kernel.now)
-        (option_map (λ state. StorageT.index state.0) next) kernels.new) }
-    ensures fault { IfErr result (IsStepFault max_states StorageT.limit kernels.old (map (core_set StorageT.index) kernel.now)) }
+    ensures step { IfOk result (StepsTo StorageT.index max_states StorageT.limit kernels.old kernels.new kernel.now) }
+    ensures fault { IfErr result (IsStepFaultOf StorageT.index max_states StorageT.limit kernels.old kernel.now) }
 {
     if kernel.is_empty() {
         return Ok(None);
@@ -226,16 +217,11 @@ fn all_steps<StorageT: StorageIndex>(
     BuildFault,
 >
     requires well_formed { IsWellFormed grm.now }
-    requires successors { AreSuccessors StorageT.index grm.now successors.now }
-    requires cores { AreCores grm.now (map (core_set StorageT.index) successors.now.items.items) }
-    requires reached { (path : List GrammarSymbol) × AreSame (IsAmong (map (core_set StorageT.index) successors.now.items.items)) (IsReachedBy grm.now path) }
+    requires set { IsReachedSet StorageT.index grm.now successors.now }
     requires kernels { AreNumbered grm.now max_states StorageT.limit kernels.old }
-    ensures kernels { OnOk result (AreNumbered grm.now max_states StorageT.limit kernels.new) }
-    ensures kept { OnOk result (AreKept kernels.old kernels.new) }
-    ensures gotos { IfOk result (λ rows. AreSteps grm.now kernels.new (map (core_set StorageT.index) successors.now.items.items)
-        Nonterminal (map (goto_entry StorageT.index) rows.0.items)) }
-    ensures shifts { IfOk result (λ rows. AreSteps grm.now kernels.new (map (core_set StorageT.index) successors.now.items.items)
-        Terminal (map (shift_entry StorageT.index) rows.1.items)) }
+    ensures kernels { OnOk result (AreNumberedOn grm.now max_states StorageT.limit kernels.old kernels.new) }
+    ensures gotos { IfOk result (λ rows. AreGotos StorageT.index grm.now kernels.new successors.now rows.0) }
+    ensures shifts { IfOk result (λ rows. AreShifts StorageT.index grm.now kernels.new successors.now rows.1) }
     ensures fault { IfErr result (IsFaultOfStates grm.now max_states StorageT.limit) }
 {
     let gotos = steps::<StorageT, RIdx<StorageT>>(alloc, grm, max_states, successors, kernels)?;
@@ -252,14 +238,10 @@ fn steps<StorageT: StorageIndex, SymbolT: SymbolKind<StorageT>>(
     kernels: &mut Kernels<StorageT>,
 ) -> Result<Vec<(SymbolT, StIdx<StorageT>)>, BuildFault>
     requires well_formed { IsWellFormed grm.now }
-    requires successors { AreSuccessors StorageT.index grm.now successors.now }
-    requires cores { AreCores grm.now (map (core_set StorageT.index) successors.now.items.items) }
-    requires reached { (path : List GrammarSymbol) × AreSame (IsAmong (map (core_set StorageT.index) successors.now.items.items)) (IsReachedBy grm.now path) }
+    requires set { IsReachedSet StorageT.index grm.now successors.now }
     requires kernels { AreNumbered grm.now max_states StorageT.limit kernels.old }
-    ensures kernels { OnOk result (AreNumbered grm.now max_states StorageT.limit kernels.new) }
-    ensures kept { OnOk result (AreKept kernels.old kernels.new) }
-    ensures steps { IfOk result (λ rows. AreSteps grm.now kernels.new (map (core_set StorageT.index) successors.now.items.items)
-        SymbolT.symbol (map (step_entry SymbolT.number StorageT.index) rows.items)) }
+    ensures kernels { OnOk result (AreNumberedOn grm.now max_states StorageT.limit kernels.old kernels.new) }
+    ensures steps { IfOk result (AreStepsBy StorageT.index SymbolT.number SymbolT.symbol grm.now kernels.new successors.now) }
     ensures fault { IfErr result (IsFaultOfStates grm.now max_states StorageT.limit) }
 {
     let reached = SymbolT::kernels(successors);

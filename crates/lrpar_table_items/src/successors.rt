@@ -1,11 +1,7 @@
 //! The kernels of the gotos of an item set.
-ghost use Rattle.std.specs.Prelude.{◌≡◌, ◌<◌, ◌+◌, ◌^◌, ◌∷◌, ◌++◌, ℕ, [], All, IfOk, IfSome, OnOk, length, map};
-ghost use Rattle.std.specs.Option.{option_map};
-ghost use Rattle.lrpar_grammar.specs.Grammar.{IsWellFormed, Nonterminal, Terminal, rules_len, tokens_len};
-ghost use Rattle.lrpar_grammar.specs.Symbols.{symbol_of};
-ghost use Rattle.lrpar_table_first.specs.FirstRows.{IsSymbolBelow};
-ghost use Rattle.lrpar_table_items.specs.Cores.{IsCoreOf, core_set};
-ghost use Rattle.lrpar_table_items.specs.Next.{ArePutTo, advanced, kernel_at, kernel_rows, symbol_after};
+ghost use Rattle.std.specs.Prelude.{◌≡◌, ◌<◌, ◌+◌, ◌^◌, IfOk, IfSome, OnOk, length};
+ghost use Rattle.lrpar_grammar.specs.Grammar.{IsWellFormed, rules_len, tokens_len};
+ghost use Rattle.lrpar_table_items.specs.StoredCores.{AppendsAdvanced, AreOfGrammar, HasItems, HaveNoCores, IsOfGrammar, IsPutToRules, IsPutToTokens, IsSymbolAfter, IsSymbolOf};
 ghost use Rattle.lrpar_table_items.specs.Working.{AreSuccessors};
 
 use crate::cores::CoreItems;
@@ -30,8 +26,8 @@ impl<StorageT: StorageIndex> Successors<StorageT> {
         items: Vec<CoreItems<StorageT>>,
     ) -> Result<Self, AllocError>
         requires well_formed { IsWellFormed grm.now }
-        requires cores { All (IsCoreOf grm.now) (map (core_set StorageT.index) items.items) }
-        ensures items { IfOk result (λ successors. successors.items.items ≡ items.items) }
+        requires cores { AreOfGrammar StorageT.index grm.now items.items }
+        ensures items { IfOk result (HasItems items.items) }
         ensures successors { IfOk result (AreSuccessors StorageT.index grm.now) }
     {
         let mut rules = no_kernels(alloc, grm.rules_len())?;
@@ -53,7 +49,7 @@ fn no_kernels<StorageT: StorageIndex>(
     len: usize,
 ) -> Result<Vec<Vec<CoreItems<StorageT>>>, AllocError>
     ensures len { IfOk result (λ kernels. length kernels.items ≡ len) }
-    ensures none { IfOk result (λ kernels. (n : ℕ) → kernel_at (kernel_rows StorageT.index kernels.items) n ≡ []) }
+    ensures none { IfOk result (HaveNoCores StorageT.index) }
 {
     let mut kernels = Vec::with_capacity(alloc, len)?;
     for _ in 0..len {
@@ -71,13 +67,11 @@ fn put_next<StorageT: StorageIndex>(
     tokens: &mut [Vec<CoreItems<StorageT>>],
 ) -> Result<(), AllocError>
     requires well_formed { IsWellFormed grm.now }
-    requires core { IsCoreOf grm.now (core_set StorageT.index core.now) }
+    requires core { IsOfGrammar StorageT.index grm.now core.now }
     requires rules { length rules.old ≡ rules_len grm.now }
     requires tokens { length tokens.old ≡ tokens_len grm.now }
-    ensures rules { OnOk result (ArePutTo grm.now (core_set StorageT.index core.now) Nonterminal
-        (kernel_rows StorageT.index rules.old) (kernel_rows StorageT.index rules.new)) }
-    ensures tokens { OnOk result (ArePutTo grm.now (core_set StorageT.index core.now) Terminal
-        (kernel_rows StorageT.index tokens.old) (kernel_rows StorageT.index tokens.new)) }
+    ensures rules { OnOk result (IsPutToRules StorageT.index grm.now core.now rules.old rules.new) }
+    ensures tokens { OnOk result (IsPutToTokens StorageT.index grm.now core.now tokens.old tokens.new) }
 {
     match symbol_after(grm, core) {
         None => Ok(()),
@@ -98,10 +92,10 @@ fn symbol_after<StorageT: StorageIndex>(
     core: &CoreItems<StorageT>,
 ) -> Option<Symbol<StorageT>>
     requires well_formed { IsWellFormed grm.now }
-    requires core { IsCoreOf grm.now (core_set StorageT.index core.now) }
-    ensures symbol { option_map (symbol_of StorageT.index) result ≡ symbol_after grm.now (core_set StorageT.index core.now) }
-    ensures listed { IfSome result (λ symbol. IsSymbolBelow (rules_len grm.now) (tokens_len grm.now) (symbol_of StorageT.index symbol)) }
-    ensures next { IfSome result (λ symbol. core.now.dot + 1 < 2 ^ 64) }
+    requires core { IsOfGrammar StorageT.index grm.now core.now }
+    ensures symbol { IsSymbolAfter StorageT.index grm.now core.now result }
+    ensures listed { IfSome result (IsSymbolOf StorageT.index grm.now) }
+    ensures next { IfSome result (λ _. core.now.dot + 1 < 2 ^ 64) }
 {
     grm.prod(core.prod).get(core.dot).copied()
 }
@@ -113,8 +107,7 @@ fn push_advanced<StorageT: StorageIndex>(
     kernel: &mut Vec<CoreItems<StorageT>>,
 ) -> Result<(), AllocError>
     requires { core.now.dot + 1 < 2 ^ 64 }
-    ensures { OnOk result (map (core_set StorageT.index) kernel.new.items
-        ≡ map (core_set StorageT.index) kernel.old.items ++ advanced (core_set StorageT.index core.now) ∷ []) }
+    ensures { OnOk result (AppendsAdvanced StorageT.index core.now kernel.old kernel.new) }
 {
     let tokens = core.tokens.copy(alloc)?;
     kernel.push(CoreItems {

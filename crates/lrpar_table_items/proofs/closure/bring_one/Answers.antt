@@ -1,4 +1,4 @@
-use Rattle.std.proofs.Common.{◌<◌, ◌≡◌, ◌+◌, ◌∷◌, ◌∙◌, refl, sym, ap, subst, arith, length, map}
+use Rattle.std.proofs.Common.{◌<◌, ◌≡◌, ◌+◌, ◌∷◌, ◌∙◌, sym, ap, subst, arith, length, map}
 use Rattle.std.proofs.lemmas.List.{length-set}
 use Rattle.lrpar_grammar.specs.Grammar.{Nonterminal, rules_len}
 use Rattle.lrpar_grammar.specs.Symbols.{symbol_of}

@@ -1,4 +1,4 @@
-use Rattle.std.proofs.Common.{◌≡◌, ◌||◌, ◌∙◌, sym, subst, ap, arith}
+use Rattle.std.proofs.Common.{◌≡◌, ◌||◌, ◌∙◌, sym, subst, arith}
 use Rattle.std.proofs.lemmas.Bool.{OnFalse_at, OnFalse_from, or_parts}
 use Rattle.lrpar_table_items.specs.Working.{HasGrown, Rests}
 use Rattle.lrpar_table_items.proofs.RestLemmas.{flag_more, flag_same, grown_itself, grown_on, rest_more}

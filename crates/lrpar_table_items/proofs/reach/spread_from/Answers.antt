@@ -4,8 +4,8 @@ use Rattle.std.proofs.lemmas.List.{length-set}
 use Rattle.lrpar_grammar.specs.Grammar.{Nonterminal, rules_len}
 use Rattle.lrpar_grammar.specs.Symbols.{symbol_of}
 use Rattle.lrpar_table_first.specs.FirstRows.{dummy_lookahead}
-use Rattle.lrpar_table_first.proofs.GrowthLemmas.{set_wide, sets_len}
-use Rattle.lrpar_table_items.proofs.RestLemmas.{grown_itself, marks_kept, marks_same, resting_put}
+use Rattle.lrpar_table_first.proofs.GrowthLemmas.{set_wide}
+use Rattle.lrpar_table_items.proofs.RestLemmas.{grown_itself, marks_kept, marks_same}
 use Rattle.lrpar_table_items.proofs.SpreadLemmas.{spread_to}
 use Rattle.lrpar_grammar.specs.declared.token_set.TokenSet.{TokenSet}
 use Rattle.lrpar_table_items.proofs.reach.spread_from.Goals as goal

@@ -1,5 +1,4 @@
-use Rattle.std.proofs.Common.{refl}
-use Rattle.lrpar_table_items.proofs.RestLemmas.{grown_itself, rest_but_one}
+use Rattle.lrpar_table_items.proofs.RestLemmas.{grown_itself}
 use Rattle.lrpar_table_items.proofs.reach.spread_waiting.Goals as goal
 
 pub returns-then-not-index-clause-growth : goal.returns-then-not-index-clause-growth

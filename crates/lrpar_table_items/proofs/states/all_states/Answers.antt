@@ -30,7 +30,7 @@ states-preserved g c =
     let after = c.expanded.new.kernels in
     let states = map (state_of index) c.states.states.items in
     let state = state_of index c.in_ok-state.state in
-    let kept = c.in_ok-state.ensures.kept in
+    let kept = c.in_ok-state.ensures.kernels.kept in
     let count = length-map c.states.states.items (state_of index) in
     let at : c.len-in-states-2.result ≡ length states = omega (arith, count, c.states.states.ok, c.len-in-states-2.ensures) in
     let low : length states < length before = omega (arith, count, c.states.states.ok, c.states-test.true, c.len.ensures, c.len-in-states.ensures) in
@@ -40,7 +40,7 @@ states-preserved g c =
     let more = length_push states state in
     let longer = kept.len in record {
       sets = c.in_ok-state.ensures.sets;
-      numbered = c.in_ok-state.ensures.kernels;
+      numbered = c.in_ok-state.ensures.kernels.numbered;
       start = starts_kept grm before after kept c.states.invariant.start;
       few = (let total = ap length all in omega (arith, total, more, low, longer));
       expanded =

@@ -6,15 +6,19 @@ use Rattle.lrpar_table_items.proofs.NumberLemmas.{kept_twice, steps_kept}
 use Rattle.lrpar_grammar_places.proofs.FaultLemmas.{no_value, nothing_done}
 use Rattle.lrpar_table_items.proofs.states.all_steps.Goals as goal
 
-pub returns-clause-kept : goal.returns-clause-kept
-returns-clause-kept g c =
-    kept_twice c.args.kernels.now c.steps.new.kernels c.steps-2.new.kernels c.in_ok-gotos.ensures.kept c.in_ok-shifts.ensures.kept
+pub returns-clause-kernels : goal.returns-clause-kernels
+returns-clause-kernels g c =
+    let early = c.in_ok-gotos.ensures.kernels.kept in
+    let late = c.in_ok-shifts.ensures.kernels in record {
+      numbered = late.numbered;
+      kept = kept_twice c.args.kernels.now c.steps.new.kernels c.steps-2.new.kernels early late.kept;
+    }
 
 pub returns-clause-gotos : goal.returns-clause-gotos
 returns-clause-gotos g c =
     let index = g.StorageT.StorageIndex.index in
     steps_kept c.args.grm.now c.steps.new.kernels c.steps-2.new.kernels (map (core_set index) c.args.successors.now.items.items) Nonterminal
-    (map (goto_entry index) c.in_ok-gotos.gotos.items) c.in_ok-shifts.ensures.kept c.in_ok-gotos.ensures.steps
+    (map (goto_entry index) c.in_ok-gotos.gotos.items) c.in_ok-shifts.ensures.kernels.kept c.in_ok-gotos.ensures.steps
 
 pub returns-in_err-gotos-clause-gotos : goal.returns-in_err-gotos-clause-gotos
 returns-in_err-gotos-clause-gotos g c = no_value c.from_residual.result _ _ c.from_residual.ensures.1
@@ -25,9 +29,6 @@ returns-in_err-gotos-clause-shifts g c = no_value c.from_residual.result _ _ c.f
 pub returns-in_err-gotos-clause-kernels : goal.returns-in_err-gotos-clause-kernels
 returns-in_err-gotos-clause-kernels g c = nothing_done c.from_residual.result _ _ c.from_residual.ensures.1
 
-pub returns-in_err-gotos-clause-kept : goal.returns-in_err-gotos-clause-kept
-returns-in_err-gotos-clause-kept g c = nothing_done c.from_residual.result _ _ c.from_residual.ensures.1
-
 pub returns-in_err-shifts-clause-gotos : goal.returns-in_err-shifts-clause-gotos
 returns-in_err-shifts-clause-gotos g c = no_value c.from_residual-in_err-shifts.result _ _ c.from_residual-in_err-shifts.ensures.1
 
@@ -36,6 +37,3 @@ returns-in_err-shifts-clause-shifts g c = no_value c.from_residual-in_err-shifts
 
 pub returns-in_err-shifts-clause-kernels : goal.returns-in_err-shifts-clause-kernels
 returns-in_err-shifts-clause-kernels g c = nothing_done c.from_residual-in_err-shifts.result _ _ c.from_residual-in_err-shifts.ensures.1
-
-pub returns-in_err-shifts-clause-kept : goal.returns-in_err-shifts-clause-kept
-returns-in_err-shifts-clause-kept g c = nothing_done c.from_residual-in_err-shifts.result _ _ c.from_residual-in_err-shifts.ensures.1

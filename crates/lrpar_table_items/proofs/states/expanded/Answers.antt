@@ -13,17 +13,20 @@ pub closed-requires-clause-kernel : goal.closed-requires-clause-kernel
 closed-requires-clause-kernel g c =
     subst (IsKernel c.args.grm.now) (sym c.in_ok-kernel.ensures) (c.requires.kernels.are.each c.args.number c.requires.number)
 
-pub all_steps-requires-clause-reached : goal.all_steps-requires-clause-reached
-all_steps-requires-clause-reached g c =
+pub all_steps-requires-clause-set : goal.all_steps-requires-clause-set
+all_steps-requires-clause-set g c =
     let index = g.StorageT.StorageIndex.index in
     let are = c.requires.kernels.are in
     let path = path_at are.paths c.args.number in
-    let same = ap (map (core_set index)) c.in_ok-successors.ensures.items in (
-      path,
-      cores_reached c.args.grm.now (map (core_set index) c.in_ok-kernel.kernel.items) (map (core_set index) c.in_ok-items.items.items)
+    let same = ap (map (core_set index)) c.in_ok-successors.ensures.items in record {
+      are = c.in_ok-successors.ensures.successors;
+      cores = subst (AreCores c.args.grm.now) (sym same) c.in_ok-items.ensures.cores;
+      path = path;
+      reached =
+          cores_reached c.args.grm.now (map (core_set index) c.in_ok-kernel.kernel.items) (map (core_set index) c.in_ok-items.items.items)
           (map (core_set index) c.in_ok-successors.successors.items.items) path same c.in_ok-items.ensures.items
-          (subst (λ k. IsReachedKernel c.args.grm.now k path) (sym c.in_ok-kernel.ensures) (are.reached c.args.number c.requires.number)),
-    )
+          (subst (λ k. IsReachedKernel c.args.grm.now k path) (sym c.in_ok-kernel.ensures) (are.reached c.args.number c.requires.number));
+    }
 
 pub returns-clause-state : goal.returns-clause-state
 returns-clause-state g c =
@@ -45,17 +48,11 @@ returns-in_err-kernel-clause-state g c = no_value c.from_residual.result _ _ c.f
 pub returns-in_err-kernel-clause-kernels : goal.returns-in_err-kernel-clause-kernels
 returns-in_err-kernel-clause-kernels g c = nothing_done c.from_residual.result _ _ c.from_residual.ensures.1
 
-pub returns-in_err-kernel-clause-kept : goal.returns-in_err-kernel-clause-kept
-returns-in_err-kernel-clause-kept g c = nothing_done c.from_residual.result _ _ c.from_residual.ensures.1
-
 pub returns-in_err-items-clause-state : goal.returns-in_err-items-clause-state
 returns-in_err-items-clause-state g c = no_value c.from_residual-in_err-items.result _ _ c.from_residual-in_err-items.ensures.1
 
 pub returns-in_err-items-clause-kernels : goal.returns-in_err-items-clause-kernels
 returns-in_err-items-clause-kernels g c = nothing_done c.from_residual-in_err-items.result _ _ c.from_residual-in_err-items.ensures.1
-
-pub returns-in_err-items-clause-kept : goal.returns-in_err-items-clause-kept
-returns-in_err-items-clause-kept g c = nothing_done c.from_residual-in_err-items.result _ _ c.from_residual-in_err-items.ensures.1
 
 pub returns-in_err-successors-clause-state : goal.returns-in_err-successors-clause-state
 returns-in_err-successors-clause-state g c = no_value c.from_residual-in_err-successors.result _ _ c.from_residual-in_err-successors.ensures.1
@@ -63,14 +60,8 @@ returns-in_err-successors-clause-state g c = no_value c.from_residual-in_err-suc
 pub returns-in_err-successors-clause-kernels : goal.returns-in_err-successors-clause-kernels
 returns-in_err-successors-clause-kernels g c = nothing_done c.from_residual-in_err-successors.result _ _ c.from_residual-in_err-successors.ensures.1
 
-pub returns-in_err-successors-clause-kept : goal.returns-in_err-successors-clause-kept
-returns-in_err-successors-clause-kept g c = nothing_done c.from_residual-in_err-successors.result _ _ c.from_residual-in_err-successors.ensures.1
-
 pub returns-in_err-gotos-clause-state : goal.returns-in_err-gotos-clause-state
 returns-in_err-gotos-clause-state g c = no_value c.from_residual-in_err-gotos.result _ _ c.from_residual-in_err-gotos.ensures.1
 
 pub returns-in_err-gotos-clause-kernels : goal.returns-in_err-gotos-clause-kernels
 returns-in_err-gotos-clause-kernels g c = nothing_done c.from_residual-in_err-gotos.result _ _ c.from_residual-in_err-gotos.ensures.1
-
-pub returns-in_err-gotos-clause-kept : goal.returns-in_err-gotos-clause-kept
-returns-in_err-gotos-clause-kept g c = nothing_done c.from_residual-in_err-gotos.result _ _ c.from_residual-in_err-gotos.ensures.1

@@ -35,11 +35,11 @@ returns-in_err-next-clause-fault g c =
     let n = c.loop-number.number in
     let low = c.loop-number-test.true in
     let count = c.len-number-end.ensures.len in
-    let reached = c.kernels-reached.ensures grm c.requires.successors in
+    let reached = c.kernels-reached.ensures grm c.requires.set.are in
     fault_same c.from_residual.result (IsFaultOfStates grm c.args.max_states limit) c.in_err-next.field-0.0
     c.from_residual.ensures.1
-    (step_failed grm c.requires.well_formed c.args.max_states limit c.loop-number.kernels c.loop-number.invariant.numbered cores c.requires.cores
-    c.requires.reached.0 c.requires.reached.1 (symbol n) (map (core_set index) c.deref.result.now)
+    (step_failed grm c.requires.well_formed c.args.max_states limit c.loop-number.kernels c.loop-number.invariant.numbered cores c.requires.set.cores
+    c.requires.set.path c.requires.set.reached (symbol n) (map (core_set index) c.deref.result.now)
     (next_at index c.kernels-reached.result.now grm cores symbol reached.1 n (omega (arith, low, count, reached.0)) c.index-reached-number.result c.index-reached-number.is c.deref.result.now c.deref.ensures.value)
     c.in_err-next.field-0.0 c.in_err-next.ensures.fault)
 
@@ -58,10 +58,10 @@ loop-number-preserved g c =
     let to = option_map (λ state. index state.0) c.in_ok-next.next in
     let low = c.loop-number-test.true in
     let count = c.len-number-end.ensures.len in
-    let reached = c.kernels-reached.ensures grm c.requires.successors in
+    let reached = c.kernels-reached.ensures grm c.requires.set.are in
     let done : IsStepDone grm c.args.max_states limit before cores (symbol n) to after =
-    step_done grm c.requires.well_formed c.args.max_states limit before c.loop-number.invariant.numbered cores c.requires.cores
-    c.requires.reached.0 c.requires.reached.1 (symbol n) (map (core_set index) c.deref.result.now)
+    step_done grm c.requires.well_formed c.args.max_states limit before c.loop-number.invariant.numbered cores c.requires.set.cores
+    c.requires.set.path c.requires.set.reached (symbol n) (map (core_set index) c.deref.result.now)
     (next_at index c.kernels-reached.result.now grm cores symbol reached.1 n (omega (arith, low, count, reached.0)) c.index-reached-number.result c.index-reached-number.is c.deref.result.now c.deref.ensures.value)
     to after c.in_ok-next.ensures.step in
     let number : g.SymbolT.Numbered.number c.numbered-symbol.result ≡ n = c.numbered-symbol.ensures ∙ (rw c.unwrap.ensures at c.from_index.ensures.back) in record {
@@ -81,6 +81,9 @@ loop-number-preserved g c =
                 ∙ map-append entry c.loop-number.rows.items _ ∙ ap (λ (m : ℕ). rows ++ (m, index w.in-Some.state.0) ∷ []) number)
           ];
     }
+
+pub returns-clause-kernels : goal.returns-clause-kernels
+returns-clause-kernels g c = record { numbered = c.loop-number.invariant.numbered; kept = c.loop-number.invariant.kept }
 
 pub returns-clause-steps : goal.returns-clause-steps
 returns-clause-steps g c =
