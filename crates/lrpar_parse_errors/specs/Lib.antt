@@ -1,3 +1,4 @@
+pub mod Strings
 pub mod Printed
 pub mod Failure
 pub mod FailureLaws
@@ -7,3 +8,5 @@ pub mod LexParseText
 pub mod SequenceText
 pub mod PrintedParts
 pub mod ActedOn
+pub mod StoredSequences
+pub mod StoredErrors

@@ -1,6 +1,6 @@
 -- What a caller's function prints for a token, or a grammar, and why a text can't be made.
 use denote.Ref.{Bor}
-use Rattle.std.specs.Prelude.{◌≡◌, ℕ, Bool, true, false, List, ◌++◌, Option, Some, None, option_map}
+use Rattle.std.specs.Prelude.{◌≡◌, ℕ, Bool, true, false, List, ◌++◌, Option, Some, None, String, option_map, string_bytes}
 use Rattle.lrpar_grammar.specs.Grammar.{Grammar}
 use Rattle.lrpar_grammar.specs.Printed.{printed_of}
 use Rattle.lrpar_grammar_places.specs.declared.span.TIdx.{TIdx}
@@ -21,6 +21,10 @@ IsPrintedName g t name = name ≡ Some (printed_of g t)
 abbrev pub IsNamed : (Option (List ℕ) → Type 0) → List ℕ → List ℕ → Bool → Type 0
 IsNamed prints old new true = (name : List ℕ) × prints (Some name) × (new ≡ old ++ name)
 IsNamed prints old new false = prints None
+
+-- the same for a string and a token
+abbrev pub AppendsName : {S A : Type 0} → (S → ℕ) → (ℕ → Option (List ℕ) → Type 0) → TIdx S → String A → String A → Bool → Type 0
+AppendsName index names token old new named = IsNamed (names (index token.0)) (string_bytes old) (string_bytes new) named
 
 -- the fault names the first of the tokens for which nothing is printed, or is `Memory`
 abbrev pub IsPpFault : {S : Type 0} → (S → ℕ) → (ℕ → Option (List ℕ) → Type 0) → List ℕ → PpFault S → Type 0

@@ -1,13 +1,10 @@
 //! The texts of errors.
-ghost use Rattle.std.specs.Prelude.{◌≡◌, ◌++◌, ◌↔◌, List, ℕ, IfOk, OnOk, IfErr, IsTrue, map};
-ghost use Rattle.std.specs.List.{AllByRecursion, AllZip};
-ghost use Rattle.std.specs.String.{string_bytes};
+ghost use Rattle.std.specs.Prelude.{◌↔◌, IfOk, OnOk, IfErr, IsTrue};
 ghost use Rattle.std.specs.Str.{IsCharBoundary};
-ghost use Rattle.lrpar_parse_errors.specs.ErrorText.{numbered, numbering, place_text, repairs_text, tokens_of};
-ghost use Rattle.lrpar_parse_errors.specs.Printed.{IsPpFault, printed_by};
-ghost use Rattle.lrpar_parse_lexemes.specs.Repairs.{repair_of, repairs_of};
 ghost use Rattle.lrpar_grammar.specs.SpansFit.{IsPartOf};
-ghost use Rattle.lrpar_parse_errors.specs.SequenceText.{IsPartsText, RepairFits, RepairsFit, parts_of};
+ghost use Rattle.lrpar_parse_errors.specs.ErrorText.{numbering, place_text};
+ghost use Rattle.lrpar_parse_errors.specs.StoredSequences.{AppendsListed, AppendsRepairs, FitRepairs, FitSequences, FitsRepair, IsFaultOf};
+ghost use Rattle.lrpar_parse_errors.specs.Strings.{Appends};
 
 use crate::errors::LexParseError;
 use crate::names::{ByFunction, TokenNames};
@@ -22,12 +19,12 @@ impl<StorageT: StorageIndex, LexerTypesT: LexerTypes<StorageT = StorageT>> LexPa
     StorageT,
     LexerTypesT,
 > {
-    ghost use Rattle.lrpar_parse_errors.specs.LexParseText.{ErrorFits, IsErrorText, error_tokens};
+    ghost use Rattle.lrpar_parse_errors.specs.StoredErrors.{FitsInput, IsFaultBy, IsFaultWith, IsTextBy, IsTextWith};
 
     /// Whether each part of the input that the error names starts and ends between two characters of the input. `pp` requires
     /// it. Takes time linear in the repairs, and no memory.
     pub fn fits(&self, input: &str) -> bool
-        ensures { IsTrue result ↔ ErrorFits LexerTypesT.LexErrorT.place (λ x. (LexerTypesT.LexemeT.parts x).span) input.now self.now }
+        ensures { IsTrue result ↔ FitsInput LexerTypesT.LexErrorT.place LexerTypesT.LexemeT.parts input.now self.now }
     {
         match self {
             LexParseError::LexError(error) => is_part(error.span(), input),
@@ -55,11 +52,10 @@ impl<StorageT: StorageIndex, LexerTypesT: LexerTypes<StorageT = StorageT>> LexPa
         F: Fn(TIdx<StorageT>) -> Option<&'input str> + Drop,
     >(&self, alloc: Global, lexer: &L, epp: F) -> Result<String, PpFault<StorageT>>
         requires epp { F.IsAlwaysCallable epp }
-        requires fits { ErrorFits LexerTypesT.LexErrorT.place (λ x. (LexerTypesT.LexemeT.parts x).span) (L.text lexer.now) self.now }
-        ensures text { IfOk result (λ text. IsErrorText LexerTypesT.LexErrorT.place (λ x. (LexerTypesT.LexemeT.parts x).span)
-            (printed_by StorageT.index (F.post epp)) (L.text lexer.now) self.now (string_bytes text)) }
-        ensures fault { IfErr result (IsPpFault StorageT.index
-            (printed_by StorageT.index (F.post epp)) (error_tokens (λ x. (LexerTypesT.LexemeT.parts x).span) self.now)) }
+        requires fits { FitsInput LexerTypesT.LexErrorT.place LexerTypesT.LexemeT.parts (L.text lexer.now) self.now }
+        ensures text { IfOk result (IsTextWith LexerTypesT.LexErrorT.place LexerTypesT.LexemeT.parts
+            StorageT.index (F.post epp) (L.text lexer.now) self.now) }
+        ensures fault { IfErr result (IsFaultWith StorageT.index LexerTypesT.LexemeT.parts (F.post epp) self.now) }
     {
         self.text_by(alloc, lexer, &ByFunction(epp))
     }
@@ -71,11 +67,10 @@ impl<StorageT: StorageIndex, LexerTypesT: LexerTypes<StorageT = StorageT>> LexPa
         N: TokenNames<'input, StorageT>,
     >(&self, alloc: Global, lexer: &L, names: &N) -> Result<String, PpFault<StorageT>>
         requires names { N.can_name names.now }
-        requires fits { ErrorFits LexerTypesT.LexErrorT.place (λ x. (LexerTypesT.LexemeT.parts x).span) (L.text lexer.now) self.now }
-        ensures text { IfOk result (λ text. IsErrorText LexerTypesT.LexErrorT.place (λ x. (LexerTypesT.LexemeT.parts x).span)
-            (N.prints names.now) (L.text lexer.now) self.now (string_bytes text)) }
-        ensures fault { IfErr result (IsPpFault StorageT.index
-            (N.prints names.now) (error_tokens (λ x. (LexerTypesT.LexemeT.parts x).span) self.now)) }
+        requires fits { FitsInput LexerTypesT.LexErrorT.place LexerTypesT.LexemeT.parts (L.text lexer.now) self.now }
+        ensures text { IfOk result (IsTextBy LexerTypesT.LexErrorT.place LexerTypesT.LexemeT.parts
+            (N.prints names.now) (L.text lexer.now) self.now) }
+        ensures fault { IfErr result (IsFaultBy StorageT.index LexerTypesT.LexemeT.parts (N.prints names.now) self.now) }
     {
         let mut out = String::new(alloc);
         match self {
@@ -104,7 +99,7 @@ fn sequences_fit<LexemeT: Lexeme<StorageT>, StorageT: StorageIndex>(
     sequences: &[Vec<ParseRepair<LexemeT, StorageT>>],
     input: &str,
 ) -> bool
-    ensures { IsTrue result ↔ AllByRecursion (RepairsFit (λ x. (LexemeT.parts x).span) input.now) (repairs_of StorageT.index sequences.now) }
+    ensures { IsTrue result ↔ FitSequences StorageT.index LexemeT.parts input.now sequences.now }
 {
     for sequence in sequences {
         if !repairs_fit(sequence, input) {
@@ -119,7 +114,7 @@ fn repairs_fit<LexemeT: Lexeme<StorageT>, StorageT: StorageIndex>(
     repairs: &[ParseRepair<LexemeT, StorageT>],
     input: &str,
 ) -> bool
-    ensures { IsTrue result ↔ RepairsFit (λ x. (LexemeT.parts x).span) input.now (map (repair_of StorageT.index) repairs.now) }
+    ensures { IsTrue result ↔ FitRepairs StorageT.index LexemeT.parts input.now repairs.now }
 {
     for repair in repairs {
         if !repair_fits(repair, input) {
@@ -134,7 +129,7 @@ fn repair_fits<LexemeT: Lexeme<StorageT>, StorageT: StorageIndex>(
     repair: &ParseRepair<LexemeT, StorageT>,
     input: &str,
 ) -> bool
-    ensures { IsTrue result ↔ RepairFits (λ x. (LexemeT.parts x).span) input.now (repair_of StorageT.index repair.now) }
+    ensures { IsTrue result ↔ FitsRepair StorageT.index LexemeT.parts input.now repair.now }
 {
     match repair {
         ParseRepair::Insert(_) => true,
@@ -151,7 +146,7 @@ fn push_place<'input, LexerTypesT: LexerTypes, L: NonStreamingLexer<'input, Lexe
 ) -> Result<(), AllocError>
     requires start { IsCharBoundary (L.text lexer.now) span.start }
     requires end { IsCharBoundary (L.text lexer.now) span.end }
-    ensures { OnOk result (string_bytes out.new ≡ string_bytes out.old ++ place_text what.now (L.text lexer.now) span.start) }
+    ensures { OnOk result (Appends out.old out.new (place_text what.now (L.text lexer.now) span.start)) }
 {
     let ((line, column), _) = lexer.line_col(span);
     write!(out, "{what} at line {line} column {column}.")
@@ -164,7 +159,7 @@ fn push_numbering(
     most: usize,
     number: usize,
 ) -> Result<(), AllocError>
-    ensures { OnOk result (string_bytes out.new ≡ string_bytes out.old ++ numbering most number) }
+    ensures { OnOk result (Appends out.old out.new (numbering most number)) }
 {
     let number = number.to_string(alloc)?;
     out.push_str("\n  ")?;
@@ -189,13 +184,10 @@ fn push_repairs<
     sequences: &[Vec<ParseRepair<LexerTypesT::LexemeT, StorageT>>],
 ) -> Result<(), PpFault<StorageT>>
     requires names { N.can_name names.now }
-    requires fits { AllByRecursion (RepairsFit (λ x. (LexerTypesT.LexemeT.parts x).span) (L.text lexer.now)) (repairs_of StorageT.index sequences.now) }
-    ensures text { OnOk result ((texts : List (List ℕ)) × (string_bytes out.new ≡ string_bytes out.old ++ repairs_text texts)
-        × AllZip (IsPartsText (N.prints names.now) (L.text lexer.now))
-        (map (parts_of (λ x. (LexerTypesT.LexemeT.parts x).span)) (repairs_of StorageT.index sequences.now)) texts) }
-    ensures fault { IfErr result (IsPpFault StorageT.index
-        (N.prints names.now)
-        (tokens_of (λ x. (LexerTypesT.LexemeT.parts x).span) (repairs_of StorageT.index sequences.now))) }
+    requires fits { FitSequences StorageT.index LexerTypesT.LexemeT.parts (L.text lexer.now) sequences.now }
+    ensures text { OnOk result (AppendsRepairs StorageT.index LexerTypesT.LexemeT.parts
+        (N.prints names.now) (L.text lexer.now) sequences.now out.old out.new) }
+    ensures fault { IfErr result (IsFaultOf StorageT.index LexerTypesT.LexemeT.parts (N.prints names.now) sequences.now) }
 {
     if sequences.is_empty() {
         out.push_str(" No repair sequences found.")?;
@@ -222,13 +214,10 @@ fn push_listed<
     sequences: &[Vec<ParseRepair<LexerTypesT::LexemeT, StorageT>>],
 ) -> Result<(), PpFault<StorageT>>
     requires names { N.can_name names.now }
-    requires fits { AllByRecursion (RepairsFit (λ x. (LexerTypesT.LexemeT.parts x).span) (L.text lexer.now)) (repairs_of StorageT.index sequences.now) }
-    ensures text { OnOk result ((texts : List (List ℕ)) × (string_bytes out.new ≡ string_bytes out.old ++ numbered most 1 texts)
-        × AllZip (IsPartsText (N.prints names.now) (L.text lexer.now))
-        (map (parts_of (λ x. (LexerTypesT.LexemeT.parts x).span)) (repairs_of StorageT.index sequences.now)) texts) }
-    ensures fault { IfErr result (IsPpFault StorageT.index
-        (N.prints names.now)
-        (tokens_of (λ x. (LexerTypesT.LexemeT.parts x).span) (repairs_of StorageT.index sequences.now))) }
+    requires fits { FitSequences StorageT.index LexerTypesT.LexemeT.parts (L.text lexer.now) sequences.now }
+    ensures text { OnOk result (AppendsListed StorageT.index LexerTypesT.LexemeT.parts
+        (N.prints names.now) (L.text lexer.now) most sequences.now out.old out.new) }
+    ensures fault { IfErr result (IsFaultOf StorageT.index LexerTypesT.LexemeT.parts (N.prints names.now) sequences.now) }
 {
     for (i, sequence) in sequences.iter().enumerate() {
         push_numbering(out, alloc, most, i + 1)?;

@@ -1,6 +1,5 @@
 //! The tokens at which the state of an error has an action.
-ghost use Rattle.std.specs.Prelude.{map};
-ghost use Rattle.lrpar_parse_errors.specs.ActedOn.{AreActedOn};
+ghost use Rattle.lrpar_parse_errors.specs.ActedOn.{AreExpected};
 
 use crate::errors::ParseError;
 use lrpar_grammar::span::{StorageIndex, TIdx};
@@ -18,7 +17,7 @@ impl<LexemeT: Lexeme<StorageT>, StorageT: StorageIndex> ParseError<LexemeT, Stor
     /// `S: 'a' A 'd' | 'a' B | 'b' A 'e' | 'b' B; A: 'c'; B: 'c' 'f';` as LALR does: then `e` is listed on `a c c`, though it
     /// can't come there, and `f` isn't listed on `a c e`, though it can.
     pub fn expected<'data>(&self, data: &'data ParserData<StorageT>) -> &'data [TIdx<StorageT>]
-        ensures { AreActedOn «data».now.table self.now.state (map (λ token. StorageT.index token.0) result.now) }
+        ensures { AreExpected StorageT.index «data».now self.now result.now }
     {
         let table = data.stable();
         let state = self.stidx();

@@ -1,8 +1,7 @@
 //! The text of an error of any input, with the names that a grammar prints.
-ghost use Rattle.std.specs.Prelude.{◌≡◌, IfOk};
-ghost use Rattle.std.specs.String.{string_bytes};
+ghost use Rattle.std.specs.Prelude.{IfOk};
 ghost use Rattle.lrpar_parse_errors.specs.ErrorText.{byte_text};
-ghost use Rattle.lrpar_parse_errors.specs.Printed.{IsPrintedName};
+ghost use Rattle.lrpar_parse_errors.specs.Strings.{HasText};
 
 use crate::errors::{LexParseError, PpFault};
 use lrpar_grammar::grammar::YaccGrammar;
@@ -14,7 +13,7 @@ impl<StorageT: StorageIndex, LexerTypesT: LexerTypes<StorageT = StorageT>> LexPa
     StorageT,
     LexerTypesT,
 > {
-    ghost use Rattle.lrpar_parse_errors.specs.LexParseText.{ErrorFits, IsErrorText, unfit_text};
+    ghost use Rattle.lrpar_parse_errors.specs.StoredErrors.{FitsInput, GivesByte, GivesText, IsByteText, IsTextOf};
 
     /// The text of the error, whatever error and input these are: that of [`LexParseError::pp`], with what the grammar prints
     /// for each token to insert ([`YaccGrammar::epp_of`]).
@@ -32,13 +31,10 @@ impl<StorageT: StorageIndex, LexerTypesT: LexerTypes<StorageT = StorageT>> LexPa
         lexer: &L,
     ) -> Result<String, AllocError>
         // The error fits the input.
-        ensures text { ErrorFits LexerTypesT.LexErrorT.place (λ x. (LexerTypesT.LexemeT.parts x).span) (L.text lexer.now) self.now
-            → IfOk result (λ text. IsErrorText LexerTypesT.LexErrorT.place (λ x. (LexerTypesT.LexemeT.parts x).span)
-            (IsPrintedName grm.now) (L.text lexer.now) self.now (string_bytes text)) }
+        ensures text { GivesText LexerTypesT.LexErrorT.place LexerTypesT.LexemeT.parts grm.now (L.text lexer.now) self.now result }
 
         // It doesn't.
-        ensures unfit { ¬ (ErrorFits LexerTypesT.LexErrorT.place (λ x. (LexerTypesT.LexemeT.parts x).span) (L.text lexer.now) self.now)
-            → IfOk result (λ text. string_bytes text ≡ unfit_text LexerTypesT.LexErrorT.place (λ x. (LexerTypesT.LexemeT.parts x).span) self.now) }
+        ensures unfit { GivesByte LexerTypesT.LexErrorT.place LexerTypesT.LexemeT.parts (L.text lexer.now) self.now result }
     {
         if self.fits(lexer.input()) {
             self.named_text(alloc, grm, lexer)
@@ -54,9 +50,8 @@ impl<StorageT: StorageIndex, LexerTypesT: LexerTypes<StorageT = StorageT>> LexPa
         grm: &YaccGrammar<StorageT>,
         lexer: &L,
     ) -> Result<String, AllocError>
-        requires { ErrorFits LexerTypesT.LexErrorT.place (λ x. (LexerTypesT.LexemeT.parts x).span) (L.text lexer.now) self.now }
-        ensures { IfOk result (λ text. IsErrorText LexerTypesT.LexErrorT.place (λ x. (LexerTypesT.LexemeT.parts x).span)
-            (IsPrintedName grm.now) (L.text lexer.now) self.now (string_bytes text)) }
+        requires { FitsInput LexerTypesT.LexErrorT.place LexerTypesT.LexemeT.parts (L.text lexer.now) self.now }
+        ensures { IfOk result (IsTextOf LexerTypesT.LexErrorT.place LexerTypesT.LexemeT.parts grm.now (L.text lexer.now) self.now) }
     {
         match self.text_by(alloc, lexer, grm) {
             Ok(text) => Ok(text),
@@ -67,8 +62,7 @@ impl<StorageT: StorageIndex, LexerTypesT: LexerTypes<StorageT = StorageT>> LexPa
 
     // The text of an error that doesn't fit the input.
     fn text_at_byte(&self, alloc: Global) -> Result<String, AllocError>
-        ensures { IfOk result (λ text. string_bytes text
-            ≡ unfit_text LexerTypesT.LexErrorT.place (λ x. (LexerTypesT.LexemeT.parts x).span) self.now) }
+        ensures { IfOk result (IsByteText LexerTypesT.LexErrorT.place LexerTypesT.LexemeT.parts self.now) }
     {
         match self {
             LexParseError::LexError(error) => at_byte(alloc, "Lexing error", error.span().start()),
@@ -81,7 +75,7 @@ impl<StorageT: StorageIndex, LexerTypesT: LexerTypes<StorageT = StorageT>> LexPa
 
 // What is wrong, and the byte.
 fn at_byte(alloc: Global, what: &str, byte: usize) -> Result<String, AllocError>
-    ensures { IfOk result (λ text. string_bytes text ≡ byte_text what.now byte) }
+    ensures { IfOk result (HasText (byte_text what.now byte)) }
 {
     let mut out = String::new(alloc);
     write!(out, "{what} at byte {byte}.")?;

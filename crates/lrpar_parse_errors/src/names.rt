@@ -1,7 +1,6 @@
 //! What is printed for tokens: by a function of the caller, or by a grammar.
 ghost use Rattle.std.specs.Prelude.{ℕ, List, Option, IfOk};
-ghost use Rattle.std.specs.String.{string_bytes};
-ghost use Rattle.lrpar_parse_errors.specs.Printed.{IsNamed, IsPrintedName, printed_by};
+ghost use Rattle.lrpar_parse_errors.specs.Printed.{AppendsName, IsPrintedName, printed_by};
 
 use lrpar_grammar::grammar::YaccGrammar;
 use lrpar_grammar::span::{StorageIndex, TIdx};
@@ -19,7 +18,7 @@ pub(crate) trait TokenNames<'name, StorageT: StorageIndex> {
     // Adds the token's name, and returns whether there is one. `Err`: out of memory.
     fn push_name(&self, out: &mut String, token: TIdx<StorageT>) -> Result<bool, AllocError>
         requires { can_name self.now }
-        ensures { IfOk result (IsNamed (prints self.now (StorageT.index token.0)) (string_bytes out.old) (string_bytes out.new)) };
+        ensures { IfOk result (AppendsName StorageT.index (prints self.now) token out.old out.new) };
 }
 
 // A function of the caller.
@@ -36,7 +35,7 @@ impl<'name, StorageT: StorageIndex, F: Fn(TIdx<StorageT>) -> Option<&'name str>>
 
     fn push_name(&self, out: &mut String, token: TIdx<StorageT>) -> Result<bool, AllocError>
         requires { F.IsAlwaysCallable self.now.0 }
-        ensures { IfOk result (IsNamed (printed_by StorageT.index (F.post self.now.0) (StorageT.index token.0)) (string_bytes out.old) (string_bytes out.new)) }
+        ensures { IfOk result (AppendsName StorageT.index (printed_by StorageT.index (F.post self.now.0)) token out.old out.new) }
     {
         match (self.0)(token) {
             Some(name) => {
@@ -54,7 +53,7 @@ impl<'name, StorageT: StorageIndex> TokenNames<'name, StorageT> for YaccGrammar<
     ghost prints = { λ g. IsPrintedName g };
 
     fn push_name(&self, out: &mut String, token: TIdx<StorageT>) -> Result<bool, AllocError>
-        ensures { IfOk result (IsNamed (IsPrintedName self.now (StorageT.index token.0)) (string_bytes out.old) (string_bytes out.new)) }
+        ensures { IfOk result (AppendsName StorageT.index (IsPrintedName self.now) token out.old out.new) }
     {
         out.push_str(self.epp_of(token))?;
         Ok(true)

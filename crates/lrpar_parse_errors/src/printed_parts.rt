@@ -1,7 +1,6 @@
 //! The parts of a printed repair sequence.
-ghost use Rattle.std.specs.Prelude.{◌≡◌, ◌<◌, ◌≤◌, ◌∷◌, [], MatchOption, IfSome, length};
-ghost use Rattle.lrpar_parse_errors.specs.SequenceText.{joined};
-ghost use Rattle.lrpar_parse_errors.specs.PrintedParts.{part_of, sequence_parts};
+ghost use Rattle.std.specs.Prelude.{◌<◌, ◌≤◌, IfSome, length};
+ghost use Rattle.lrpar_parse_errors.specs.StoredSequences.{FindsPart, JoinsDeletions};
 
 use lrpar_grammar_places::span::{Span, StorageIndex, TIdx};
 use lrpar_parse_lexemes::ParseRepair;
@@ -23,10 +22,7 @@ pub fn next_part<LexemeT: Lexeme<StorageT>, StorageT: StorageIndex>(
     repairs: &[ParseRepair<LexemeT, StorageT>],
 ) -> Option<(Part<StorageT>, &[ParseRepair<LexemeT, StorageT>])>
     ensures shorter { IfSome result (λ next. length next.1.now < length repairs.now) }
-    ensures next { MatchOption result
-        (sequence_parts StorageT.index (λ x. (LexemeT.parts x).span) repairs.now ≡ [])
-        (λ next. sequence_parts StorageT.index (λ x. (LexemeT.parts x).span) repairs.now
-        ≡ part_of StorageT.index next.0 ∷ sequence_parts StorageT.index (λ x. (LexemeT.parts x).span) next.1.now) }
+    ensures next { FindsPart StorageT.index LexemeT.parts repairs.now result }
 {
     let (first, others) = repairs.split_first()?;
     Some(match first {
@@ -46,8 +42,7 @@ fn deletion<LexemeT: Lexeme<StorageT>, StorageT: StorageIndex>(
     repairs: &[ParseRepair<LexemeT, StorageT>],
 ) -> (Span, &[ParseRepair<LexemeT, StorageT>])
     ensures shorter { length result.1.now ≤ length repairs.now }
-    ensures whole { joined first (sequence_parts StorageT.index (λ x. (LexemeT.parts x).span) repairs.now)
-        ≡ part_of StorageT.index (Part.Delete result.0) ∷ sequence_parts StorageT.index (λ x. (LexemeT.parts x).span) result.1.now }
+    ensures whole { JoinsDeletions StorageT.index LexemeT.parts first repairs.now result.0 result.1.now }
 {
     let mut end = first.end();
     let mut rest = repairs;

@@ -1,10 +1,8 @@
 //! The text of one repair sequence.
-ghost use Rattle.std.specs.Prelude.{◌≡◌, ◌++◌, List, ℕ, OnOk, IfErr, map};
-ghost use Rattle.std.specs.String.{string_bytes};
-ghost use Rattle.lrpar_parse_errors.specs.Printed.{IsPpFault};
-ghost use Rattle.lrpar_parse_lexemes.specs.Repairs.{repair_of};
-ghost use Rattle.lrpar_parse_errors.specs.PrintedParts.{part_of, sequence_parts};
-ghost use Rattle.lrpar_parse_errors.specs.SequenceText.{IsPartText, IsPartsText, PartFits, RepairsFit, inserted, inserted_by, on_one_line};
+ghost use Rattle.std.specs.Prelude.{OnOk, IfErr};
+ghost use Rattle.lrpar_parse_errors.specs.SequenceText.{on_one_line};
+ghost use Rattle.lrpar_parse_errors.specs.StoredSequences.{AppendsPart, AppendsSequence, FitRepairs, FitsPart, IsFaultIn, IsPartFault};
+ghost use Rattle.lrpar_parse_errors.specs.Strings.{Appends};
 
 use crate::names::TokenNames;
 use crate::printed_parts::{Part, next_part};
@@ -15,7 +13,7 @@ use std::alloc::AllocError;
 
 // Adds the text on one line: each line feed as the two characters `\n`.
 fn push_on_one_line(out: &mut String, text: &str) -> Result<(), AllocError>
-    ensures { OnOk result (string_bytes out.new ≡ string_bytes out.old ++ on_one_line text.now) }
+    ensures { OnOk result (Appends out.old out.new (on_one_line text.now)) }
 {
     let mut rest = text;
     while let Some((line, others)) = rest.split_once('\n') {
@@ -35,11 +33,9 @@ fn push_part<
     N: TokenNames<'input, StorageT>,
 >(out: &mut String, lexer: &L, names: &N, part: Part<StorageT>) -> Result<(), PpFault<StorageT>>
     requires names { N.can_name names.now }
-    requires fits { PartFits (L.text lexer.now) (part_of StorageT.index part) }
-    ensures text { OnOk result ((text : List ℕ) × (string_bytes out.new ≡ string_bytes out.old ++ text)
-        × IsPartText (N.prints names.now) (L.text lexer.now) (part_of StorageT.index part) text) }
-    ensures fault { IfErr result (IsPpFault StorageT.index
-        (N.prints names.now) (inserted_by (part_of StorageT.index part))) }
+    requires fits { FitsPart StorageT.index (L.text lexer.now) part }
+    ensures text { OnOk result (AppendsPart StorageT.index (N.prints names.now) (L.text lexer.now) part out.old out.new) }
+    ensures fault { IfErr result (IsPartFault StorageT.index (N.prints names.now) part) }
 {
     match part {
         Part::Insert(tidx) => {
@@ -78,13 +74,10 @@ pub(crate) fn push_sequence<
     sequence: &Vec<ParseRepair<LexerTypesT::LexemeT, StorageT>>,
 ) -> Result<(), PpFault<StorageT>>
     requires names { N.can_name names.now }
-    requires fits { RepairsFit (λ x. (LexerTypesT.LexemeT.parts x).span) (L.text lexer.now) (map (repair_of StorageT.index) sequence.now.items) }
-    ensures text { OnOk result ((text : List ℕ) × (string_bytes out.new ≡ string_bytes out.old ++ text)
-        × IsPartsText (N.prints names.now) (L.text lexer.now)
-        (sequence_parts StorageT.index (λ x. (LexerTypesT.LexemeT.parts x).span) sequence.now.items) text) }
-    ensures fault { IfErr result (IsPpFault StorageT.index
-        (N.prints names.now)
-        (inserted (sequence_parts StorageT.index (λ x. (LexerTypesT.LexemeT.parts x).span) sequence.now.items))) }
+    requires fits { FitRepairs StorageT.index LexerTypesT.LexemeT.parts (L.text lexer.now) sequence.now.items }
+    ensures text { OnOk result (AppendsSequence StorageT.index LexerTypesT.LexemeT.parts
+        (N.prints names.now) (L.text lexer.now) sequence.now out.old out.new) }
+    ensures fault { IfErr result (IsFaultIn StorageT.index LexerTypesT.LexemeT.parts (N.prints names.now) sequence.now) }
 {
     let mut separator = "";
     let mut rest = sequence.as_slice();

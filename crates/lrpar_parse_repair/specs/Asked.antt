@@ -5,7 +5,10 @@ use Rattle.lrpar_table_rows.specs.Table.{Fails}
 use Rattle.lrpar_table_check.specs.Checked.{Checked, IsChecked}
 use Rattle.lrpar_table_stacks.specs.Reduction.{top_action}
 use Rattle.lrpar_table_stacks.specs.Run.{token_at}
-use Rattle.lrpar_table_stacks.specs.Stack.{IsStack}
+use Rattle.lrpar_table_stacks.specs.Stack.{IsStack, states_of}
+use Rattle.lrpar_grammar_places.specs.declared.span.StIdx.{StIdx}
+use Rattle.lrpar_parse_lexemes.specs.Lexemes.{LexemeParts}
+use Rattle.lrpar_parse_lexemes.specs.Views.{token_by}
 use Rattle.lrpar_parse_repair.specs.Recovery.{Point}
 use Rattle.lrpar_parse_repair.specs.Sequences.{PlainStep}
 
@@ -39,3 +42,15 @@ pub record IsStop {X : Type 0} (token : X → ℕ) (at : Asked X) : Type 0 where
   pub tokens : HaveTokens token at.checked.grammar at.lexemes
   pub stack : IsStack at.checked.table at.stack
   pub fails : top_action at.checked.table (token_at token at.checked.grammar at.lexemes at.place) at.stack ≡ Fails
+
+-- the same for lexemes of the program, of which `parts` gives the parts
+abbrev pub IsStopBy : {S X : Type 0} → (S → ℕ) → (X → LexemeParts S) → Asked X → Type 0
+IsStopBy index parts at = IsStop (token_by index parts) at
+
+-- the question to a recoverer with a stack of the program
+abbrev pub asked_of : {S X : Type 0} → (S → ℕ) → Checked → ℕ → List X → ℕ → List (StIdx S) → Asked X
+asked_of index d k lexemes place stack = record { checked = d; shifts = k; lexemes = lexemes; place = place; stack = states_of index stack }
+
+-- that question is asked at an error point
+abbrev pub StopsAt : {S X : Type 0} → (S → ℕ) → (X → LexemeParts S) → Checked → ℕ → List X → ℕ → List (StIdx S) → Type 0
+StopsAt index parts d k lexemes place stack = IsStopBy index parts (asked_of index d k lexemes place stack)

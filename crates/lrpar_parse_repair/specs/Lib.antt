@@ -8,4 +8,6 @@ pub mod TestWork
 pub mod Moves
 pub mod Asked
 pub mod AlwaysRepairs
+pub mod Supplied
+pub mod ListedRepairs
 pub mod Replays

@@ -1,14 +1,7 @@
 //! The engine of repair sequences: what their steps make of a stack of any kind, and whether a parse can go on from one.
-ghost use Rattle.std.specs.Prelude.{◌≡◌, ◌<◌, ◌≤◌, ◌+◌, ◌↔◌, length, IfOk, OnOk, IsTrue};
-ghost use Rattle.lrpar_grammar.specs.Grammar.{tokens_len};
+ghost use Rattle.std.specs.Prelude.{◌≡◌, ◌≤◌, ◌+◌, ◌↔◌, length, IfOk, OnOk, IsTrue};
 ghost use Rattle.lrpar_table_rows.specs.PlainRows.{plain_action};
 ghost use Rattle.lrpar_table_rows.specs.Table.{Accepts};
-ghost use Rattle.lrpar_table_stacks.specs.Expected.{AcceptsAtEnd};
-ghost use Rattle.lrpar_table_stacks.specs.Stack.{IsStack, states_of};
-ghost use Rattle.lrpar_parse_lexemes.specs.Views.{token_by};
-ghost use Rattle.lrpar_parse_repair.specs.Asked.{HaveTokens};
-ghost use Rattle.lrpar_parse_repair.specs.PlainSteps.{plain_sequences, plain_step, plain_steps};
-ghost use Rattle.lrpar_parse_repair.specs.Sequences.{PlainInsert, PlainShift, AreThoseWith, IsTokenFed};
 
 use crate::repair_step::RepairStep;
 use lrpar_grammar::span::{StIdx, StorageIndex, TIdx};
@@ -33,7 +26,7 @@ pub struct Engine<'a, StorageT: StorageIndex, LexemeT> {
 }
 
 impl<'a, StorageT: StorageIndex, LexemeT: Lexeme<StorageT>> Engine<'a, StorageT, LexemeT> {
-    ghost use Rattle.lrpar_parse_repair.specs.EngineView.{AreTestsFor, GoesOnFrom, IsMovedFor, IsTakenBy, SomeWorksBy, WorksBy};
+    ghost use Rattle.lrpar_parse_repair.specs.EngineView.{FeedsToken, HasStack, HasStates, HasToken, HasTokens, Inserts, IsMovedFor, ListsFrom, ListsWorking, Shifts, SuitsAll, TakesStep, TellsAccepts, TellsGoesOn, TellsSome, TellsSomeFrom, TellsWorks, TestsAnswer};
 
     /// The engine of these. Takes no memory.
     pub fn new(checked: &'a ParserData<StorageT>, lexemes: &'a [LexemeT], shifts: usize) -> Self
@@ -59,12 +52,10 @@ impl<'a, StorageT: StorageIndex, LexemeT: Lexeme<StorageT>> Engine<'a, StorageT,
         place: usize,
         answer: Vec<Vec<RepairStep<StorageT>>>,
     ) -> Result<Vec<Vec<RepairStep<StorageT>>>, AllocError>
-        requires tokens { HaveTokens (token_by StorageT.index LexemeT.parts) self.now.checked.now.grammar self.now.lexemes.now }
-        requires stack { IsStack self.now.checked.now.table (states_of StorageT.index stack.now) }
+        requires tokens { HasTokens StorageT.index LexemeT.parts self.now }
+        requires stack { HasStack StorageT.index self.now stack.now }
         requires within { place ≤ length self.now.lexemes.now }
-        ensures listed { IfOk result (λ listed. AreThoseWith
-            (WorksBy StorageT.index LexemeT.parts self.now (states_of StorageT.index stack.now) place)
-            (plain_sequences StorageT.index answer.items) (plain_sequences StorageT.index listed.items)) }
+        ensures listed { IfOk result (ListsFrom StorageT.index LexemeT.parts self.now stack.now place answer) }
     {
         let mut states = Overlay::new(alloc, stack);
         self.tested(alloc, &mut states, place, answer)
@@ -78,15 +69,13 @@ impl<'a, StorageT: StorageIndex, LexemeT: Lexeme<StorageT>> Engine<'a, StorageT,
         place: usize,
         answer: Vec<Vec<RepairStep<StorageT>>>,
     ) -> Result<Vec<Vec<RepairStep<StorageT>>>, AllocError>
-        requires tokens { HaveTokens (token_by StorageT.index LexemeT.parts) self.now.checked.now.grammar self.now.lexemes.now }
-        requires stack { IsStack self.now.checked.now.table states.old.base }
+        requires tokens { HasTokens StorageT.index LexemeT.parts self.now }
+        requires stack { HasStates self.now states.old.base }
         requires within { place ≤ length self.now.lexemes.now }
-        ensures listed { IfOk result (λ listed. AreThoseWith
-            (WorksBy StorageT.index LexemeT.parts self.now states.old.base place)
-            (plain_sequences StorageT.index answer.items) (plain_sequences StorageT.index listed.items)) }
+        ensures listed { IfOk result (ListsWorking StorageT.index LexemeT.parts self.now states.old.base place answer) }
 
         // The tests make at most as many reductions as the sequences may cost.
-        ensures bounded { OnOk result (AreTestsFor self.now (length states.old.base) (plain_sequences StorageT.index answer.items) states.old states.new) }
+        ensures bounded { OnOk result (TestsAnswer StorageT.index self.now answer.items states.old states.new) }
     {
         let mut listed = Vec::new(alloc);
         for steps in answer {
@@ -109,11 +98,10 @@ impl<'a, StorageT: StorageIndex, LexemeT: Lexeme<StorageT>> Engine<'a, StorageT,
         place: usize,
         answer: &[Vec<RepairStep<StorageT>>],
     ) -> Result<bool, AllocError>
-        requires tokens { HaveTokens (token_by StorageT.index LexemeT.parts) self.now.checked.now.grammar self.now.lexemes.now }
-        requires stack { IsStack self.now.checked.now.table (states_of StorageT.index stack.now) }
+        requires tokens { HasTokens StorageT.index LexemeT.parts self.now }
+        requires stack { HasStack StorageT.index self.now stack.now }
         requires within { place ≤ length self.now.lexemes.now }
-        ensures works { IfOk result (λ works. IsTrue works ↔ SomeWorksBy StorageT.index LexemeT.parts self.now
-            (states_of StorageT.index stack.now) place (plain_sequences StorageT.index answer.now)) }
+        ensures works { IfOk result (TellsSomeFrom StorageT.index LexemeT.parts self.now stack.now place answer.now) }
     {
         let mut states = Overlay::new(alloc, stack);
         self.has_working(&mut states, place, answer)
@@ -126,14 +114,13 @@ impl<'a, StorageT: StorageIndex, LexemeT: Lexeme<StorageT>> Engine<'a, StorageT,
         place: usize,
         answer: &[Vec<RepairStep<StorageT>>],
     ) -> Result<bool, AllocError>
-        requires tokens { HaveTokens (token_by StorageT.index LexemeT.parts) self.now.checked.now.grammar self.now.lexemes.now }
-        requires stack { IsStack self.now.checked.now.table states.old.base }
+        requires tokens { HasTokens StorageT.index LexemeT.parts self.now }
+        requires stack { HasStates self.now states.old.base }
         requires within { place ≤ length self.now.lexemes.now }
-        ensures works { IfOk result (λ works. IsTrue works ↔ SomeWorksBy StorageT.index LexemeT.parts self.now
-            states.old.base place (plain_sequences StorageT.index answer.now)) }
+        ensures works { IfOk result (TellsSome StorageT.index LexemeT.parts self.now states.old.base place answer.now) }
 
         // The tests make at most as many reductions as the sequences may cost.
-        ensures bounded { OnOk result (AreTestsFor self.now (length states.old.base) (plain_sequences StorageT.index answer.now) states.old states.new) }
+        ensures bounded { OnOk result (TestsAnswer StorageT.index self.now answer.now states.old states.new) }
     {
         for steps in answer {
             states.set_back();
@@ -151,13 +138,12 @@ impl<'a, StorageT: StorageIndex, LexemeT: Lexeme<StorageT>> Engine<'a, StorageT,
         place: usize,
         steps: &[RepairStep<StorageT>],
     ) -> Result<bool, AllocError>
-        requires tokens { HaveTokens (token_by StorageT.index LexemeT.parts) self.now.checked.now.grammar self.now.lexemes.now }
-        requires suits { (any : S) → S.suits self.now.checked.now.grammar self.now.checked.now.table any }
-        requires stack { IsStack self.now.checked.now.table (S.states stack.old) }
+        requires tokens { HasTokens StorageT.index LexemeT.parts self.now }
+        requires suits { SuitsAll S.suits self.now }
+        requires stack { HasStates self.now (S.states stack.old) }
         requires within { place ≤ length self.now.lexemes.now }
-        ensures works { IfOk result (λ works. IsTrue works ↔
-            WorksBy StorageT.index LexemeT.parts self.now (S.states stack.old) place (plain_steps StorageT.index steps.now)) }
-        ensures stack { IsStack self.now.checked.now.table (S.states stack.new) }
+        ensures works { IfOk result (TellsWorks StorageT.index LexemeT.parts self.now (S.states stack.old) place steps.now) }
+        ensures stack { HasStates self.now (S.states stack.new) }
         ensures moved { OnOk result (IsMovedFor self.now S.states S.reduces S.shifts (length steps.now + self.now.shifts) stack.old stack.new) }
     {
         let mut at = place;
@@ -177,12 +163,12 @@ impl<'a, StorageT: StorageIndex, LexemeT: Lexeme<StorageT>> Engine<'a, StorageT,
         stack: &mut S,
         place: usize,
     ) -> Result<bool, AllocError>
-        requires tokens { HaveTokens (token_by StorageT.index LexemeT.parts) self.now.checked.now.grammar self.now.lexemes.now }
-        requires suits { (any : S) → S.suits self.now.checked.now.grammar self.now.checked.now.table any }
-        requires stack { IsStack self.now.checked.now.table (S.states stack.old) }
+        requires tokens { HasTokens StorageT.index LexemeT.parts self.now }
+        requires suits { SuitsAll S.suits self.now }
+        requires stack { HasStates self.now (S.states stack.old) }
         requires within { place ≤ length self.now.lexemes.now }
-        ensures goes_on { IfOk result (λ goes_on. IsTrue goes_on ↔ GoesOnFrom StorageT.index LexemeT.parts self.now (S.states stack.old) place) }
-        ensures stack { IsStack self.now.checked.now.table (S.states stack.new) }
+        ensures goes_on { IfOk result (TellsGoesOn StorageT.index LexemeT.parts self.now (S.states stack.old) place) }
+        ensures stack { HasStates self.now (S.states stack.new) }
         ensures moved { OnOk result (IsMovedFor self.now S.states S.reduces S.shifts self.now.shifts stack.old stack.new) }
     {
         let mut at = place;
@@ -205,12 +191,11 @@ impl<'a, StorageT: StorageIndex, LexemeT: Lexeme<StorageT>> Engine<'a, StorageT,
         place: usize,
         step: RepairStep<StorageT>,
     ) -> Result<Option<usize>, AllocError>
-        requires tokens { HaveTokens (token_by StorageT.index LexemeT.parts) self.now.checked.now.grammar self.now.lexemes.now }
-        requires suits { (any : S) → S.suits self.now.checked.now.grammar self.now.checked.now.table any }
-        requires stack { IsStack self.now.checked.now.table (S.states stack.old) }
-        ensures taken { IfOk result (IsTakenBy StorageT.index LexemeT.parts self.now
-            (S.states stack.old) place (plain_step StorageT.index step) (S.states stack.new)) }
-        ensures stack { IsStack self.now.checked.now.table (S.states stack.new) }
+        requires tokens { HasTokens StorageT.index LexemeT.parts self.now }
+        requires suits { SuitsAll S.suits self.now }
+        requires stack { HasStates self.now (S.states stack.old) }
+        ensures taken { IfOk result (TakesStep StorageT.index LexemeT.parts S.states self.now place step stack.old stack.new) }
+        ensures stack { HasStates self.now (S.states stack.new) }
         ensures moved { OnOk result (IsMovedFor self.now S.states S.reduces S.shifts 1 stack.old stack.new) }
     {
         match step {
@@ -233,11 +218,10 @@ impl<'a, StorageT: StorageIndex, LexemeT: Lexeme<StorageT>> Engine<'a, StorageT,
         place: usize,
         token: TIdx<StorageT>,
     ) -> Result<Option<usize>, AllocError>
-        requires suits { (any : S) → S.suits self.now.checked.now.grammar self.now.checked.now.table any }
-        requires stack { IsStack self.now.checked.now.table (S.states stack.old) }
-        ensures taken { IfOk result (IsTakenBy StorageT.index LexemeT.parts self.now
-            (S.states stack.old) place (PlainInsert (StorageT.index token.0)) (S.states stack.new)) }
-        ensures stack { IsStack self.now.checked.now.table (S.states stack.new) }
+        requires suits { SuitsAll S.suits self.now }
+        requires stack { HasStates self.now (S.states stack.old) }
+        ensures taken { IfOk result (Inserts StorageT.index LexemeT.parts S.states self.now place token stack.old stack.new) }
+        ensures stack { HasStates self.now (S.states stack.new) }
         ensures moved { OnOk result (IsMovedFor self.now S.states S.reduces S.shifts 1 stack.old stack.new) }
     {
         let end = self.checked.grm().eof_token_idx();
@@ -258,12 +242,11 @@ impl<'a, StorageT: StorageIndex, LexemeT: Lexeme<StorageT>> Engine<'a, StorageT,
         stack: &mut S,
         place: usize,
     ) -> Result<Option<usize>, AllocError>
-        requires tokens { HaveTokens (token_by StorageT.index LexemeT.parts) self.now.checked.now.grammar self.now.lexemes.now }
-        requires suits { (any : S) → S.suits self.now.checked.now.grammar self.now.checked.now.table any }
-        requires stack { IsStack self.now.checked.now.table (S.states stack.old) }
-        ensures taken { IfOk result (IsTakenBy StorageT.index LexemeT.parts self.now
-            (S.states stack.old) place PlainShift (S.states stack.new)) }
-        ensures stack { IsStack self.now.checked.now.table (S.states stack.new) }
+        requires tokens { HasTokens StorageT.index LexemeT.parts self.now }
+        requires suits { SuitsAll S.suits self.now }
+        requires stack { HasStates self.now (S.states stack.old) }
+        ensures taken { IfOk result (Shifts StorageT.index LexemeT.parts S.states self.now place stack.old stack.new) }
+        ensures stack { HasStates self.now (S.states stack.new) }
         ensures moved { OnOk result (IsMovedFor self.now S.states S.reduces S.shifts 1 stack.old stack.new) }
     {
         let Some(lexeme) = self.lexemes.get(place) else {
@@ -282,11 +265,11 @@ impl<'a, StorageT: StorageIndex, LexemeT: Lexeme<StorageT>> Engine<'a, StorageT,
         stack: &mut S,
         token: TIdx<StorageT>,
     ) -> Result<bool, AllocError>
-        requires token { StorageT.index token.0 < tokens_len self.now.checked.now.grammar }
-        requires suits { (any : S) → S.suits self.now.checked.now.grammar self.now.checked.now.table any }
-        requires stack { IsStack self.now.checked.now.table (S.states stack.old) }
-        ensures fed { IfOk result (IsTokenFed self.now.checked.now.grammar self.now.checked.now.table (StorageT.index token.0) (S.states stack.old) (S.states stack.new)) }
-        ensures stack { IsStack self.now.checked.now.table (S.states stack.new) }
+        requires token { HasToken StorageT.index self.now token }
+        requires suits { SuitsAll S.suits self.now }
+        requires stack { HasStates self.now (S.states stack.old) }
+        ensures fed { IfOk result (FeedsToken StorageT.index self.now token (S.states stack.old) (S.states stack.new)) }
+        ensures stack { HasStates self.now (S.states stack.new) }
         ensures moved { OnOk result (IsMovedFor self.now S.states S.reduces S.shifts 1 stack.old stack.new) }
     {
         // A checked table has the grammar's tokens.
@@ -296,10 +279,10 @@ impl<'a, StorageT: StorageIndex, LexemeT: Lexeme<StorageT>> Engine<'a, StorageT,
 
     /// Makes all reductions at the end token, and returns whether the stack then accepts. `Err`: out of memory.
     pub fn accepts<S: ShiftStack<StorageT>>(&self, stack: &mut S) -> Result<bool, AllocError>
-        requires suits { (any : S) → S.suits self.now.checked.now.grammar self.now.checked.now.table any }
-        requires stack { IsStack self.now.checked.now.table (S.states stack.old) }
-        ensures accepts { IfOk result (λ accepts. IsTrue accepts ↔ AcceptsAtEnd self.now.checked.now.grammar self.now.checked.now.table (S.states stack.old)) }
-        ensures stack { IsStack self.now.checked.now.table (S.states stack.new) }
+        requires suits { SuitsAll S.suits self.now }
+        requires stack { HasStates self.now (S.states stack.old) }
+        ensures accepts { IfOk result (TellsAccepts self.now (S.states stack.old)) }
+        ensures stack { HasStates self.now (S.states stack.new) }
         ensures moved { OnOk result (IsMovedFor self.now S.states S.reduces S.shifts 1 stack.old stack.new) }
     {
         // Checked: the table has the grammar's end token.

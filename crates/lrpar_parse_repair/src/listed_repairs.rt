@@ -1,9 +1,6 @@
 //! The sequences of an error as repairs, each with its lexemes.
-ghost use Rattle.std.specs.Prelude.{◌≡◌, ◌∷◌, [], List, map, IfOk, IfSome, None};
-ghost use Rattle.lrpar_parse_lexemes.specs.Repairs.{repair_of, repairs_of};
-ghost use Rattle.lrpar_parse_repair.specs.Repaired.{repairs_over};
-ghost use Rattle.lrpar_parse_repair.specs.PlainSteps.{plain_sequences, plain_step, plain_steps};
-ghost use Rattle.lrpar_parse_repair.specs.Sequences.{PlainStep};
+ghost use Rattle.std.specs.Prelude.{◌≡◌, IfOk, IfSome, None};
+ghost use Rattle.lrpar_parse_repair.specs.ListedRepairs.{AreRepairsOf, AreRepairsOfOne, BeginBy, EndAt};
 
 use crate::repair_step::RepairStep;
 use lrpar_grammar::span::StorageIndex;
@@ -18,7 +15,7 @@ pub fn listed_repairs<StorageT: StorageIndex, LexemeT: Lexeme<StorageT>>(
     left: &[LexemeT],
     listed: &[Vec<RepairStep<StorageT>>],
 ) -> Result<Vec<Vec<ParseRepair<LexemeT, StorageT>>>, AllocError>
-    ensures repairs { IfOk result (λ repairs. repairs_of StorageT.index repairs.items ≡ map (repairs_over left.now) (plain_sequences StorageT.index listed.now)) }
+    ensures repairs { IfOk result (AreRepairsOf StorageT.index left.now listed.now) }
 {
     let mut repairs = Vec::with_capacity(alloc, listed.len())?;
     for steps in listed {
@@ -33,7 +30,7 @@ fn repairs_over<StorageT: StorageIndex, LexemeT: Lexeme<StorageT>>(
     left: &[LexemeT],
     steps: &[RepairStep<StorageT>],
 ) -> Result<Vec<ParseRepair<LexemeT, StorageT>>, AllocError>
-    ensures repairs { IfOk result (λ repairs. map (repair_of StorageT.index) repairs.items ≡ repairs_over left.now (plain_steps StorageT.index steps.now)) }
+    ensures repairs { IfOk result (AreRepairsOfOne StorageT.index left.now steps.now) }
 {
     let mut repairs = Vec::with_capacity(alloc, steps.len())?;
     let mut rest = left;
@@ -54,9 +51,8 @@ fn repair_over<'a, StorageT: StorageIndex, LexemeT: Lexeme<StorageT>>(
     step: RepairStep<StorageT>,
     left: &'a [LexemeT],
 ) -> Option<(ParseRepair<LexemeT, StorageT>, &'a [LexemeT])>
-    ensures none { result ≡ None → (steps : List PlainStep) → repairs_over left.now (plain_step StorageT.index step ∷ steps) ≡ [] }
-    ensures some { IfSome result (λ r. (steps : List PlainStep)
-        → repairs_over left.now (plain_step StorageT.index step ∷ steps) ≡ repair_of StorageT.index r.0 ∷ repairs_over r.1.now steps) }
+    ensures none { result ≡ None → EndAt StorageT.index left.now step }
+    ensures some { IfSome result (BeginBy StorageT.index left.now step) }
 {
     match step {
         RepairStep::Insert(token) => Some((ParseRepair::Insert(token), left)),

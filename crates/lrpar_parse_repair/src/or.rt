@@ -1,8 +1,8 @@
 //! A recoverer of two: the second one is asked where no sequence of the first one works.
-ghost use Rattle.std.specs.Prelude.{◌≡◌, ◌↔◌, IfOk, IsTrue};
+ghost use Rattle.std.specs.Prelude.{◌≡◌, IfOk};
 ghost use Rattle.lrpar_parse_lexemes.specs.Views.{token_by};
-ghost use Rattle.lrpar_parse_repair.specs.AlwaysRepairs.{FirstOrSecond, SomeWorks};
-ghost use Rattle.lrpar_parse_repair.specs.PlainSteps.{plain_sequences};
+ghost use Rattle.lrpar_parse_repair.specs.AlwaysRepairs.{FirstOrSecond};
+ghost use Rattle.lrpar_parse_repair.specs.Supplied.{IsOfEither, TellsIfSome};
 
 use crate::engine::Engine;
 use crate::repair::{Recoverer, RecoveryPoint};
@@ -59,8 +59,7 @@ impl<
         alloc: Global,
         point: &RecoveryPoint<'_, StorageT, LexemeT>,
     ) -> Result<Vec<Vec<RepairStep<StorageT>>>, AllocError>
-        ensures allowed { IfOk result (λ answer. FirstOrSecond (token_by StorageT.index LexemeT.parts)
-            (A.allows self.now.first) (B.allows self.now.second) point.now (plain_sequences StorageT.index answer.items)) }
+        ensures allowed { IfOk result (IsOfEither StorageT.index LexemeT.parts A.allows B.allows self.now point.now) }
     {
         let answer = self.first.recover(alloc, point)?;
         if some_works(alloc, point, &answer)? {
@@ -76,8 +75,7 @@ fn some_works<StorageT: StorageIndex, LexemeT: Lexeme<StorageT>>(
     point: &RecoveryPoint<'_, StorageT, LexemeT>,
     answer: &[Vec<RepairStep<StorageT>>],
 ) -> Result<bool, AllocError>
-    ensures works { IfOk result (λ works. IsTrue works ↔
-        SomeWorks (token_by StorageT.index LexemeT.parts) point.now (plain_sequences StorageT.index answer.now)) }
+    ensures works { IfOk result (TellsIfSome StorageT.index LexemeT.parts point.now answer.now) }
 {
     let engine = Engine::new(point.data(), point.lexemes(), point.shifts());
     engine.some_works(alloc, point.stack(), point.place(), answer)

@@ -1,10 +1,10 @@
 //! Recoverers: what a parse passes to one at an error point, the trait of recoverers, and two simple ones.
 ghost use Rattle.std.specs.Prelude.{◌≡◌, [], List, IfOk, IsOk};
 ghost use Rattle.lrpar_table_stacks.specs.Stack.{states_of};
-ghost use Rattle.lrpar_parse_lexemes.specs.Views.{token_by};
 ghost use Rattle.lrpar_parse_repair.specs.PlainSteps.{plain_sequences};
 ghost use Rattle.lrpar_parse_repair.specs.Sequences.{PlainStep};
-ghost use Rattle.lrpar_parse_repair.specs.Asked.{Asked, IsStop};
+ghost use Rattle.lrpar_parse_repair.specs.Asked.{Asked, IsStopBy, StopsAt, asked_of};
+ghost use Rattle.lrpar_parse_repair.specs.Supplied.{HasSequences, IsAllowed};
 
 use crate::or::Or;
 pub use crate::repair_step::RepairStep;
@@ -61,14 +61,8 @@ impl<'a, StorageT: StorageIndex, LexemeT: Lexeme<StorageT>> RecoveryPoint<'a, St
         place: usize,
         stack: &'a [StIdx<StorageT>],
     ) -> Self
-        requires stop { IsStop (token_by StorageT.index LexemeT.parts) (record {
-          checked = checked.now;
-          shifts = shifts;
-          lexemes = lexemes.now;
-          place = place;
-          stack = states_of StorageT.index stack.now;
-        }) }
-        ensures { result ≡ record { checked = checked.now; shifts = shifts; lexemes = lexemes.now; place = place; stack = states_of StorageT.index stack.now } }
+        requires stop { StopsAt StorageT.index LexemeT.parts checked.now shifts lexemes.now place stack.now }
+        ensures { result ≡ asked_of StorageT.index checked.now shifts lexemes.now place stack.now }
     {
         RecoveryPoint {
             data: checked,
@@ -82,7 +76,7 @@ impl<'a, StorageT: StorageIndex, LexemeT: Lexeme<StorageT>> RecoveryPoint<'a, St
     /// The grammar with its checked table.
     pub fn data(&self) -> &'a ParserData<StorageT>
         ensures data { result.now ≡ self.now.checked }
-        ensures stop { IsStop (token_by StorageT.index LexemeT.parts) self.now }
+        ensures stop { IsStopBy StorageT.index LexemeT.parts self.now }
     {
         self.data
     }
@@ -90,7 +84,7 @@ impl<'a, StorageT: StorageIndex, LexemeT: Lexeme<StorageT>> RecoveryPoint<'a, St
     /// How many lexemes must follow a repair: at least one.
     pub fn shifts(&self) -> usize
         ensures shifts { result ≡ self.now.shifts }
-        ensures stop { IsStop (token_by StorageT.index LexemeT.parts) self.now }
+        ensures stop { IsStopBy StorageT.index LexemeT.parts self.now }
     {
         self.shifts
     }
@@ -98,7 +92,7 @@ impl<'a, StorageT: StorageIndex, LexemeT: Lexeme<StorageT>> RecoveryPoint<'a, St
     /// All lexemes of the parse, also those before the error. Each has a token of the grammar other than the end token.
     pub fn lexemes(&self) -> &'a [LexemeT]
         ensures lexemes { result.now ≡ self.now.lexemes }
-        ensures stop { IsStop (token_by StorageT.index LexemeT.parts) self.now }
+        ensures stop { IsStopBy StorageT.index LexemeT.parts self.now }
     {
         self.lexemes
     }
@@ -106,7 +100,7 @@ impl<'a, StorageT: StorageIndex, LexemeT: Lexeme<StorageT>> RecoveryPoint<'a, St
     /// The place of the lexeme that has no action, counted from 0. At the end of the input it is the number of lexemes.
     pub fn place(&self) -> usize
         ensures place { result ≡ self.now.place }
-        ensures stop { IsStop (token_by StorageT.index LexemeT.parts) self.now }
+        ensures stop { IsStopBy StorageT.index LexemeT.parts self.now }
     {
         self.place
     }
@@ -115,7 +109,7 @@ impl<'a, StorageT: StorageIndex, LexemeT: Lexeme<StorageT>> RecoveryPoint<'a, St
     /// They are a stack of the table, and the state on top has no action at that token.
     pub fn stack(&self) -> &'a [StIdx<StorageT>]
         ensures stack { states_of StorageT.index result.now ≡ self.now.stack }
-        ensures stop { IsStop (token_by StorageT.index LexemeT.parts) self.now }
+        ensures stop { IsStopBy StorageT.index LexemeT.parts self.now }
     {
         self.stack
     }
@@ -134,7 +128,7 @@ pub trait Recoverer<StorageT: StorageIndex, LexemeT: Lexeme<StorageT>> {
         alloc: Global,
         point: &RecoveryPoint<'_, StorageT, LexemeT>,
     ) -> Result<Vec<Vec<RepairStep<StorageT>>>, AllocError>
-        ensures allowed { IfOk result (λ answer. allows self.now point.now (plain_sequences StorageT.index answer.items)) };
+        ensures allowed { IfOk result (IsAllowed StorageT.index (allows self.now point.now)) };
 
     /// This recoverer, and the second one for the error points at which none of its sequences works. Takes no memory.
     final fn or<B: Recoverer<StorageT, LexemeT>>(self, second: B) -> Or<Self, B, StorageT, LexemeT>
@@ -159,7 +153,7 @@ impl<StorageT: StorageIndex, LexemeT: Lexeme<StorageT>> Recoverer<StorageT, Lexe
         alloc: Global,
         _point: &RecoveryPoint<'_, StorageT, LexemeT>,
     ) -> Result<Vec<Vec<RepairStep<StorageT>>>, AllocError>
-        ensures allowed { IfOk result (λ answer. plain_sequences StorageT.index answer.items ≡ []) }
+        ensures allowed { IfOk result (HasSequences StorageT.index []) }
         ensures ok { IsOk result }
     {
         Ok(Vec::new(alloc))
@@ -208,7 +202,7 @@ impl<StorageT: StorageIndex, LexemeT: Lexeme<StorageT>> Recoverer<StorageT, Lexe
         _alloc: Global,
         _point: &RecoveryPoint<'_, StorageT, LexemeT>,
     ) -> Result<Vec<Vec<RepairStep<StorageT>>>, AllocError>
-        ensures allowed { IfOk result (λ answer. plain_sequences StorageT.index answer.items ≡ self.now) }
+        ensures allowed { IfOk result (HasSequences StorageT.index self.now) }
     {
         self.sequences.clone()
     }
