@@ -1,8 +1,8 @@
 -- Lines and columns of a text of UTF-8 bytes. A line starts at byte 0 and after each line feed; it ends before its
 -- line feed, and the last one at the text's end.
-use Rattle.std.specs.Prelude.{ℕ, ◌+◌, ◌-◌, ◌*◌, ◌/◌, ◌==◌, Bool, not, List, length, count_by, filter, map, take, drop, slice_index, slice_range}
+use Rattle.std.specs.Prelude.{◌≡◌, ℕ, ◌+◌, ◌-◌, ◌*◌, ◌/◌, ◌==◌, Bool, not, List, length, count_by, filter, map, take, drop, slice_index, slice_range, Option, IfSome}
 use Rattle.std.specs.List.{prefix_len, suffix_len, range_with_len}
-use Rattle.std.specs.Str.{chars}
+use Rattle.std.specs.Str.{IsCharBoundary, IsUtf8, chars}
 
 -- a line feed
 abbrev pub is_line_feed : ℕ → Bool
@@ -58,3 +58,27 @@ pub record LineTable : Type 0 where
 -- the line table of a text
 abbrev pub line_table : List ℕ → LineTable
 line_table text = record { starts = filter (starts_line text) (range_with_len 1 (length text)); counts = char_counts text; len = length text }
+
+-- of a text with these lines, that many line feeds come before the byte
+abbrev pub AreFeedsBefore : LineTable → ℕ → ℕ → Type 0
+AreFeedsBefore lines byte feeds = (text : List ℕ) → lines ≡ line_table text → feeds ≡ count_by is_line_feed (take byte text)
+
+-- of a text with these lines, the byte is on the line with this number, if there is one
+abbrev pub IsLineOf : LineTable → ℕ → Option ℕ → Type 0
+IsLineOf lines byte found = (text : List ℕ) → lines ≡ line_table text → IfSome found (λ line. line ≡ line_of text byte)
+
+-- of a text with these lines, the line of the byte starts here
+abbrev pub IsLineStart : LineTable → ℕ → ℕ → Type 0
+IsLineStart lines byte start = (text : List ℕ) → lines ≡ line_table text → start ≡ line_start text byte
+
+-- of a text with these lines, the line of the byte ends here
+abbrev pub IsLineEnd : LineTable → ℕ → ℕ → Type 0
+IsLineEnd lines byte end = (text : List ℕ) → lines ≡ line_table text → end ≡ line_end text byte
+
+-- a text with these lines can be cut here
+abbrev pub IsBoundary : LineTable → ℕ → Type 0
+IsBoundary lines byte = (text : List ℕ) → lines ≡ line_table text → IsUtf8 text → IsCharBoundary text byte
+
+-- a text with these lines can be cut at both of these places
+abbrev pub AreBoundaries : LineTable → ℕ × ℕ → Type 0
+AreBoundaries lines ends = (text : List ℕ) → lines ≡ line_table text → IsUtf8 text → IsCharBoundary text ends.0 × IsCharBoundary text ends.1

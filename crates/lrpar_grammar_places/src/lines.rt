@@ -1,7 +1,7 @@
 //! Lines and columns of a text.
-ghost use Rattle.std.specs.Prelude.{◌≡◌, ◌↔◌, ◌≤◌, ℕ, List, IsSome, IfSome, IfOk, count_by, length, take};
-ghost use Rattle.std.specs.Str.{IsCharBoundary, IsUtf8};
-ghost use Rattle.lrpar_grammar_places.specs.Lines.{begins_char, chars_before, column_of, is_line_feed, line_end, line_of, line_start, line_table};
+ghost use Rattle.std.specs.Prelude.{◌≡◌, ◌↔◌, ◌≤◌, IsSome, IfSome, IfOk, count_by, length};
+ghost use Rattle.std.specs.Str.{IsCharBoundary};
+ghost use Rattle.lrpar_grammar_places.specs.Lines.{AreBoundaries, AreFeedsBefore, IsBoundary, IsLineEnd, IsLineOf, IsLineStart, begins_char, chars_before, column_of, line_of, line_table};
 
 use crate::span::Span;
 use std::alloc::{AllocError, Global};
@@ -61,7 +61,7 @@ impl NewlineCache {
     /// logarithmic in the number of lines.
     pub fn byte_to_line_num(&self, byte: usize) -> Option<usize>
         ensures within { IsSome result ↔ (byte ≤ (self.now).len) }
-        ensures line { (text : List ℕ) → self.now ≡ line_table text → IfSome result (λ line. line ≡ line_of text byte) }
+        ensures line { IsLineOf self.now byte result }
     {
         if byte > self.len {
             return None;
@@ -91,9 +91,9 @@ impl NewlineCache {
     /// within the text. Takes time logarithmic in the number of lines.
     pub fn span_line_bytes(&self, span: Span) -> (usize, usize)
         requires { span.end ≤ (self.now).len }
-        ensures start { (text : List ℕ) → self.now ≡ line_table text → result.0 ≡ line_start text span.start }
-        ensures end { (text : List ℕ) → self.now ≡ line_table text → result.1 ≡ line_end text span.end }
-        ensures boundaries { (text : List ℕ) → self.now ≡ line_table text → IsUtf8 text → IsCharBoundary text result.0 × IsCharBoundary text result.1 }
+        ensures start { IsLineStart self.now span.start result.0 }
+        ensures end { IsLineEnd self.now span.end result.1 }
+        ensures boundaries { AreBoundaries self.now result }
     {
         (self.line_start(span.start()), self.line_end(span.end()))
     }
@@ -102,7 +102,7 @@ impl NewlineCache {
     fn feeds_before(&self, byte: usize) -> usize
         requires { byte ≤ (self.now).len }
         ensures bound { result ≤ length (self.now).starts }
-        ensures count { (text : List ℕ) → self.now ≡ line_table text → result ≡ count_by is_line_feed (take byte text) }
+        ensures count { AreFeedsBefore self.now byte result }
     {
         self.starts.partition_point(|start| *start <= byte)
     }
@@ -120,8 +120,8 @@ impl NewlineCache {
     // The byte at which the line of a byte starts.
     fn line_start(&self, byte: usize) -> usize
         requires { byte ≤ (self.now).len }
-        ensures start { (text : List ℕ) → self.now ≡ line_table text → result ≡ line_start text byte }
-        ensures boundary { (text : List ℕ) → self.now ≡ line_table text → IsUtf8 text → IsCharBoundary text result }
+        ensures start { IsLineStart self.now byte result }
+        ensures boundary { IsBoundary self.now result }
     {
         match self.feeds_before(byte) {
             0 => 0,
@@ -132,8 +132,8 @@ impl NewlineCache {
     // The byte at which the line of a byte ends, before its line feed.
     fn line_end(&self, byte: usize) -> usize
         requires { byte ≤ (self.now).len }
-        ensures end { (text : List ℕ) → self.now ≡ line_table text → result ≡ line_end text byte }
-        ensures boundary { (text : List ℕ) → self.now ≡ line_table text → IsUtf8 text → IsCharBoundary text result }
+        ensures end { IsLineEnd self.now byte result }
+        ensures boundary { IsBoundary self.now result }
     {
         match self.starts.get(self.feeds_before(byte)) {
             Some(next) => *next - 1,

@@ -4,4 +4,6 @@ pub mod Parts
 pub mod SpansFit
 pub mod Names
 pub mod Spells
+pub mod TextWords
 pub mod TextNames
+pub mod TextParts

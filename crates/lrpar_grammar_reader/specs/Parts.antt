@@ -93,3 +93,11 @@ IsFirstFault limit x _ = ⊥
 abbrev pub IsRefusalOf : ℕ → Parts → GrammarFault → Type 0
 IsRefusalOf limit x Memory = AreSound limit x
 IsRefusalOf limit x fault = IsFirstFault limit x fault
+
+-- the production is one of these numbers of listed rules and tokens
+abbrev pub IsProdAmong : {S : Type 0} → (S → ℕ) → ℕ → ℕ → ProdPart S → Type 0
+IsProdAmong index rules tokens prod = IsListedProd (rules + 1) tokens (prod_of index prod)
+
+-- the parts make a grammar
+abbrev pub MakeGrammar : {S : Type 0} → (S → ℕ) → ℕ → GrammarParts S → Type 0
+MakeGrammar index limit parts = AreSound limit (parts_of index parts)

@@ -1,9 +1,10 @@
 -- Symbols and productions of the code, by their numbers.
-use Rattle.std.specs.Prelude.{ℕ, List, map}
+use Rattle.std.specs.Prelude.{◌<◌, ◌+◌, ℕ, List, map}
 use Rattle.lrpar_grammar_places.specs.declared.span.PIdx.{PIdx}
+use Rattle.lrpar_grammar_places.specs.declared.span.RIdx.{RIdx}
 use Rattle.lrpar_grammar_places.specs.declared.span.Symbol.{Symbol}
 use Rattle.lrpar_grammar_places.specs.declared.span.Symbol.TheVariants.{Rule, Token}
-use Rattle.lrpar_grammar_reader.specs.Grammar.{GrammarSymbol, Nonterminal, Terminal}
+use Rattle.lrpar_grammar_reader.specs.Grammar.{GrammarSymbol, IsListedSymbol, Nonterminal, Terminal}
 
 -- a symbol by the number in it
 abbrev pub symbol_of : {S : Type 0} → (S → ℕ) → Symbol S → GrammarSymbol
@@ -13,3 +14,11 @@ symbol_of index (Token t) = Terminal (index t.0)
 -- the numbers of productions
 abbrev pub prod_numbers : {S : Type 0} → (S → ℕ) → List (PIdx S) → List ℕ
 prod_numbers index prods = map (λ p. index p.0) prods
+
+-- the rule is one of this number of listed rules, which come after the added one
+abbrev pub IsRuleAmong : {S : Type 0} → (S → ℕ) → ℕ → RIdx S → Type 0
+IsRuleAmong index rules rule = (0 < index rule.0) × (index rule.0 < rules + 1)
+
+-- the symbol is one of these numbers of listed rules and tokens
+abbrev pub IsSymbolAmong : {S : Type 0} → (S → ℕ) → ℕ → ℕ → Symbol S → Type 0
+IsSymbolAmong index rules tokens symbol = IsListedSymbol (rules + 1) tokens (symbol_of index symbol)

@@ -1,9 +1,10 @@
 //! Words of a grammar text by their names.
-ghost use Rattle.std.specs.Prelude.{◌≡◌, ◌≤◌, IfOk, OnOk, IfErr, List, length, map};
-ghost use Rattle.lrpar_grammar_words.specs.Words.{PlacedWord, placed};
+ghost use Rattle.std.specs.Prelude.{◌≡◌, ◌≤◌, IfOk, OnOk, IfErr, length, map};
+ghost use Rattle.lrpar_grammar_words.specs.Words.{placed};
 ghost use Rattle.lrpar_grammar_words.specs.Outline.{outline_of};
-ghost use Rattle.lrpar_grammar_reader.specs.Spells.{AreDistinct, HasFault};
-ghost use Rattle.lrpar_grammar_reader.specs.Names.{AreNumbers, first_of_each, is_among, number_of, with_name};
+ghost use Rattle.lrpar_grammar_reader.specs.Spells.{HasFault};
+ghost use Rattle.lrpar_grammar_reader.specs.Names.{is_among, number_of};
+ghost use Rattle.lrpar_grammar_reader.specs.TextWords.{AddsName, AreEppsOf, AreFirstOfEach, HasDistinctEpps, NumbersWords};
 
 use crate::parts::GrammarFault;
 use lrpar_grammar_words::outline::Outline;
@@ -42,7 +43,7 @@ impl<'a> Model for Names<'a> {
 impl<'a> Names<'a> {
     /// The words with distinct names among these: of each name the first word. Takes logarithmic time for each word.
     pub fn first_of_each(alloc: Global, words: &[Word<'a>]) -> Result<Self, AllocError>
-        ensures { IfOk result (λ names. names ≡ first_of_each (map placed words.now)) }
+        ensures { IfOk result (AreFirstOfEach words.now) }
     {
         let mut first = Vec::new(alloc);
         let mut numbers = BTreeMap::new(alloc);
@@ -59,8 +60,8 @@ impl<'a> Names<'a> {
     /// one has, and with `Memory` if an allocation fails. There must be at most one `%start`.
     pub fn of_epps(alloc: Global, outline: &Outline<'a>) -> Result<Self, GrammarFault>
         requires { length (outline_of outline.now).starts ≤ 1 }
-        ensures names { IfOk result (λ names. names ≡ (outline_of outline.now).epps) }
-        ensures distinct { OnOk result (AreDistinct (outline_of outline.now).epps) }
+        ensures names { IfOk result (AreEppsOf outline.now) }
+        ensures distinct { OnOk result (HasDistinctEpps outline.now) }
         ensures err { IfErr result (HasFault (outline_of outline.now)) }
     {
         let mut words = Vec::new(alloc);
@@ -109,9 +110,9 @@ fn add<'a>(
     numbers: &mut BTreeMap<&'a str, usize>,
     word: Word<'a>,
 ) -> Result<(), AllocError>
-    requires { AreNumbers numbers.old (map placed first.old.items) }
-    ensures words { OnOk result (map placed first.new.items ≡ with_name (map placed first.old.items) (placed word.entry)) }
-    ensures numbers { OnOk result (AreNumbers numbers.new (map placed first.new.items)) }
+    requires { NumbersWords numbers.old first.old }
+    ensures words { OnOk result (AddsName first.old first.new word.entry) }
+    ensures numbers { OnOk result (NumbersWords numbers.new first.new) }
 {
     if !numbers.contains_key(word.name) {
         numbers.insert(word.name, first.len())?;

@@ -1,8 +1,7 @@
 //! The parts of a grammar, as a reader or a caller supplies them, and their faults.
-ghost use Rattle.std.specs.Prelude.{◌≡◌, ◌↔◌, ◌<◌, ◌+◌, IsTrue, IfSome, IfNone};
+ghost use Rattle.std.specs.Prelude.{◌≡◌, ◌↔◌, IsTrue, IfSome, IfNone};
 ghost use Rattle.lrpar_grammar_reader.specs.declared.parts.GrammarFault.TheVariants.{Memory};
-ghost use Rattle.lrpar_grammar_reader.specs.Grammar.{IsListedSymbol};
-ghost use Rattle.lrpar_grammar_reader.specs.Symbols.{symbol_of};
+ghost use Rattle.lrpar_grammar_reader.specs.Symbols.{IsRuleAmong, IsSymbolAmong};
 
 use lrpar_grammar_places::span::{RIdx, Span, StorageIndex, Symbol};
 use std::alloc::{AllocError, AllocFailed};
@@ -106,13 +105,13 @@ pub enum GrammarFault {
 }
 
 impl<StorageT: StorageIndex> GrammarParts<StorageT> {
-    ghost use Rattle.lrpar_grammar_reader.specs.Parts.{parts_of, AreSound, FitStorage, HasListedStart, HasListedSymbols, IsFirstFault};
+    ghost use Rattle.lrpar_grammar_reader.specs.Parts.{parts_of, FitStorage, HasListedStart, HasListedSymbols, IsFirstFault, MakeGrammar};
 
     /// The first fault of the parts, `Memory` aside. `None` if a grammar can be made of them. Takes time linear in the parts, and
     /// no memory.
     pub fn fault(&self) -> Option<GrammarFault>
         ensures found { IfSome result (IsFirstFault StorageT.limit (parts_of StorageT.index self.now)) }
-        ensures sound { IfNone result (AreSound StorageT.limit (parts_of StorageT.index self.now)) }
+        ensures sound { IfNone result (MakeGrammar StorageT.index StorageT.limit self.now) }
     {
         if self.rules.is_empty() {
             Some(GrammarFault::NoRules)
@@ -159,11 +158,11 @@ impl<StorageT: StorageIndex> GrammarParts<StorageT> {
 }
 
 impl<StorageT: StorageIndex> ProdPart<StorageT> {
-    ghost use Rattle.lrpar_grammar_reader.specs.Parts.{IsListedProd, prod_of};
+    ghost use Rattle.lrpar_grammar_reader.specs.Parts.{IsProdAmong};
 
     // Whether the production is of one of `rules` listed rules, and its symbols are listed.
     fn is_listed(&self, rules: usize, tokens: usize) -> bool
-        ensures { IsTrue result ↔ IsListedProd (rules + 1) tokens (prod_of StorageT.index self.now) }
+        ensures { IsTrue result ↔ IsProdAmong StorageT.index rules tokens self.now }
     {
         for (symbol, _) in &self.symbols {
             if !is_listed_symbol(*symbol, rules, tokens) {
@@ -176,7 +175,7 @@ impl<StorageT: StorageIndex> ProdPart<StorageT> {
 
 // Whether the rule is one of `rules` listed rules.
 fn is_listed_rule<StorageT: StorageIndex>(rule: RIdx<StorageT>, rules: usize) -> bool
-    ensures { IsTrue result ↔ ((0 < StorageT.index rule.0) × (StorageT.index rule.0 < rules + 1)) }
+    ensures { IsTrue result ↔ IsRuleAmong StorageT.index rules rule }
 {
     let rule = usize::from(rule);
     0 < rule && rule <= rules
@@ -188,7 +187,7 @@ fn is_listed_symbol<StorageT: StorageIndex>(
     rules: usize,
     tokens: usize,
 ) -> bool
-    ensures { IsTrue result ↔ IsListedSymbol (rules + 1) tokens (symbol_of StorageT.index symbol) }
+    ensures { IsTrue result ↔ IsSymbolAmong StorageT.index rules tokens symbol }
 {
     match symbol {
         Symbol::Rule(rule) => is_listed_rule(rule, rules),

@@ -1,10 +1,11 @@
 //! The parts of the grammar that a text spells.
-ghost use Rattle.std.specs.Prelude.{◌≡◌, ◌≤◌, IfErr, IfOk, OnOk, length};
-ghost use Rattle.lrpar_grammar_words.specs.Outline.{AreOfDefinedRules, HasOrderedSymbols, IsOutlineOf, outline_of};
-ghost use Rattle.lrpar_grammar_reader.specs.Parts.{AreSound, grammar_of, parts_of};
-ghost use Rattle.lrpar_grammar_reader.specs.SpansFit.{SpansFit};
-ghost use Rattle.lrpar_grammar_reader.specs.Spells.{AreDeclaredOnce, HasFault, IsClean, IsFaultOf, IsOutlineFault, Spells, numbering_of};
-ghost use Rattle.lrpar_grammar_reader.specs.TextNames.{AreSpelled, IsRefusedAs, numbering_by};
+ghost use Rattle.std.specs.Prelude.{◌≤◌, IfErr, IfOk, OnOk, length};
+ghost use Rattle.lrpar_grammar_words.specs.Outline.{outline_of};
+ghost use Rattle.lrpar_grammar_reader.specs.Parts.{MakeGrammar};
+ghost use Rattle.lrpar_grammar_reader.specs.Spells.{AreDeclaredOnce, HasFault, IsClean, IsFaultOf, IsOutlineFault};
+ghost use Rattle.lrpar_grammar_reader.specs.TextNames.{HasNumbering};
+ghost use Rattle.lrpar_grammar_reader.specs.TextParts.{ArePartsOf, AreSpelledBy, HavePlacesIn, RefusesOutline};
+ghost use Rattle.lrpar_grammar_reader.specs.TextWords.{AreEppsOf, HasDefinedRules, HasSymbolsInOrder, IsReadFrom};
 
 use crate::parts::{GrammarFault, GrammarParts};
 use crate::spelled::{fit, spelled_parts};
@@ -24,9 +25,9 @@ pub fn read_parts<StorageT: StorageIndex>(
     alloc: Global,
     text: &str,
 ) -> Result<GrammarParts<StorageT>, GrammarFault>
-    ensures spelled { IfOk result (λ parts. Spells text.now (grammar_of (parts_of StorageT.index parts))) }
-    ensures sound { IfOk result (λ parts. AreSound StorageT.limit (parts_of StorageT.index parts)) }
-    ensures fits { IfOk result (λ parts. SpansFit (grammar_of (parts_of StorageT.index parts)) text.now) }
+    ensures spelled { IfOk result (AreSpelledBy StorageT.index text.now) }
+    ensures sound { IfOk result (MakeGrammar StorageT.index StorageT.limit) }
+    ensures fits { IfOk result (HavePlacesIn StorageT.index text.now) }
     ensures faulty { IfErr result (IsFaultOf StorageT.limit text.now) }
 {
     let outline = read_outline(alloc, text)?;
@@ -35,9 +36,9 @@ pub fn read_parts<StorageT: StorageIndex>(
 
 // The declarations and rules of the text.
 fn read_outline(alloc: Global, text: &str) -> Result<Outline, GrammarFault>
-    ensures outline { IfOk result (λ o. IsOutlineOf text.now (outline_of o)) }
-    ensures rules { IfOk result (λ o. AreOfDefinedRules (outline_of o)) }
-    ensures order { IfOk result (λ o. HasOrderedSymbols (outline_of o)) }
+    ensures outline { IfOk result (IsReadFrom text.now) }
+    ensures rules { IfOk result HasDefinedRules }
+    ensures order { IfOk result HasSymbolsInOrder }
     ensures err { IfErr result (IsOutlineFault text.now) }
 {
     match Outline::read(alloc, text) {
@@ -52,10 +53,10 @@ fn checked_parts<StorageT: StorageIndex>(
     alloc: Global,
     outline: &Outline,
 ) -> Result<GrammarParts<StorageT>, GrammarFault>
-    requires rules { AreOfDefinedRules (outline_of outline.now) }
-    requires order { HasOrderedSymbols (outline_of outline.now) }
-    ensures parts { IfOk result (λ parts. AreSpelled StorageT.limit (outline_of outline.now) (parts_of StorageT.index parts)) }
-    ensures err { IfErr result (IsRefusedAs StorageT.limit (outline_of outline.now)) }
+    requires rules { HasDefinedRules outline.now }
+    requires order { HasSymbolsInOrder outline.now }
+    ensures parts { IfOk result (ArePartsOf StorageT.index StorageT.limit outline.now) }
+    ensures err { IfErr result (RefusesOutline StorageT.limit outline.now) }
 {
     has_one_start(outline)?;
     let tables = Tables::new(alloc, outline)?;
@@ -79,13 +80,13 @@ fn named_parts<StorageT: StorageIndex>(
     outline: &Outline,
     tables: &Tables,
 ) -> Result<GrammarParts<StorageT>, GrammarFault>
-    requires numbering { numbering_by tables.now ≡ numbering_of (outline_of outline.now) }
-    requires epps { (tables.now).epps ≡ (outline_of outline.now).epps }
+    requires numbering { HasNumbering outline.now tables.now }
+    requires epps { AreEppsOf outline.now (tables.now).epps }
     requires once { AreDeclaredOnce (outline_of outline.now) }
-    requires rules { AreOfDefinedRules (outline_of outline.now) }
-    requires order { HasOrderedSymbols (outline_of outline.now) }
-    ensures parts { IfOk result (λ parts. AreSpelled StorageT.limit (outline_of outline.now) (parts_of StorageT.index parts)) }
-    ensures err { IfErr result (IsRefusedAs StorageT.limit (outline_of outline.now)) }
+    requires rules { HasDefinedRules outline.now }
+    requires order { HasSymbolsInOrder outline.now }
+    ensures parts { IfOk result (ArePartsOf StorageT.index StorageT.limit outline.now) }
+    ensures err { IfErr result (RefusesOutline StorageT.limit outline.now) }
 {
     if outline.defined.is_empty() {
         return Err(GrammarFault::NoRules);
@@ -100,13 +101,13 @@ fn fitting_parts<StorageT: StorageIndex>(
     outline: &Outline,
     tables: &Tables,
 ) -> Result<GrammarParts<StorageT>, GrammarFault>
-    requires numbering { numbering_by tables.now ≡ numbering_of (outline_of outline.now) }
-    requires epps { (tables.now).epps ≡ (outline_of outline.now).epps }
+    requires numbering { HasNumbering outline.now tables.now }
+    requires epps { AreEppsOf outline.now (tables.now).epps }
     requires clean { IsClean (outline_of outline.now) }
-    requires rules { AreOfDefinedRules (outline_of outline.now) }
-    requires order { HasOrderedSymbols (outline_of outline.now) }
-    ensures parts { IfOk result (λ parts. AreSpelled StorageT.limit (outline_of outline.now) (parts_of StorageT.index parts)) }
-    ensures err { IfErr result (IsRefusedAs StorageT.limit (outline_of outline.now)) }
+    requires rules { HasDefinedRules outline.now }
+    requires order { HasSymbolsInOrder outline.now }
+    ensures parts { IfOk result (ArePartsOf StorageT.index StorageT.limit outline.now) }
+    ensures err { IfErr result (RefusesOutline StorageT.limit outline.now) }
 {
     if !fit::<StorageT>(outline, tables) {
         return Err(GrammarFault::StorageTooSmall);

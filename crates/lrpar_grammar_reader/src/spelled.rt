@@ -1,12 +1,11 @@
 //! The parts of a grammar, made of its declarations and rules.
-ghost use Rattle.std.specs.Prelude.{◌≡◌, ◌<◌, ◌↔◌, All, IfOk, IsTrue, length, map, true};
-ghost use Rattle.lrpar_grammar_words.specs.Words.{placed};
-ghost use Rattle.lrpar_grammar_words.specs.Outline.{AreWordsInOrder, AreOfDefinedRules, HasOrderedSymbols, alternative_of, outline_of};
+ghost use Rattle.std.specs.Prelude.{◌≡◌, ◌<◌, ◌↔◌, IfOk, IsTrue, length, true};
+ghost use Rattle.lrpar_grammar_words.specs.Outline.{alternative_of, outline_of};
 ghost use Rattle.lrpar_grammar_reader.specs.Names.{is_among};
-ghost use Rattle.lrpar_grammar_reader.specs.Parts.{parts_of, prod_of, rule_name_of, token_name_of};
-ghost use Rattle.lrpar_grammar_reader.specs.Spells.{IsClean, alternative_span, numbering_of, spelled_parts, start_number, printed_text, prod_of_alternative, rule_number, rule_of_word, symbol_of_word, token_number, token_of_word};
-ghost use Rattle.lrpar_grammar_reader.specs.Symbols.{symbol_of};
-ghost use Rattle.lrpar_grammar_reader.specs.TextNames.{FitAll, FitTables, AreNumbered, has_number, numbering_by};
+ghost use Rattle.lrpar_grammar_reader.specs.Spells.{IsClean, alternative_span, printed_text, rule_number, token_number};
+ghost use Rattle.lrpar_grammar_reader.specs.TextNames.{AreAllNumbered, AreNumberedWords, AreRules, FitsBelow, HasNumbering, HasRoom, HasRoomFor, IsNumbered, IsNumberedWord, IsStartRule, Represents, numbering_by};
+ghost use Rattle.lrpar_grammar_reader.specs.TextParts.{ArePlacedAs, AreProdsOf, AreRulesOf, AreSpelledParts, RepresentEach, AreTokensOf, IsProdOf, IsRuleOf, IsTokenOf};
+ghost use Rattle.lrpar_grammar_reader.specs.TextWords.{AreEppsOf, AreInOrder, HasDefinedRules, HasSymbolsInOrder, IsInOrder};
 
 use crate::names::Names;
 use crate::parts::{GrammarParts, ProdPart, RulePart, TokenPart};
@@ -22,13 +21,13 @@ pub fn spelled_parts<StorageT: StorageIndex>(
     outline: &Outline,
     tables: &Tables,
 ) -> Result<GrammarParts<StorageT>, AllocError>
-    requires numbering { numbering_by tables.now ≡ numbering_of (outline_of outline.now) }
-    requires epps { (tables.now).epps ≡ (outline_of outline.now).epps }
+    requires numbering { HasNumbering outline.now tables.now }
+    requires epps { AreEppsOf outline.now (tables.now).epps }
     requires clean { IsClean (outline_of outline.now) }
-    requires rules { AreOfDefinedRules (outline_of outline.now) }
-    requires order { HasOrderedSymbols (outline_of outline.now) }
-    requires fit { FitAll StorageT.limit (numbering_of (outline_of outline.now)) (outline_of outline.now) }
-    ensures { IfOk result (λ parts. parts_of StorageT.index parts ≡ spelled_parts (outline_of outline.now)) }
+    requires rules { HasDefinedRules outline.now }
+    requires order { HasSymbolsInOrder outline.now }
+    requires fit { FitsBelow StorageT.limit outline.now }
+    ensures { IfOk result (AreSpelledParts StorageT.index outline.now) }
 {
     Ok(GrammarParts {
         rules: rule_parts(alloc, tables.rules.words())?,
@@ -40,7 +39,7 @@ pub fn spelled_parts<StorageT: StorageIndex>(
 
 /// Whether the storage type can number all rules, tokens and productions, with what the grammar adds to them.
 pub fn fit<StorageT: StorageIndex>(outline: &Outline, tables: &Tables) -> bool
-    ensures { IsTrue result ↔ FitAll StorageT.limit (numbering_by tables.now) (outline_of outline.now) }
+    ensures { IsTrue result ↔ HasRoomFor StorageT.limit outline.now tables.now }
 {
     StorageT::from_index(tables.rules.len()).is_some()
         && StorageT::from_index(tables.tokens.len()).is_some()
@@ -49,10 +48,10 @@ pub fn fit<StorageT: StorageIndex>(outline: &Outline, tables: &Tables) -> bool
 
 // The rule after `%start`, else the first rule.
 fn start_rule<StorageT: StorageIndex>(starts: &[Word], tables: &Tables) -> RIdx<StorageT>
-    requires room { FitTables StorageT.limit (numbering_by tables.now) }
+    requires room { HasRoom StorageT.limit tables.now }
     requires some { 0 < length (numbering_by tables.now).rules }
-    requires known { All (λ w. is_among w.name (numbering_by tables.now).rules ≡ true) (map placed starts.now) }
-    ensures { StorageT.index result.0 ≡ start_number (numbering_by tables.now) (map placed starts.now) }
+    requires known { AreRules tables.now starts.now }
+    ensures { IsStartRule StorageT.index tables.now starts.now result }
 {
     match starts.first() {
         Some(word) => rule_idx(&tables.rules, word.name),
@@ -62,7 +61,7 @@ fn start_rule<StorageT: StorageIndex>(starts: &[Word], tables: &Tables) -> RIdx<
 
 // The rules, in the order of their numbers.
 fn rule_parts(alloc: Global, words: &[Word]) -> Result<Vec<RulePart>, AllocError>
-    ensures { IfOk result (λ parts. map rule_name_of parts.items ≡ map rule_of_word (map placed words.now)) }
+    ensures { IfOk result (AreRulesOf words.now) }
 {
     let mut parts = Vec::with_capacity(alloc, words.len())?;
     for word in words {
@@ -73,7 +72,7 @@ fn rule_parts(alloc: Global, words: &[Word]) -> Result<Vec<RulePart>, AllocError
 
 // A rule, with its name and place.
 fn rule_part(alloc: Global, word: &Word) -> Result<RulePart, AllocError>
-    ensures { IfOk result (λ part. rule_name_of part ≡ rule_of_word (placed word.now)) }
+    ensures { IfOk result (IsRuleOf word.now) }
 {
     Ok(RulePart {
         name: String::from_str(alloc, word.name)?,
@@ -88,8 +87,8 @@ fn token_parts(
     epps: &Names,
     outline: &Outline,
 ) -> Result<Vec<TokenPart>, AllocError>
-    requires { epps.now ≡ (outline_of outline.now).epps }
-    ensures { IfOk result (λ parts. map token_name_of parts.items ≡ map (token_of_word (outline_of outline.now)) (map placed words.now)) }
+    requires { AreEppsOf outline.now epps.now }
+    ensures { IfOk result (AreTokensOf outline.now words.now) }
 {
     let mut parts = Vec::with_capacity(alloc, words.len())?;
     for word in words {
@@ -105,8 +104,8 @@ fn token_part(
     epps: &Names,
     outline: &Outline,
 ) -> Result<TokenPart, AllocError>
-    requires { epps.now ≡ (outline_of outline.now).epps }
-    ensures { IfOk result (λ part. token_name_of part ≡ token_of_word (outline_of outline.now) (placed word.now)) }
+    requires { AreEppsOf outline.now epps.now }
+    ensures { IfOk result (IsTokenOf outline.now word.now) }
 {
     Ok(TokenPart {
         name: String::from_str(alloc, word.name)?,
@@ -117,7 +116,7 @@ fn token_part(
 
 // The text that is printed for a token of that name.
 fn printed_text<'a>(name: &'a str, epps: &Names, outline: &'a Outline) -> &'a str
-    requires { epps.now ≡ (outline_of outline.now).epps }
+    requires { AreEppsOf outline.now epps.now }
     ensures { result.now ≡ printed_text (outline_of outline.now) name.now }
 {
     match epps.number(name) {
@@ -135,11 +134,10 @@ fn prod_parts<StorageT: StorageIndex>(
     alternatives: &[Alternative],
     tables: &Tables,
 ) -> Result<Vec<ProdPart<StorageT>>, AllocError>
-    requires room { FitTables StorageT.limit (numbering_by tables.now) }
-    requires known { All (AreNumbered (numbering_by tables.now)) (map alternative_of alternatives.now) }
-    requires order { All (λ x. AreWordsInOrder x.symbols) (map alternative_of alternatives.now) }
-    ensures { IfOk result (λ parts. map (prod_of StorageT.index) parts.items
-        ≡ map (prod_of_alternative (numbering_by tables.now)) (map alternative_of alternatives.now)) }
+    requires room { HasRoom StorageT.limit tables.now }
+    requires known { AreAllNumbered tables.now alternatives.now }
+    requires order { AreInOrder alternatives.now }
+    ensures { IfOk result (AreProdsOf StorageT.index tables.now alternatives.now) }
 {
     let mut parts = Vec::with_capacity(alloc, alternatives.len())?;
     for alternative in alternatives {
@@ -154,10 +152,10 @@ fn prod_part<StorageT: StorageIndex>(
     alternative: &Alternative,
     tables: &Tables,
 ) -> Result<ProdPart<StorageT>, AllocError>
-    requires room { FitTables StorageT.limit (numbering_by tables.now) }
-    requires known { AreNumbered (numbering_by tables.now) (alternative_of alternative.now) }
-    requires order { AreWordsInOrder (alternative_of alternative.now).symbols }
-    ensures { IfOk result (λ part. prod_of StorageT.index part ≡ prod_of_alternative (numbering_by tables.now) (alternative_of alternative.now)) }
+    requires room { HasRoom StorageT.limit tables.now }
+    requires known { IsNumbered tables.now alternative.now }
+    requires order { IsInOrder alternative.now }
+    ensures { IfOk result (IsProdOf StorageT.index tables.now alternative.now) }
 {
     Ok(ProdPart {
         rule: rule_idx(&tables.rules, alternative.rule.name),
@@ -168,7 +166,7 @@ fn prod_part<StorageT: StorageIndex>(
 
 // The place of a production.
 fn prod_span(alternative: &Alternative) -> Span
-    requires { AreWordsInOrder (alternative_of alternative.now).symbols }
+    requires { IsInOrder alternative.now }
     ensures { result ≡ alternative_span (alternative_of alternative.now) }
 {
     match (alternative.symbols.first(), alternative.symbols.last()) {
@@ -186,11 +184,10 @@ fn symbols<StorageT: StorageIndex>(
     words: &[Word],
     tables: &Tables,
 ) -> Result<Vec<(Symbol<StorageT>, Span)>, AllocError>
-    requires room { FitTables StorageT.limit (numbering_by tables.now) }
-    requires known { All (λ w. has_number (numbering_by tables.now) w ≡ true) (map placed words.now) }
-    ensures symbols { IfOk result (λ pairs. map (λ pair. symbol_of StorageT.index pair.0) pairs.items
-        ≡ map (symbol_of_word (numbering_by tables.now)) (map placed words.now)) }
-    ensures spans { IfOk result (λ pairs. map (λ pair. pair.1) pairs.items ≡ map (λ w. w.span) (map placed words.now)) }
+    requires room { HasRoom StorageT.limit tables.now }
+    requires known { AreNumberedWords tables.now words.now }
+    ensures symbols { IfOk result (RepresentEach StorageT.index tables.now words.now) }
+    ensures spans { IfOk result (ArePlacedAs words.now) }
 {
     let mut pairs = Vec::with_capacity(alloc, words.len())?;
     for word in words {
@@ -201,9 +198,9 @@ fn symbols<StorageT: StorageIndex>(
 
 // The symbol that a word represents.
 fn symbol<StorageT: StorageIndex>(word: &Word, tables: &Tables) -> Symbol<StorageT>
-    requires room { FitTables StorageT.limit (numbering_by tables.now) }
-    requires known { has_number (numbering_by tables.now) (placed word.now) ≡ true }
-    ensures { symbol_of StorageT.index result ≡ symbol_of_word (numbering_by tables.now) (placed word.now) }
+    requires room { HasRoom StorageT.limit tables.now }
+    requires known { IsNumberedWord tables.now word.now }
+    ensures { Represents StorageT.index tables.now word.now result }
 {
     if is_token(word, &tables.declared) {
         Symbol::Token(token_idx(&tables.tokens, word.name))

@@ -1,8 +1,9 @@
 //! The tables of names with which a grammar is read.
-ghost use Rattle.std.specs.Prelude.{◌≡◌, ◌++◌, ◌≤◌, IfErr, IfOk, OnOk, filter, length, map};
+ghost use Rattle.std.specs.Prelude.{◌≡◌, ◌≤◌, IfErr, IfOk, OnOk, length};
 ghost use Rattle.lrpar_grammar_words.specs.Words.{placed};
-ghost use Rattle.lrpar_grammar_words.specs.Outline.{alternative_of, outline_of};
-ghost use Rattle.lrpar_grammar_reader.specs.Spells.{AreDistinct, HasFault, is_quoted, is_token, used_tokens};
+ghost use Rattle.lrpar_grammar_words.specs.Outline.{outline_of};
+ghost use Rattle.lrpar_grammar_reader.specs.Spells.{HasFault, is_quoted, is_token};
+ghost use Rattle.lrpar_grammar_reader.specs.TextWords.{AppendsTokens, AppendsWords, AreEppsOf, AreTokenWords, HasDistinctEpps};
 
 use crate::names::Names;
 use crate::parts::GrammarFault;
@@ -20,16 +21,15 @@ pub struct Tables<'a> {
 }
 
 impl<'a> Tables<'a> {
-    ghost use Rattle.lrpar_grammar_reader.specs.Spells.{numbering_of};
-    ghost use Rattle.lrpar_grammar_reader.specs.TextNames.{numbering_by};
+    ghost use Rattle.lrpar_grammar_reader.specs.TextNames.{HasNumbering};
 
     /// The tables of an outline. Fails with `RepeatedEpp` at a second `%epp` of a name, and with `Memory` if an allocation fails.
     /// There must be at most one `%start`.
     pub fn new(alloc: Global, outline: &Outline<'a>) -> Result<Self, GrammarFault>
         requires { length (outline_of outline.now).starts ≤ 1 }
-        ensures numbering { IfOk result (λ tables. numbering_by tables ≡ numbering_of (outline_of outline.now)) }
-        ensures epps { IfOk result (λ tables. tables.epps ≡ (outline_of outline.now).epps) }
-        ensures distinct { OnOk result (AreDistinct (outline_of outline.now).epps) }
+        ensures numbering { IfOk result (HasNumbering outline.now) }
+        ensures epps { IfOk result (λ tables. AreEppsOf outline.now tables.epps) }
+        ensures distinct { OnOk result (HasDistinctEpps outline.now) }
         ensures err { IfErr result (HasFault (outline_of outline.now)) }
     {
         let epps = Names::of_epps(alloc, outline)?;
@@ -66,8 +66,7 @@ fn token_words<'a>(
     outline: &Outline<'a>,
     declared: &Names,
 ) -> Result<Vec<Word<'a>>, AllocError>
-    ensures { IfOk result (λ words. map placed words.items ≡ map placed (outline.now).declared.items
-        ++ used_tokens declared.now (map alternative_of (outline.now).alternatives.items)) }
+    ensures { IfOk result (AreTokenWords declared.now outline.now) }
 {
     let mut words = Vec::new(alloc);
     push_all(&mut words, &outline.declared)?;
@@ -79,7 +78,7 @@ fn token_words<'a>(
 
 // Appends the words.
 fn push_all<'a>(words: &mut Vec<Word<'a>>, more: &[Word<'a>]) -> Result<(), AllocError>
-    ensures { OnOk result (map placed words.new.items ≡ map placed words.old.items ++ map placed more.now) }
+    ensures { OnOk result (AppendsWords words.old words.new more.now) }
 {
     for word in more {
         words.push(*word)?;
@@ -93,8 +92,7 @@ fn push_tokens<'a>(
     symbols: &[Word<'a>],
     declared: &Names,
 ) -> Result<(), AllocError>
-    ensures { OnOk result (map placed words.new.items
-        ≡ map placed words.old.items ++ filter (is_token declared.now) (map placed symbols.now)) }
+    ensures { OnOk result (AppendsTokens words.old words.new declared.now symbols.now) }
 {
     for word in symbols {
         if is_token(word, declared) {

@@ -1,11 +1,9 @@
 //! Names that are wrong: names of rules that are declared tokens, and names of nothing.
-ghost use Rattle.std.specs.Prelude.{◌≡◌, ◌≢◌, [], not, true, false, All, IfErr, MatchOption, OnOk, map};
-ghost use Rattle.std.specs.List.{find, flat_map};
-ghost use Rattle.lrpar_grammar_words.specs.Outline.{alternative_of, outline_of};
-ghost use Rattle.lrpar_grammar_words.specs.Words.{placed};
-ghost use Rattle.lrpar_grammar_reader.specs.Names.{is_among};
-ghost use Rattle.lrpar_grammar_reader.specs.Spells.{AreDeclaredOnce, AreNamesKnown, HasFaultBy, LiesAt, is_known};
-ghost use Rattle.lrpar_grammar_reader.specs.TextNames.{numbering_by};
+ghost use Rattle.std.specs.Prelude.{◌≡◌, ◌≢◌, [], IfErr, OnOk};
+ghost use Rattle.lrpar_grammar_words.specs.Outline.{outline_of};
+ghost use Rattle.lrpar_grammar_reader.specs.Spells.{AreDeclaredOnce};
+ghost use Rattle.lrpar_grammar_reader.specs.TextNames.{FindsUnknown, FindsUnknownSymbol, HasKnownNames, IsFaultBy, is_known_by};
+ghost use Rattle.lrpar_grammar_reader.specs.TextWords.{FindsAmong, FindsMissing};
 
 use crate::names::Names;
 use crate::parts::GrammarFault;
@@ -20,8 +18,8 @@ use lrpar_grammar_words::words::Word;
 pub fn has_known_names(outline: &Outline, tables: &Tables) -> Result<(), GrammarFault>
     requires once { AreDeclaredOnce (outline_of outline.now) }
     requires some_rule { (outline_of outline.now).defined ≢ [] }
-    ensures ok { OnOk result (AreNamesKnown (numbering_by tables.now) (outline_of outline.now)) }
-    ensures err { IfErr result (HasFaultBy (numbering_by tables.now) (outline_of outline.now)) }
+    ensures ok { OnOk result (HasKnownNames tables.now outline.now) }
+    ensures err { IfErr result (IsFaultBy tables.now outline.now) }
 {
     if let Some(span) = find_among(tables.rules.words(), &tables.declared) {
         return Err(GrammarFault::TokenIsRule(span));
@@ -40,8 +38,7 @@ pub fn has_known_names(outline: &Outline, tables: &Tables) -> Result<(), Grammar
 
 // The place of the first word whose name is among the names.
 fn find_among(words: &[Word], names: &Names) -> Option<Span>
-    ensures { MatchOption result (All (λ w. is_among w.name names.now ≡ false) (map placed words.now))
-        (LiesAt (find (λ w. is_among w.name names.now) (map placed words.now))) }
+    ensures { FindsAmong names.now words.now result }
 {
     for word in words {
         if names.contains(word.name) {
@@ -53,8 +50,7 @@ fn find_among(words: &[Word], names: &Names) -> Option<Span>
 
 // The place of the first word whose name isn't among the names.
 fn find_missing(words: &[Word], names: &Names) -> Option<Span>
-    ensures { MatchOption result (All (λ w. is_among w.name names.now ≡ true) (map placed words.now))
-        (LiesAt (find (λ w. not (is_among w.name names.now)) (map placed words.now))) }
+    ensures { FindsMissing names.now words.now result }
 {
     for word in words {
         if !names.contains(word.name) {
@@ -66,9 +62,7 @@ fn find_missing(words: &[Word], names: &Names) -> Option<Span>
 
 // The place of the first symbol of the alternatives that is neither a token nor a rule.
 fn unknown_symbol(alternatives: &[Alternative], tables: &Tables) -> Option<Span>
-    ensures { MatchOption result
-        (All (λ x. All (λ w. is_known (numbering_by tables.now) w ≡ true) x.symbols) (map alternative_of alternatives.now))
-        (LiesAt (find (λ w. not (is_known (numbering_by tables.now) w)) (flat_map (λ x. x.symbols) (map alternative_of alternatives.now)))) }
+    ensures { FindsUnknownSymbol tables.now alternatives.now result }
 {
     for alternative in alternatives {
         if let Some(span) = find_unknown(&alternative.symbols, tables) {
@@ -80,8 +74,7 @@ fn unknown_symbol(alternatives: &[Alternative], tables: &Tables) -> Option<Span>
 
 // The place of the first symbol that is neither a token nor a rule.
 fn find_unknown(symbols: &[Word], tables: &Tables) -> Option<Span>
-    ensures { MatchOption result (All (λ w. is_known (numbering_by tables.now) w ≡ true) (map placed symbols.now))
-        (LiesAt (find (λ w. not (is_known (numbering_by tables.now) w)) (map placed symbols.now))) }
+    ensures { FindsUnknown tables.now symbols.now result }
 {
     for word in symbols {
         if !is_known(word, tables) {
@@ -93,7 +86,7 @@ fn find_unknown(symbols: &[Word], tables: &Tables) -> Option<Span>
 
 // Whether the symbol is a token or a rule.
 fn is_known(word: &Word, tables: &Tables) -> bool
-    ensures { result ≡ is_known (numbering_by tables.now) (placed word.now) }
+    ensures { result ≡ is_known_by tables.now word.now }
 {
     is_token(word, &tables.declared) || tables.rules.contains(word.name)
 }
