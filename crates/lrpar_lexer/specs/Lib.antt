@@ -1,5 +1,7 @@
 pub mod Matching
+pub mod TextParts
 pub mod Anchored
+pub mod Finding
 pub mod Searches
 pub mod Matchers
 pub mod RuleTrees
@@ -12,6 +14,8 @@ pub mod RuleTexts
 pub mod Lexing
 pub mod LexingLaws
 pub mod LexingAll
+pub mod StoredLexemes
+pub mod Lexers
 pub mod LexingAllLaws
 pub mod ListPlaces
 pub mod TokenTexts

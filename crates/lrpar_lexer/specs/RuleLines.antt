@@ -1,5 +1,6 @@
 -- The lines of a text of rules, and what a line reads as.
-use Rattle.std.specs.Prelude.{◌≡◌, ◌≢◌, ℕ, ◌-◌, ◌<◌, ◌==◌, nat_lt, Bool, false, ◌||◌, IsTrue, List, [], ◌∷◌, ◌++◌, length, map, take, drop, filter, Option, Some, None, IfSome}
+use Rattle.std.specs.Prelude.{◌≡◌, ◌≢◌, ℕ, ◌-◌, ◌<◌, ◌==◌, nat_lt, Bool, false, ◌||◌, IsTrue, List, [], ◌∷◌, ◌++◌, length, map, take, drop, filter, Option, Some, None, IfSome, MatchOption, option_map}
+use Rattle.std.specs.Borrow.{Bor}
 use Rattle.std.specs.List.{All, prefix_len, slice_split, suffix_len}
 use Rattle.lrpar_grammar_places.specs.Lines.{is_line_feed}
 
@@ -57,8 +58,24 @@ pub record HasGap (text pattern : List ℕ) : Type 0 where
   pub ends : pattern ≡ front ++ last ∷ []
   pub solid : is_blank last ≡ false
 
+-- what comes before the ending of the line, and the name of the ending, if it has one; nothing if the line has no such ending
+abbrev pub FindsEnding : List ℕ → Option (Bor (List ℕ) × Option (Bor (List ℕ))) → Type 0
+FindsEnding line found =
+    MatchOption found ((front : List ℕ) (name : Option (List ℕ)) → ¬ (HasEnding line front name))
+    (λ parts. HasEnding line parts.0.now (option_map (λ name. name.now) parts.1))
+
+-- the pattern before the spaces and tabs at the end of the text; nothing if the text isn't a pattern and then at least one of these
+abbrev pub FindsGap : List ℕ → Option (Bor (List ℕ)) → Type 0
+FindsGap text found = MatchOption found ((pattern : List ℕ) → ¬ (HasGap text pattern)) (λ pattern. HasGap text pattern.now)
+
 -- the line reads as a pattern, and the name of a token or no name: the pattern, spaces and tabs, and the ending
 pub record ReadsAs (line pattern : List ℕ) (name : Option (List ℕ)) : Type 0 where
   pub front : List ℕ
   pub ending : HasEnding line front name
   pub gap : HasGap front pattern
+
+-- the pattern and the name that the line reads as; nothing if it reads as none
+abbrev pub FindsParts : List ℕ → Option (Bor (List ℕ) × Option (Bor (List ℕ))) → Type 0
+FindsParts line found =
+    MatchOption found ((pattern : List ℕ) (name : Option (List ℕ)) → ¬ (ReadsAs line pattern name))
+    (λ parts. ReadsAs line parts.0.now (option_map (λ name. name.now) parts.1))

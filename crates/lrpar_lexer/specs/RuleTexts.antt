@@ -1,5 +1,5 @@
 -- The rules that a text gives for a grammar, one a line.
-use Rattle.std.specs.Prelude.{◌≡◌, ◌≢◌, ℕ, ◌-◌, ◌<◌, List, length, take, ⊤, Option, Some, None, IsSome, bytes_eq, slice_get}
+use Rattle.std.specs.Prelude.{◌≡◌, ◌≢◌, ℕ, ◌-◌, ◌<◌, List, length, take, ⊤, Option, Some, None, IsSome, Vec, bytes_eq, slice_get}
 use Rattle.std.specs.List.{AllZip, position}
 use Rattle.regex.specs.Patterns.{default_config}
 use Rattle.regex.specs.Failures.{IsRightKind}
@@ -7,6 +7,7 @@ use Rattle.regex.specs.Sources.{IsRefusal}
 use Rattle.regex.specs.declared.error.Error.{Error}
 use Rattle.regex.specs.declared.error.Error.TheVariants.{Internal, OutOfMemory}
 use Rattle.lrpar_grammar.specs.Grammar.{Grammar}
+use Rattle.lrpar_grammar_places.specs.declared.span.TIdx.{TIdx}
 use Rattle.lrpar_lexer.specs.RuleLines.{ReadsAs, core_of, cores_of, text_lines}
 use Rattle.lrpar_lexer.specs.Rules.{HasPattern, token_of}
 use Rattle.lrpar_lexer.specs.declared.rule.LexRule.{LexRule}
@@ -67,3 +68,24 @@ NamesLine IsSuch Memory = ⊤
 -- the fault is that of the first line, blank ones aside, that gives no rule, with the reason; or it is `Memory`
 abbrev pub IsFaultOf : {S : Type 0} → (S → ℕ) → Grammar → List ℕ → RulesFault → Type 0
 IsFaultOf index grammar text fault = NamesLine (IsFirstFault index grammar (text_lines text)) fault
+
+-- the fault is that this line, with its number, gives no rule, with the reason; or it is `Memory`
+abbrev pub IsFaultOfLine : Grammar → ℕ → List ℕ → RulesFault → Type 0
+IsFaultOfLine grammar number line fault = NamesLine (λ n why. (n ≡ number) × SaysNoRule grammar line why) fault
+
+-- the fault is that the pattern of the line with this number is refused, with this error; or it is `Memory`
+abbrev pub IsFaultOfPattern : ℕ → Error → RulesFault → Type 0
+IsFaultOfPattern number error fault = NamesLine (λ n why. (n ≡ number) × (why ≡ Pattern error) × (error ≢ OutOfMemory)) fault
+
+-- the fault is that the name in the line with this number is of no token of the grammar; or it is `Memory`
+abbrev pub IsFaultOfName : Grammar → ℕ → List ℕ → RulesFault → Type 0
+IsFaultOfName grammar number name fault =
+    NamesLine (λ n why. (n ≡ number) × (why ≡ Unnamed) × (first_named grammar name ≡ None)) fault
+
+-- the token is the first of the grammar with that name
+abbrev pub IsFirstNamed : {S : Type 0} → (S → ℕ) → Grammar → List ℕ → TIdx S → Type 0
+IsFirstNamed index grammar name token = first_named grammar name ≡ Some (index token.0)
+
+-- the rules are those of the text
+abbrev pub AreRulesOfText : {S A : Type 0} → (S → ℕ) → Grammar → List ℕ → Vec (LexRule S) A → Type 0
+AreRulesOfText index grammar text rules = AreRulesOf index grammar (text_lines text) rules.items

@@ -1,5 +1,5 @@
 -- Trees of rules, by the bytes with which their matches begin.
-use Rattle.std.specs.Prelude.{◌≡◌, ◌⊎◌, ℕ, ◌==◌, ◌<◌, ◌≤◌, List, [], ◌∷◌, ◌++◌, length, set, Option, Some, None, if◌then◌else◌, Contains, slice_get}
+use Rattle.std.specs.Prelude.{◌≡◌, ◌⊎◌, ℕ, ◌==◌, ◌<◌, ◌≤◌, List, [], ◌∷◌, ◌++◌, length, set, Option, Some, None, if◌then◌else◌, Contains, Vec, slice_get}
 use Rattle.std.specs.Option.{IsSomeAnd}
 use Rattle.regex_meta.specs.Programs.{pattern_of}
 use Rattle.regex_meta.specs.declared.program.Program.{Program}
@@ -52,9 +52,26 @@ abbrev pub IsMet : List Node → Program → ℕ → Type 0
 IsMet nodes program rule =
     (byte : ℕ) (text : List ℕ) → byte < 256 → ¬ (Meets nodes byte text rule) → HasNothingAtStart (pattern_of program) (byte ∷ text)
 
+-- the same of the nodes as they are stored
+abbrev pub IsMetIn : {A : Type 0} → Vec Node A → Program → ℕ → Type 0
+IsMetIn nodes program rule = IsMet nodes.items program rule
+
 -- the same of each program, whose rule is the one with its place
 abbrev pub AreMet : List Node → List Program → Type 0
 AreMet nodes programs = (rule : ℕ) (program : Program) → slice_get programs rule ≡ Some program → IsMet nodes program rule
+
+-- the program finds nothing at the start of a text that begins with the byte
+abbrev pub FindsNoneFrom : Program → ℕ → Type 0
+FindsNoneFrom program byte = (text : List ℕ) → HasNothingAtStart (pattern_of program) (byte ∷ text)
+
+-- the same of the texts that begin with the byte, and along which the walk doesn't meet the rule
+abbrev pub IsMetFrom : {A : Type 0} → Vec Node A → ℕ → Program → ℕ → Type 0
+IsMetFrom nodes byte program rule =
+    (text : List ℕ) → ¬ (Meets nodes.items byte text rule) → HasNothingAtStart (pattern_of program) (byte ∷ text)
+
+-- the walk along each text that begins with these bytes meets the rule
+abbrev pub IsMetAlong : {A : Type 0} → Vec Node A → List ℕ → ℕ → Type 0
+IsMetAlong nodes text rule = (byte : ℕ) (before after : List ℕ) → text ≡ byte ∷ before → Meets nodes.items byte (before ++ after) rule
 
 -- one more node, without rules
 pub record IsNodePushed (old new : List Node) : Type 0 where
@@ -82,3 +99,11 @@ pub record Grows (old new : List Node) : Type 0 where
   pub rules : (n rule : ℕ) → Contains (rules_at old n) rule → Contains (rules_at new n) rule
   pub branches : (n byte next : ℕ) → next_of old n byte ≡ Some next → next_of new n byte ≡ Some next
   pub tree : IsTree old → IsTree new
+
+-- the same of the nodes as they are stored
+abbrev pub HasGrown : {A : Type 0} → Vec Node A → Vec Node A → Type 0
+HasGrown old new = Grows old.items new.items
+
+-- the byte leads from node n to node `next`
+abbrev pub LeadsToNode : {A : Type 0} → Vec Node A → ℕ → ℕ → ℕ → Type 0
+LeadsToNode nodes n byte next = next_of nodes.items n byte ≡ Some next

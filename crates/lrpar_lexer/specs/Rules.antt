@@ -1,11 +1,12 @@
 -- The rules of a lexer.
-use Rattle.std.specs.Prelude.{◌≡◌, ℕ, List, map, Option, option_map}
+use Rattle.std.specs.Prelude.{◌≡◌, ℕ, List, map, Option, Some, option_map, slice_get}
 use Rattle.regex.specs.Patterns.{Config, Re, Reads, default_config}
 use Rattle.regex_hir.specs.Meaning.{meaning}
 use Rattle.regex_hir.specs.declared.hir.Hir.{Hir}
 use Rattle.regex_meta.specs.Programs as programs
 use Rattle.regex_meta.specs.declared.program.Program.{Program}
 use Rattle.regex_syntax.specs.Grammar.{Names}
+use Rattle.lrpar_grammar_places.specs.declared.span.TIdx.{TIdx}
 use Rattle.lrpar_lexer.specs.Anchored.{without_start}
 use Rattle.lrpar_lexer.specs.declared.rule.LexRule.{LexRule}
 
@@ -42,3 +43,15 @@ HasPattern text rule = HasPatternBy default_config text rule
 
 abbrev pub token_of : {S : Type 0} → (S → ℕ) → LexRule S → Option ℕ
 token_of index rule = option_map (λ token. index token.0) rule.token
+
+-- the number of a token, if there is one
+abbrev pub number_of : {S : Type 0} → (S → ℕ) → Option (TIdx S) → Option ℕ
+number_of index token = option_map (λ token. index token.0) token
+
+-- the rule has this token, or none
+abbrev pub HasToken : {S : Type 0} → (S → ℕ) → Option (TIdx S) → LexRule S → Type 0
+HasToken index token rule = token_of index rule ≡ number_of index token
+
+-- the rule with this number has this token, or none
+abbrev pub HasTokenAt : {S : Type 0} → (S → ℕ) → List (LexRule S) → ℕ → Option (TIdx S) → Type 0
+HasTokenAt index rules rule token = slice_get (map (λ r. r.token) (plain_rules index rules)) rule ≡ Some (number_of index token)

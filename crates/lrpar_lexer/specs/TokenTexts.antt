@@ -1,5 +1,5 @@
 -- Lexemes, and places at which no token fits: their texts, and when two lexemes are equal.
-use Rattle.std.specs.Prelude.{◌≡◌, ℕ, List, ◌++◌, Option, Some, codes}
+use Rattle.std.specs.Prelude.{◌≡◌, ◌↔◌, ℕ, Bool, IsTrue, List, ◌++◌, Option, Some, codes}
 use Rattle.std.specs.Hash as fed
 use Rattle.std.specs.Fmt.{decimal}
 use Rattle.lrpar_lexer.specs.declared.token.Token.{Token}
@@ -19,6 +19,10 @@ pub record IsSameToken {S : Type 0} (index : S → ℕ) (x y : Token S) : Type 0
   pub start : x.span.start ≡ y.span.start
   pub end : x.span.end ≡ y.span.end
   pub faulty : x.is_faulty ≡ y.is_faulty
+
+-- two lexemes are equal by `eq` exactly if they are the same
+abbrev pub ComparesTokens : {S : Type 0} → (S → ℕ) → (Token S → Token S → Bool) → Type 0
+ComparesTokens {S = S} index eq = (x y : Token S) → IsTrue (eq x y) ↔ IsSameToken index x y
 
 -- what a hasher is fed for a lexeme: what it is fed for the number, both ends, and whether a repair made it
 abbrev pub token_input : {S : Type 0} → (S → List (List ℕ)) → Token S → List (List ℕ)

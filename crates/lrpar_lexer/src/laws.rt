@@ -1,11 +1,9 @@
 //! Laws of lexers that use rules, of lexemes, and of rules as a text.
-ghost use Rattle.std.specs.Prelude.{◌↔◌, IsTrue};
 ghost use Rattle.lrpar_grammar_places.specs.Comparisons.{HashesAs};
 ghost use Rattle.lrpar_lexer.specs.LexingLaws.{LexesOneWay};
 ghost use Rattle.lrpar_lexer.specs.LexingAllLaws.{LexesAllAsLexemes, LexesAllAsRules, LexesAllOneWay, LexesEachText};
 ghost use Rattle.lrpar_lexer.specs.RuleLineLaws.{LinesReadOneWay};
-ghost use Rattle.lrpar_lexer.specs.TokenTexts.{IsSameToken, token_input};
-ghost use Rattle.lrpar_lexer.specs.declared.token.Token.{Token};
+ghost use Rattle.lrpar_lexer.specs.TokenTexts.{ComparesTokens, token_input};
 
 use crate::token::Token;
 use lrpar_grammar_places::span::StorageIndex;
@@ -33,6 +31,6 @@ pub fn lines_read_one_way()
 /// Two lexemes are equal if and only if they have the same token and the same place, and both are made by a repair or neither. A
 /// hasher is fed what it is fed for the token's number, then both ends, and then whether a repair made the lexeme.
 pub fn tokens_are_compared_by_parts<StorageT: StorageIndex>()
-    ensures equal { (x y : Token StorageT) → IsTrue (⟦<Token<StorageT> as PartialEq>⟧.eq x y) ↔ IsSameToken StorageT.index x y }
+    ensures equal { ComparesTokens StorageT.index ⟦<Token<StorageT> as PartialEq>⟧.eq }
     ensures hash { HashesAs (token_input StorageT.hash_input) ⟦<Token<StorageT> as PartialEq>⟧.eq ⟦<Token<StorageT> as Hash>⟧.hash_input }
 {}

@@ -1,8 +1,7 @@
 //! The lexemes and errors of a text.
-ghost use Rattle.std.specs.Prelude.{◌≡◌, ◌<◌, ◌≤◌, ◌+◌, ◌++◌, IfOk, OnOk, Some, length, map, option_map, slice_get};
-ghost use Rattle.lrpar_lexer.specs.Answers.{plain_answers};
-ghost use Rattle.lrpar_lexer.specs.Lexing.{Lexes, lexemes_of};
-ghost use Rattle.lrpar_lexer.specs.Rules.{plain_rules};
+ghost use Rattle.std.specs.Prelude.{◌<◌, ◌≤◌, ◌+◌, IfOk, OnOk, length};
+ghost use Rattle.lrpar_lexer.specs.Rules.{HasTokenAt};
+ghost use Rattle.lrpar_lexer.specs.StoredLexemes.{AppendsLexeme, AreLexemesOf};
 
 use crate::matching::Matchers;
 use crate::rule::LexRule;
@@ -16,7 +15,7 @@ pub(crate) fn answers<StorageT: StorageIndex>(
     rules: &[LexRule<StorageT>],
     text: &str,
 ) -> Result<Vec<Result<Token<StorageT>, NoToken>>, AllocError>
-    ensures { IfOk result (λ answers. Lexes (plain_rules StorageT.index rules.now) text.now 0 (plain_answers StorageT.index answers.items)) }
+    ensures { IfOk result (AreLexemesOf StorageT.index rules.now text.now) }
 {
     let mut matchers = Matchers::new(alloc, rules)?;
     let mut answers = Vec::new(alloc);
@@ -38,7 +37,7 @@ pub(crate) fn token_of<StorageT: StorageIndex>(
     rule: usize,
 ) -> Option<TIdx<StorageT>>
     requires { rule < length rules.now }
-    ensures { slice_get (map (λ r. r.token) (plain_rules StorageT.index rules.now)) rule ≡ Some (option_map (λ token. StorageT.index token.0) result) }
+    ensures { HasTokenAt StorageT.index rules.now rule result }
 {
     rules[rule].token
 }
@@ -51,8 +50,7 @@ pub fn push_lexeme<StorageT: StorageIndex>(
     len: usize,
 ) -> Result<(), AllocError>
     requires fits { at + len ≤ usize.MAX }
-    ensures { OnOk result (plain_answers StorageT.index answers.new.items
-        ≡ plain_answers StorageT.index answers.old.items ++ lexemes_of (option_map (λ token. StorageT.index token.0) token) at len) }
+    ensures { OnOk result (AppendsLexeme StorageT.index token at len answers.old answers.new) }
 {
     let Some(token) = token else {
         return Ok(());

@@ -1,10 +1,8 @@
 //! The lexemes of a text whose unmatched characters are lexemes, too.
-ghost use Rattle.std.specs.Prelude.{◌≡◌, ◌+◌, ◌<◌, IfOk, length, map, option_map};
+ghost use Rattle.std.specs.Prelude.{◌≡◌, ◌+◌, ◌<◌, IfOk, length};
 ghost use Rattle.std.specs.Str.{IsCharBoundary};
-ghost use Rattle.lrpar_lexer.specs.Answers.{plain_answers};
-ghost use Rattle.lrpar_lexer.specs.LexingAll.{IsNext, LexesAll};
-ghost use Rattle.lrpar_lexer.specs.Matchers.{programs_of};
-ghost use Rattle.lrpar_lexer.specs.Rules.{anchored_of, plain_rules};
+ghost use Rattle.lrpar_lexer.specs.Matchers.{AreMatchersOf, programs_of};
+ghost use Rattle.lrpar_lexer.specs.StoredLexemes.{AreAllLexemesOf, ComesAt};
 
 use crate::lexing::{push_lexeme, token_of};
 use crate::matching::Matchers;
@@ -20,8 +18,7 @@ pub(crate) fn all_answers<StorageT: StorageIndex>(
     unmatched: TIdx<StorageT>,
     text: &str,
 ) -> Result<Vec<Result<Token<StorageT>, NoToken>>, AllocError>
-    ensures { IfOk result (λ answers. LexesAll (plain_rules StorageT.index rules.now) (StorageT.index unmatched.0) text.now 0
-        (plain_answers StorageT.index answers.items)) }
+    ensures { IfOk result (AreAllLexemesOf StorageT.index rules.now unmatched text.now) }
 {
     let mut matchers = Matchers::new(alloc, rules)?;
     let mut answers = Vec::new(alloc);
@@ -42,11 +39,10 @@ fn next_lexeme<StorageT: StorageIndex>(
     text: &str,
     at: usize,
 ) -> (Option<TIdx<StorageT>>, usize)
-    requires programs { programs_of matchers.old ≡ map anchored_of rules.now }
+    requires programs { AreMatchersOf rules.now matchers.old }
     requires within { at < length text.now }
     requires boundary { IsCharBoundary text.now at }
-    ensures next { IsNext (plain_rules StorageT.index rules.now) (StorageT.index unmatched.0) text.now at
-        (option_map (λ token. StorageT.index token.0) result.0) result.1 }
+    ensures next { ComesAt StorageT.index rules.now unmatched text.now at result }
     ensures some { 0 < result.1 }
     ensures boundary { IsCharBoundary text.now (at + result.1) }
     ensures same { programs_of matchers.new ≡ programs_of matchers.old }

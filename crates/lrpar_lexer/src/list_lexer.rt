@@ -1,9 +1,9 @@
 //! A lexer over a list of lexemes and errors.
-ghost use Rattle.std.specs.Prelude.{◌≡◌, [], All, IfOk, IfErr, slice_range};
+ghost use Rattle.std.specs.Prelude.{◌≡◌, All, IfOk, IfErr};
 ghost use Rattle.std.specs.Str.{IsCharBoundary};
 ghost use Rattle.lrpar_grammar_places.specs.Lines.{column_of, line_of, line_table};
-ghost use Rattle.lrpar_grammar_places.specs.Span.{IsPartOf};
 ghost use Rattle.lrpar_lexer.specs.ListPlaces.{FitsText, IsListFault};
+ghost use Rattle.lrpar_lexer.specs.TextParts.{IsEmptyOutside, IsPartAt};
 
 use crate::list_fault::ListFault;
 use crate::list_places::first_misplaced;
@@ -63,9 +63,8 @@ impl<'input, StorageT: StorageIndex> ListLexer<'input, StorageT> {
 
     /// The lexeme's part of the text. It is empty if the lexeme doesn't start and end in the text, each between two characters.
     pub fn text(&self, lexeme: &Token<StorageT>) -> &'input str
-        ensures part { IsPartOf self.now.input.now lexeme.now.span
-            → result.now ≡ slice_range self.now.input.now lexeme.now.span.start lexeme.now.span.end }
-        ensures outside { ¬ (IsPartOf self.now.input.now lexeme.now.span) → result.now ≡ [] }
+        ensures part { IsPartAt self.now.input.now lexeme.now.span result.now }
+        ensures outside { IsEmptyOutside self.now.input.now lexeme.now.span result.now }
     {
         part_of(self.input, lexeme.span())
     }

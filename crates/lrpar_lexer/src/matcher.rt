@@ -1,9 +1,7 @@
 //! A search for one pattern at the start of a text.
-ghost use Rattle.std.specs.Prelude.{◌≡◌, IfOk, option_map};
-ghost use Rattle.regex.specs.Patterns.{Re, span};
-ghost use Rattle.regex_meta.specs.Programs.{leftmost};
-ghost use Rattle.lrpar_lexer.specs.Anchored.{FindsAtStart, FindsText};
-ghost use Rattle.lrpar_lexer.specs.Matching.{IsMatchLen};
+ghost use Rattle.std.specs.Prelude.{◌≡◌, IfOk};
+ghost use Rattle.lrpar_lexer.specs.Anchored.{FindsText};
+ghost use Rattle.lrpar_lexer.specs.Finding.{FindsLen, found_by};
 
 use crate::rule_tree::plain_text;
 use regex_meta::{Program, Searcher};
@@ -28,7 +26,7 @@ pub(crate) struct PlainText<'r> {
 impl<'r> PlainText<'r> {
     // What the program finds in a text.
     fn find(&self, text: &[u8]) -> Option<(usize, usize)>
-        ensures { result ≡ option_map span (leftmost self.now.program.now text.now 0) }
+        ensures { result ≡ found_by self.now.program.now text.now }
     {
         if text.starts_with(self.text) {
             Some((0, self.text.len()))
@@ -53,7 +51,7 @@ impl<'r> Matcher<'r> {
 
     /// The number of bytes that the pattern matches at the start of a text, if it does.
     pub(crate) fn match_len(&mut self, rest: &str) -> Option<usize>
-        ensures found { (pattern : Re) → FindsAtStart (program_of self.old) pattern → IsMatchLen rest.now pattern result }
+        ensures found { FindsLen (program_of self.old) rest.now result }
         ensures same { program_of self.new ≡ program_of self.old }
     {
         let (_, end) = self.find(rest.as_bytes())?;
@@ -66,7 +64,7 @@ impl<'r> Matcher<'r> {
 
     // What the program finds in a text.
     fn find(&mut self, text: &[u8]) -> Option<(usize, usize)>
-        ensures found { result ≡ option_map span (leftmost (program_of self.old) text.now 0) }
+        ensures found { result ≡ found_by (program_of self.old) text.now }
         ensures same { program_of self.new ≡ program_of self.old }
     {
         match self {

@@ -1,15 +1,9 @@
 //! Which of several patterns wins at a place of a text.
-ghost use Rattle.std.specs.Prelude.{◌≡◌, ◌<◌, IfOk, IfSome, MatchBool, List, drop, length, map, option_map, slice_get, vec_len};
-ghost use Rattle.std.specs.List.{All, AllZip};
-ghost use Rattle.std.specs.Str.{IsCharBoundary};
-ghost use Rattle.regex.specs.Patterns.{Re};
-ghost use Rattle.regex_meta.specs.declared.program.Program.{Program};
-ghost use Rattle.lrpar_lexer.specs.Anchored.{FindsAtStart};
-ghost use Rattle.lrpar_lexer.specs.Searches.{program_of};
-ghost use Rattle.lrpar_lexer.specs.Marks.{AreMarked};
-ghost use Rattle.lrpar_lexer.specs.Matching.{AreIndices, Improves, IsMatchLen, IsUnmatched, IsWinner, NoneMatches, better, chosen_of, tried_of};
+ghost use Rattle.std.specs.Prelude.{◌≡◌, ◌<◌, IfOk, IfSome, length, vec_len};
+ghost use Rattle.lrpar_lexer.specs.Finding.{FindsBest, FindsLenAt, FindsUnmatched, FindsWinner, FindsWinnerAmong, FindsWinnerTried, TestsTried};
+ghost use Rattle.lrpar_lexer.specs.Matching.{better};
 ghost use Rattle.lrpar_lexer.specs.RuleTrees.{AreMet};
-ghost use Rattle.lrpar_lexer.specs.Rules.{anchored_of};
+ghost use Rattle.lrpar_lexer.specs.Searches.{AreSearchesFor, programs_in};
 
 use crate::marks::Marks;
 use crate::matcher::Matcher;
@@ -32,11 +26,11 @@ pub struct Matchers<'r> {
     matchers: Vec<Matcher<'r>>,
     tree: RuleTree,
     marks: Marks,
-    ghost met: { AreMet tree.nodes.items (map program_of matchers.items) },
+    ghost met: { AreMet tree.nodes.items (programs_in matchers) },
 }
 
 impl<'r> Matchers<'r> {
-    ghost use Rattle.lrpar_lexer.specs.Matchers.{programs_of};
+    ghost use Rattle.lrpar_lexer.specs.Matchers.{AreMatchersOf, HasMarksFor, programs_of};
 
     /// The searches for the patterns of the rules. Takes time and memory for each byte of a pattern that is a text, and for each other rule
     /// and each byte with which a match of it can begin.
@@ -44,7 +38,7 @@ impl<'r> Matchers<'r> {
         alloc: Global,
         rules: &'r [LexRule<StorageT>],
     ) -> Result<Matchers<'r>, AllocError>
-        ensures { IfOk result (λ matchers. programs_of matchers ≡ map anchored_of rules.now) }
+        ensures { IfOk result (AreMatchersOf rules.now) }
     {
         let matchers = matchers_of(alloc, rules)?;
         let tree = RuleTree::new(alloc, rules)?;
@@ -58,7 +52,7 @@ impl<'r> Matchers<'r> {
 
     // The winner at the start of a text, if a pattern matches there.
     pub(crate) fn winner(&mut self, rest: &str) -> Option<Winner>
-        ensures winner { (patterns : List Re) → AllZip FindsAtStart (programs_of self.old) patterns → IsWinner patterns rest.now result }
+        ensures winner { FindsWinner (programs_of self.old) rest.now result }
         ensures same { programs_of self.new ≡ programs_of self.old }
     {
         winner_met(&mut self.matchers, &self.tree, rest)
@@ -68,8 +62,7 @@ impl<'r> Matchers<'r> {
     /// first in the list of indices among several. The winner's `rule` is a place in that list. An index past the last rule has no match.
     /// Looks at each index, but searches only for patterns whose matches can begin with the bytes there.
     pub fn winner_among(&mut self, rest: &str, chosen: &[usize]) -> Option<Winner>
-        ensures winner { (patterns : List Re) → AllZip FindsAtStart (programs_of self.old) patterns
-            → All (λ index. index < length patterns) chosen.now → IsWinner (chosen_of patterns chosen.now) rest.now result }
+        ensures winner { FindsWinnerAmong (programs_of self.old) chosen.now rest.now result }
         ensures same { programs_of self.new ≡ programs_of self.old }
     {
         self.marks.mark(&self.tree, rest);
@@ -84,12 +77,11 @@ impl<'r> Matchers<'r> {
     // The number of bytes that the pattern with this index matches at the start of a text, if there is one and it does. The rules that a
     // walk along the text meets are marked, and others aren't asked.
     fn match_if_marked(&mut self, index: usize, rest: &str) -> Option<usize>
-        requires { AreMarked self.old.tree.nodes.items rest.now self.old.marks.marks.items }
-        ensures found { (program : Program) (pattern : Re) → slice_get (programs_of self.old) index ≡ Some program
-            → FindsAtStart program pattern → IsMatchLen rest.now pattern result }
+        requires { HasMarksFor rest.now self.old }
+        ensures found { FindsLenAt (programs_of self.old) index rest.now result }
         ensures known { IfSome result (λ _. index < vec_len self.old.matchers) }
         ensures same { programs_of self.new ≡ programs_of self.old }
-        ensures marked { AreMarked self.new.tree.nodes.items rest.now self.new.marks.marks.items }
+        ensures marked { HasMarksFor rest.now self.new }
     {
         if !self.marks.is_marked(index) {
             return None;
@@ -102,9 +94,7 @@ impl<'r> Matchers<'r> {
     /// the run, and at the one after it.
     pub fn unmatched_len(&mut self, text: &str, at: usize, chosen: Option<&[usize]>) -> usize
         requires { at < length text.now }
-        ensures unmatched { (patterns : List Re) → AllZip FindsAtStart (programs_of self.old) patterns
-            → AreIndices patterns (option_map (λ c. c.now) chosen.entry) → NoneMatches (tried_of patterns (option_map (λ c. c.now) chosen.entry)) (drop at text.now)
-            → IsUnmatched (tried_of patterns (option_map (λ c. c.now) chosen.entry)) text.now at result }
+        ensures unmatched { FindsUnmatched (programs_of self.old) chosen.entry text.now at result }
         ensures same { programs_of self.new ≡ programs_of self.old }
     {
         let mut len = 1;
@@ -119,10 +109,7 @@ impl<'r> Matchers<'r> {
 
     // Whether byte `at` begins a character at which one of the patterns that are tried matches.
     fn matches_at(&mut self, text: &str, at: usize, chosen: Option<&[usize]>) -> bool
-        ensures matches { (patterns : List Re) → AllZip FindsAtStart (programs_of self.old) patterns
-            → AreIndices patterns (option_map (λ c. c.now) chosen.entry) → MatchBool result
-            (IsCharBoundary text.now at × ¬ (NoneMatches (tried_of patterns (option_map (λ c. c.now) chosen.entry)) (drop at text.now)))
-            (IsCharBoundary text.now at → NoneMatches (tried_of patterns (option_map (λ c. c.now) chosen.entry)) (drop at text.now)) }
+        ensures matches { TestsTried (programs_of self.old) chosen.entry text.now at result }
         ensures same { programs_of self.new ≡ programs_of self.old }
     {
         if !text.is_char_boundary(at) {
@@ -133,8 +120,7 @@ impl<'r> Matchers<'r> {
 
     // The winner at the start of a text among the patterns that are tried.
     fn winner_tried(&mut self, rest: &str, chosen: Option<&[usize]>) -> Option<Winner>
-        ensures winner { (patterns : List Re) → AllZip FindsAtStart (programs_of self.old) patterns
-            → AreIndices patterns (option_map (λ c. c.now) chosen.entry) → IsWinner (tried_of patterns (option_map (λ c. c.now) chosen.entry)) rest.now result }
+        ensures winner { FindsWinnerTried (programs_of self.old) chosen.entry rest.now result }
         ensures same { programs_of self.new ≡ programs_of self.old }
     {
         match chosen {
@@ -149,7 +135,7 @@ fn matchers_of<'r, StorageT>(
     alloc: Global,
     rules: &'r [LexRule<StorageT>],
 ) -> Result<Vec<Matcher<'r>>, AllocError>
-    ensures { IfOk result (λ matchers. map program_of matchers.items ≡ map anchored_of rules.now) }
+    ensures { IfOk result (AreSearchesFor rules.now) }
 {
     let mut matchers = Vec::with_capacity(alloc, rules.len())?;
     'rules: for rule in rules {
@@ -160,9 +146,9 @@ fn matchers_of<'r, StorageT>(
 
 // The winner at the start of a text: the best of the rules that a walk along the text meets.
 fn winner_met(matchers: &mut Vec<Matcher<'_>>, tree: &RuleTree, rest: &str) -> Option<Winner>
-    requires { AreMet tree.now.nodes.items (map program_of matchers.old.items) }
-    ensures winner { (patterns : List Re) → AllZip FindsAtStart (map program_of matchers.old.items) patterns → IsWinner patterns rest.now result }
-    ensures same { map program_of matchers.new.items ≡ map program_of matchers.old.items }
+    requires { AreMet tree.now.nodes.items (programs_in matchers.old) }
+    ensures winner { FindsWinner (programs_in matchers.old) rest.now result }
+    ensures same { programs_in matchers.new ≡ programs_in matchers.old }
 {
     let bytes = rest.as_bytes();
     if bytes.is_empty() {
@@ -187,8 +173,8 @@ fn best_of(
     rest: &str,
     so_far: Option<Winner>,
 ) -> Option<Winner>
-    ensures best { (patterns : List Re) → AllZip FindsAtStart (map program_of matchers.old.items) patterns → Improves patterns rest.now rules.now so_far result }
-    ensures same { map program_of matchers.new.items ≡ map program_of matchers.old.items }
+    ensures best { FindsBest (programs_in matchers.old) rules.now rest.now so_far result }
+    ensures same { programs_in matchers.new ≡ programs_in matchers.old }
 {
     let mut best = so_far;
     'rules: for rule in rules {
@@ -200,10 +186,9 @@ fn best_of(
 
 // The number of bytes that the pattern with this index matches at the start of a text, if there is one and it does.
 fn match_of(matchers: &mut Vec<Matcher<'_>>, index: usize, rest: &str) -> Option<usize>
-    ensures found { (program : Program) (pattern : Re) → slice_get (map program_of matchers.old.items) index ≡ Some program
-        → FindsAtStart program pattern → IsMatchLen rest.now pattern result }
+    ensures found { FindsLenAt (programs_in matchers.old) index rest.now result }
     ensures known { IfSome result (λ _. index < vec_len matchers.old) }
-    ensures same { map program_of matchers.new.items ≡ map program_of matchers.old.items }
+    ensures same { programs_in matchers.new ≡ programs_in matchers.old }
 {
     if index < matchers.len() {
         matchers[index].match_len(rest)

@@ -1,6 +1,7 @@
 //! Parts of an input.
-ghost use Rattle.std.specs.Prelude.{◌≡◌, ◌↔◌, [], IsTrue, slice_range};
+ghost use Rattle.std.specs.Prelude.{◌↔◌, IsTrue};
 ghost use Rattle.lrpar_grammar_places.specs.Span.{IsPartOf};
+ghost use Rattle.lrpar_lexer.specs.TextParts.{IsEmptyOutside, IsPartAt};
 
 use lrpar_grammar_places::span::Span;
 
@@ -13,8 +14,8 @@ pub(crate) fn is_part(text: &str, span: Span) -> bool
 
 /// The part of the text; no text if it doesn't start and end in the text, each between two characters.
 pub fn part_of(text: &str, span: Span) -> &str
-    ensures part { IsPartOf text.now span → result.now ≡ slice_range text.now span.start span.end }
-    ensures outside { ¬ (IsPartOf text.now span) → result.now ≡ [] }
+    ensures part { IsPartAt text.now span result.now }
+    ensures outside { IsEmptyOutside text.now span result.now }
 {
     if !is_part(text, span) {
         return "";

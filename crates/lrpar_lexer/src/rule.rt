@@ -1,5 +1,5 @@
 //! A rule of a lexer.
-ghost use Rattle.std.specs.Prelude.{◌≡◌, ◌≢◌, IfOk, IfErr, option_map};
+ghost use Rattle.std.specs.Prelude.{◌≡◌, ◌≢◌, IfOk, IfErr};
 ghost use Rattle.regex.specs.Patterns.{default_config};
 ghost use Rattle.regex.specs.Failures.{IsRightKind};
 ghost use Rattle.regex.specs.Sources.{IsRefusal};
@@ -37,12 +37,12 @@ impl<StorageT: Drop> Drop for LexRule<StorageT> {
 }
 
 impl<StorageT: StorageIndex> LexRule<StorageT> {
-    ghost use Rattle.lrpar_lexer.specs.Rules.{HasPattern, HasPatternBy, token_of};
+    ghost use Rattle.lrpar_lexer.specs.Rules.{HasPattern, HasPatternBy, HasToken};
 
     /// The rule with this pattern and token. Fails as `regex` fails for the pattern. The pattern is compiled only here.
     pub fn new(alloc: Global, pattern: &str, token: Option<TIdx<StorageT>>) -> Result<Self, Error>
         ensures pattern { IfOk result (HasPattern pattern.now) }
-        ensures token { IfOk result (λ rule. token_of StorageT.index rule ≡ option_map (λ token. StorageT.index token.0) token) }
+        ensures token { IfOk result (HasToken StorageT.index token) }
         ensures refused { IfErr result (IsRefusal default_config pattern.now) }
         ensures kind { IfErr result (IsRightKind default_config pattern.now) }
         ensures no_internal { IfErr result (λ error. error ≢ Internal) }
@@ -58,7 +58,7 @@ impl<StorageT: StorageIndex> LexRule<StorageT> {
         token: Option<TIdx<StorageT>>,
     ) -> Result<Self, Error>
         ensures pattern { IfOk result (HasPatternBy config.now pattern.now) }
-        ensures token { IfOk result (λ rule. token_of StorageT.index rule ≡ option_map (λ token. StorageT.index token.0) token) }
+        ensures token { IfOk result (HasToken StorageT.index token) }
         ensures refused { IfErr result (IsRefusal config.now pattern.now) }
         ensures kind { IfErr result (IsRightKind config.now pattern.now) }
         ensures no_internal { IfErr result (λ error. error ≢ Internal) }
@@ -69,7 +69,7 @@ impl<StorageT: StorageIndex> LexRule<StorageT> {
 
     /// The token of the pattern's matches, if they have one.
     pub fn token(&self) -> Option<TIdx<StorageT>>
-        ensures { token_of StorageT.index self.now ≡ option_map (λ token. StorageT.index token.0) result }
+        ensures { HasToken StorageT.index result self.now }
     {
         self.token
     }

@@ -1,10 +1,10 @@
 //! The rules in a tree, by the bytes with which their matches begin.
-ghost use Rattle.std.specs.Prelude.{◌≡◌, ◌<◌, ◌∷◌, ◌++◌, ℕ, false, List, IfOk, IfSome, OnOk, Some, length, map, vec_len};
+ghost use Rattle.std.specs.Prelude.{◌≡◌, ◌<◌, false, IfOk, IfSome, OnOk, length, map, vec_len};
 ghost use Rattle.regex_hir.specs.Re.{literal};
 ghost use Rattle.regex_meta.specs.Programs.{pattern_of as searched_by};
-ghost use Rattle.lrpar_lexer.specs.Anchored.{HasNothingAtStart, after_start};
+ghost use Rattle.lrpar_lexer.specs.Anchored.{after_start};
 ghost use Rattle.lrpar_lexer.specs.Rules.{anchored_of};
-ghost use Rattle.lrpar_lexer.specs.RuleTrees.{AreMet, Grows, IsBranchPushed, IsMet, IsNodePushed, IsRulePushed, IsTree, Meets, branch_to, next_of, rules_at};
+ghost use Rattle.lrpar_lexer.specs.RuleTrees.{AreMet, FindsNoneFrom, HasGrown, IsBranchPushed, IsMetAlong, IsMetFrom, IsMetIn, IsNodePushed, IsRulePushed, IsTree, LeadsToNode, branch_to, next_of, rules_at};
 
 use crate::rule::LexRule;
 use regex_hir::{Hir, Look};
@@ -108,8 +108,8 @@ fn add(
     program: &Program,
 ) -> Result<(), AllocError>
     requires { IsTree nodes.old.items }
-    ensures grows { OnOk result (Grows nodes.old.items nodes.new.items) }
-    ensures met { OnOk result (IsMet nodes.new.items program.now rule) }
+    ensures grows { OnOk result (HasGrown nodes.old nodes.new) }
+    ensures met { OnOk result (IsMetIn nodes.new program.now rule) }
 {
     match plain_text(program) {
         Some(text) => add_text(alloc, nodes, rule, text),
@@ -120,8 +120,8 @@ fn add(
 // Adds a rule at the node of each byte with which a match can begin.
 fn add_starts(nodes: &mut Vec<Node>, rule: usize, program: &Program) -> Result<(), AllocError>
     requires { IsTree nodes.old.items }
-    ensures grows { OnOk result (Grows nodes.old.items nodes.new.items) }
-    ensures met { OnOk result (IsMet nodes.new.items program.now rule) }
+    ensures grows { OnOk result (HasGrown nodes.old nodes.new) }
+    ensures met { OnOk result (IsMetIn nodes.new program.now rule) }
 {
     'bytes: for byte in 0..BYTES {
         add_start(nodes, byte, rule, program)?;
@@ -138,8 +138,8 @@ fn add_start(
 ) -> Result<(), AllocError>
     requires byte { byte < 256 }
     requires within { byte < vec_len nodes.old }
-    ensures grows { OnOk result (Grows nodes.old.items nodes.new.items) }
-    ensures met { OnOk result ((text : List ℕ) → ¬ (Meets nodes.new.items byte text rule) → HasNothingAtStart (searched_by program.now) (byte ∷ text)) }
+    ensures grows { OnOk result (HasGrown nodes.old nodes.new) }
+    ensures met { OnOk result (IsMetFrom nodes.new byte program.now rule) }
 {
     if can_begin(program, byte as u8) {
         push_rule(nodes, byte, rule)?;
@@ -156,8 +156,8 @@ fn add_text(
 ) -> Result<(), AllocError>
     requires tree { IsTree nodes.old.items }
     requires some { 0 < length text.now }
-    ensures grows { OnOk result (Grows nodes.old.items nodes.new.items) }
-    ensures met { OnOk result ((byte : ℕ) (before after : List ℕ) → text.now ≡ byte ∷ before → Meets nodes.new.items byte (before ++ after) rule) }
+    ensures grows { OnOk result (HasGrown nodes.old nodes.new) }
+    ensures met { OnOk result (IsMetAlong nodes.new text.now rule) }
 {
     let mut node = usize::from(text[0]);
     'bytes: for byte in &text[1..] {
@@ -175,8 +175,8 @@ fn next_node(
 ) -> Result<usize, AllocError>
     requires tree { IsTree nodes.old.items }
     requires within { node < vec_len nodes.old }
-    ensures grows { IfOk result (λ next. Grows nodes.old.items nodes.new.items) }
-    ensures leads { IfOk result (λ next. next_of nodes.new.items node byte ≡ Some next) }
+    ensures grows { OnOk result (HasGrown nodes.old nodes.new) }
+    ensures leads { IfOk result (LeadsToNode nodes.new node byte) }
 {
     if let Some(next) = branch_to(&nodes[node].branches, byte) {
         return Ok(next);
@@ -233,7 +233,7 @@ pub(crate) fn plain_text(program: &Program) -> Option<&[u8]>
 
 // Whether a match can begin with the byte.
 fn can_begin(program: &Program, byte: u8) -> bool
-    ensures { result ≡ false → (text : List ℕ) → HasNothingAtStart (searched_by program.now) (byte ∷ text) }
+    ensures { result ≡ false → FindsNoneFrom program.now byte }
 {
     match &program.first {
         Some(bytes) => bytes.find_near(&[byte], 0, 1).is_some(),

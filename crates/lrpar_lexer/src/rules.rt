@@ -1,8 +1,7 @@
 //! The rules of a lexer as a text.
-ghost use Rattle.std.specs.Prelude.{◌≡◌, ◌≢◌, ℕ, List, Option, Some, None, IfErr, IfOk, MatchOption, option_map};
-ghost use Rattle.regex.specs.declared.error.Error.TheVariants.{OutOfMemory};
-ghost use Rattle.lrpar_lexer.specs.RuleLines.{HasEnding, HasGap, ReadsAs, core_of, text_lines};
-ghost use Rattle.lrpar_lexer.specs.RuleTexts.{AreRulesOf, IsFaultOf, IsRuleOf, NamesLine, SaysNoRule, first_named};
+ghost use Rattle.std.specs.Prelude.{◌≡◌, IfErr, IfOk};
+ghost use Rattle.lrpar_lexer.specs.RuleLines.{FindsEnding, FindsGap, FindsParts, core_of};
+ghost use Rattle.lrpar_lexer.specs.RuleTexts.{AreRulesOfText, IsFaultOf, IsFaultOfLine, IsFaultOfName, IsFaultOfPattern, IsFirstNamed, IsRuleOf};
 
 use crate::rule::LexRule;
 use lrpar_grammar::grammar::YaccGrammar;
@@ -45,7 +44,7 @@ pub fn rules_of<StorageT: StorageIndex>(
     grm: &YaccGrammar<StorageT>,
     text: &str,
 ) -> Result<Vec<LexRule<StorageT>>, RulesFault>
-    ensures rules { IfOk result (λ rules. AreRulesOf StorageT.index grm.now (text_lines text.now) rules.items) }
+    ensures rules { IfOk result (AreRulesOfText StorageT.index grm.now text.now) }
     ensures fault { IfErr result (IsFaultOf StorageT.index grm.now text.now) }
 {
     let mut rules = Vec::new(alloc);
@@ -76,7 +75,7 @@ fn rule_of<StorageT: StorageIndex>(
     number: usize,
 ) -> Result<LexRule<StorageT>, RulesFault>
     ensures rule { IfOk result (IsRuleOf StorageT.index grm.now line.now) }
-    ensures fault { IfErr result (NamesLine (λ n why. (n ≡ number) × SaysNoRule grm.now line.now why)) }
+    ensures fault { IfErr result (IsFaultOfLine grm.now number line.now) }
 {
     let Some((pattern, name)) = rule_parts(line) else {
         return Err(RulesFault::Line(number, LineFault::Unread));
@@ -93,7 +92,7 @@ fn rule_of<StorageT: StorageIndex>(
 
 // The fault of a line whose pattern is refused.
 fn refusal(error: &regex::Error, number: usize) -> RulesFault
-    ensures { NamesLine (λ n why. (n ≡ number) × (why ≡ LineFault.Pattern error.now) × (error.now ≢ OutOfMemory)) result }
+    ensures { IsFaultOfPattern number error.now result }
 {
     match error {
         regex::Error::OutOfMemory => RulesFault::Memory,
@@ -107,8 +106,8 @@ fn token_named<StorageT: StorageIndex>(
     name: &str,
     number: usize,
 ) -> Result<TIdx<StorageT>, RulesFault>
-    ensures token { IfOk result (λ token. first_named grm.now name.now ≡ Some (StorageT.index token.0)) }
-    ensures fault { IfErr result (NamesLine (λ n why. (n ≡ number) × (why ≡ LineFault.Unnamed) × (first_named grm.now name.now ≡ None))) }
+    ensures token { IfOk result (IsFirstNamed StorageT.index grm.now name.now) }
+    ensures fault { IfErr result (IsFaultOfName grm.now number name.now) }
 {
     match grm.token_idx(name) {
         Some(token) => Ok(token),
@@ -118,9 +117,7 @@ fn token_named<StorageT: StorageIndex>(
 
 // The pattern of a line, and the name of its token, if it has one.
 fn rule_parts(line: &str) -> Option<(&str, Option<&str>)>
-    ensures { MatchOption result
-        ((pattern : List ℕ) (name : Option (List ℕ)) → ¬ (ReadsAs line.now pattern name))
-        (λ parts. ReadsAs line.now parts.0.now (option_map (λ name. name.now) parts.1)) }
+    ensures { FindsParts line.now result }
 {
     let (front, name) = line_parts(line)?;
     Some((pattern_before_gap(front)?, name))
@@ -128,9 +125,7 @@ fn rule_parts(line: &str) -> Option<(&str, Option<&str>)>
 
 // The text before the ending of a line, and the name of its token, if the ending has one.
 fn line_parts(line: &str) -> Option<(&str, Option<&str>)>
-    ensures { MatchOption result
-        ((front : List ℕ) (name : Option (List ℕ)) → ¬ (HasEnding line.now front name))
-        (λ parts. HasEnding line.now parts.0.now (option_map (λ name. name.now) parts.1)) }
+    ensures { FindsEnding line.now result }
 {
     match line.strip_suffix('\'') {
         Some(quoted) => {
@@ -143,9 +138,7 @@ fn line_parts(line: &str) -> Option<(&str, Option<&str>)>
 
 // The pattern before spaces and tabs, of which there must be at least one.
 fn pattern_before_gap(front: &str) -> Option<&str>
-    ensures { MatchOption result
-        ((pattern : List ℕ) → ¬ (HasGap front.now pattern))
-        (λ pattern. HasGap front.now pattern.now) }
+    ensures { FindsGap front.now result }
 {
     let pattern = front.trim_end_matches([' ', '\t']);
     if pattern.is_empty() || pattern.len() == front.len() {

@@ -1,5 +1,5 @@
 -- The parts of a lexeme, and where lexemes of a list start and end.
-use Rattle.std.specs.Prelude.{ℕ, ◌+◌, ◌-◌, Bool, true, List, length, slice_get}
+use Rattle.std.specs.Prelude.{ℕ, ◌+◌, ◌-◌, Bool, false, true, List, length, slice_get}
 use Rattle.std.specs.Option.{option_map_or}
 use Rattle.lrpar_grammar_places.specs.Span.{Extent}
 use Rattle.lrpar_grammar_places.specs.Facts.{LexemeFacts}
@@ -17,6 +17,13 @@ facts_of index x = record { token = index x.token; span = x.span; faulty = x.fau
 -- the parts of a lexeme of `len` bytes from byte `start` on
 abbrev pub lexeme_parts : {S : Type 0} → S → ℕ → ℕ → Bool → LexemeParts S
 lexeme_parts token start len faulty = record { token = token; span = record { start = start; end = start + len }; faulty = faulty }
+
+-- the parts of such a lexeme that no repair made, and of one that a repair made
+abbrev pub lexeme_at : {S : Type 0} → S → ℕ → ℕ → LexemeParts S
+lexeme_at token start len = lexeme_parts token start len false
+
+abbrev pub faulty_at : {S : Type 0} → S → ℕ → ℕ → LexemeParts S
+faulty_at token start len = lexeme_parts token start len true
 
 -- where the last lexeme ends; 0 if there is none
 abbrev pub last_end : List LexemeFacts → ℕ

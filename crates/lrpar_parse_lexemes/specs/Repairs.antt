@@ -1,7 +1,7 @@
 -- Repairs of the program as the definitions see them. `index` gives the number of a value of the storage type.
-use Rattle.std.specs.Prelude.{◌++◌, ℕ, pos, List, map, Vec}
+use Rattle.std.specs.Prelude.{◌≡◌, ◌++◌, ℕ, pos, Bool, List, map, Vec}
 use Rattle.std.specs.Hash as fed
-use Rattle.lrpar_parse_lexemes.specs.Repair.{Repair, Inserted, Deleted, Shifted}
+use Rattle.lrpar_parse_lexemes.specs.Repair.{Repair, Inserted, Deleted, Shifted, repair_eq}
 use Rattle.lrpar_parse_lexemes.specs.declared.repairs.ParseRepair.{ParseRepair}
 use Rattle.lrpar_parse_lexemes.specs.declared.repairs.ParseRepair.TheVariants.{Insert, Delete, Shift}
 
@@ -10,6 +10,11 @@ abbrev pub repair_of : {X S : Type 0} → (S → ℕ) → ParseRepair X S → Re
 repair_of index (Insert token) = Inserted (index token.0)
 repair_of index (Delete lexeme) = Deleted lexeme
 repair_of index (Shift lexeme) = Shifted lexeme
+
+-- two repairs are equal by `eq` as `repair_eq` says, over the equality `lexeme_eq` of lexemes
+abbrev pub ComparesRepairs : {X S : Type 0} → (S → ℕ) → (X → X → Bool) → (ParseRepair X S → ParseRepair X S → Bool) → Type 0
+ComparesRepairs {X = X} {S = S} index lexeme_eq eq =
+    (x y : ParseRepair X S) → eq x y ≡ repair_eq lexeme_eq (repair_of index x) (repair_of index y)
 
 -- a list of repair sequences
 abbrev pub repairs_of : {X S A : Type 0} → (S → ℕ) → List (Vec (ParseRepair X S) A) → List (List (Repair X))

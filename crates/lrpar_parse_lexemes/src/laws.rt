@@ -1,11 +1,7 @@
 //! Laws about the definitions that contracts cite: each function has one as its contract, and does nothing.
-ghost use Rattle.std.specs.Prelude.{◌≡◌, ◌↔◌, IsTrue};
 ghost use Rattle.lrpar_grammar_places.specs.Comparisons.{HashesAs};
-ghost use Rattle.lrpar_parse_lexemes.specs.Repair.{repair_eq};
-ghost use Rattle.lrpar_parse_lexemes.specs.FaultText.{IsSameFault};
-ghost use Rattle.lrpar_parse_lexemes.specs.Repairs.{repair_input, repair_of};
-ghost use Rattle.lrpar_parse_lexemes.specs.declared.repairs.ParseRepair.{ParseRepair};
-ghost use Rattle.lrpar_parse_lexemes.specs.declared.pp_fault.PpFault.{PpFault};
+ghost use Rattle.lrpar_parse_lexemes.specs.FaultText.{ComparesFaults};
+ghost use Rattle.lrpar_parse_lexemes.specs.Repairs.{ComparesRepairs, repair_input};
 
 use crate::lex_api::Lexeme;
 use crate::pp_fault::PpFault;
@@ -16,12 +12,11 @@ use std::hash::Hash;
 /// Two repairs are equal if and only if they are of one kind and their tokens or lexemes are equal. A repair's hash feeds the hasher
 /// which of the three kinds it is, and then the token's number or the lexeme.
 pub fn repairs_are_compared_by_contents<StorageT: StorageIndex, LexemeT: Lexeme<StorageT>>()
-    ensures equal { (x y : ParseRepair LexemeT StorageT) → ⟦<ParseRepair<LexemeT, StorageT> as PartialEq>⟧.eq x y
-        ≡ repair_eq LexemeT.PartialEq.eq (repair_of StorageT.index x) (repair_of StorageT.index y) }
+    ensures equal { ComparesRepairs StorageT.index LexemeT.PartialEq.eq ⟦<ParseRepair<LexemeT, StorageT> as PartialEq>⟧.eq }
     ensures hash { HashesAs (repair_input StorageT.hash_input LexemeT.hash_input) ⟦<ParseRepair<LexemeT, StorageT> as PartialEq>⟧.eq ⟦<ParseRepair<LexemeT, StorageT> as Hash>⟧.hash_input }
 {}
 
 /// Two faults of a text are equal if and only if both name one token, or both are `Memory`.
 pub fn pp_faults_are_compared_by_contents<StorageT: StorageIndex>()
-    ensures { (x y : PpFault StorageT) → IsTrue (⟦<PpFault<StorageT> as PartialEq>⟧.eq x y) ↔ IsSameFault StorageT.index x y }
+    ensures { ComparesFaults StorageT.index ⟦<PpFault<StorageT> as PartialEq>⟧.eq }
 {}

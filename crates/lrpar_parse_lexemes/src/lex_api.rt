@@ -1,8 +1,8 @@
 //! What a parse takes from its caller: lexemes, lexing errors and lexers.
-ghost use Rattle.std.specs.Prelude.{◌≡◌, ◌+◌, ◌<◌, ◌^◌, ℕ, List, Result, IfOk, true, false, slice_range};
+ghost use Rattle.std.specs.Prelude.{◌≡◌, ◌+◌, ◌<◌, ◌^◌, ℕ, List, Result, IfOk, slice_range};
 ghost use Rattle.std.specs.Str.{IsCharBoundary};
 ghost use Rattle.lrpar_grammar_places.specs.Span.{Extent};
-ghost use Rattle.lrpar_parse_lexemes.specs.Lexemes.{LexemeParts, lexeme_parts};
+ghost use Rattle.lrpar_parse_lexemes.specs.Lexemes.{LexemeParts, faulty_at, lexeme_at};
 ghost use Rattle.lrpar_grammar_places.specs.Lines.{lines_of, line_of, column_of};
 
 use lrpar_grammar_places::span::Span;
@@ -31,12 +31,12 @@ pub trait Lexeme<StorageT>: Copy + Debug + Display + Eq + Hash {
     /// Makes a lexeme of token `tok_id`, with `len` bytes from byte `start` on. It isn't faulty.
     fn new(tok_id: StorageT, start: usize, len: usize) -> Self
         requires fits { start + len < 2 ^ 64 }
-        ensures parts { parts result ≡ lexeme_parts tok_id start len false };
+        ensures parts { parts result ≡ lexeme_at tok_id start len };
 
     /// Makes the lexeme that `new` makes of the same arguments, but faulty: a repair made it, and it needn't be in the input.
     fn new_faulty(tok_id: StorageT, start: usize, len: usize) -> Self
         requires fits { start + len < 2 ^ 64 }
-        ensures parts { parts result ≡ lexeme_parts tok_id start len true };
+        ensures parts { parts result ≡ faulty_at tok_id start len };
 
     /// The number of the lexeme's token.
     fn tok_id(&self) -> StorageT

@@ -1,7 +1,7 @@
 //! Where lexemes start and end, and the lexeme past the last one.
 ghost use Rattle.std.specs.Prelude.{◌≡◌};
-ghost use Rattle.lrpar_parse_lexemes.specs.Lexemes.{last_end, lexeme_past, start_at};
-ghost use Rattle.lrpar_parse_lexemes.specs.Views.{facts_by, known};
+ghost use Rattle.lrpar_parse_lexemes.specs.Lexemes.{last_end, start_at};
+ghost use Rattle.lrpar_parse_lexemes.specs.Views.{IsEndLexeme, known};
 
 use crate::lex_api::Lexeme;
 use lrpar_grammar_places::span::{StorageIndex, TIdx};
@@ -34,8 +34,7 @@ pub fn end_lexeme<StorageT: StorageIndex, LexemeT: Lexeme<StorageT>>(
     end: TIdx<StorageT>,
     lexemes: &[LexemeT],
 ) -> LexemeT
-    ensures { facts_by StorageT.index LexemeT.parts result
-        ≡ lexeme_past (StorageT.index end.0) (known StorageT.index LexemeT.parts lexemes.now) }
+    ensures { IsEndLexeme StorageT.index LexemeT.parts end lexemes.now result }
 {
     let place = end_of::<StorageT, LexemeT>(lexemes);
     LexemeT::new_faulty(end.0, place, 0)
