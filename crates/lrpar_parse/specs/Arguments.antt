@@ -1,7 +1,14 @@
 -- Arguments of actions: lexemes for tokens, and values for rules.
-use Rattle.std.specs.Prelude.{◌≡◌, ◌<◌, ℕ, List}
+use Rattle.std.specs.Prelude.{◌≡◌, ◌<◌, ℕ, List, Vec, map}
 use Rattle.std.specs.List.{AllZip}
+use Rattle.lrpar_grammar_places.specs.Span.{Extent}
+use Rattle.lrpar_grammar_places.specs.declared.span.PIdx.{PIdx}
+use Rattle.lrpar_grammar_places.specs.declared.span.RIdx.{RIdx}
+use Rattle.lrpar_grammar_places.specs.declared.span.Symbol.{Symbol}
 use Rattle.lrpar_grammar.specs.Grammar.{Grammar, GrammarSymbol, Nonterminal, Terminal, rule_of, start_prod, symbols_of}
+use Rattle.lrpar_grammar.specs.Symbols.{symbol_of}
+use Rattle.lrpar_parse_lexemes.specs.Lexemes.{LexemeParts}
+use Rattle.lrpar_parse_lexemes.specs.Views.{token_by}
 use Rattle.lrpar_parse_run.specs.declared.values.AStackType.{AStackType}
 use Rattle.lrpar_parse_run.specs.declared.values.AStackType.TheVariants.{ActionType, Lexeme}
 
@@ -20,3 +27,17 @@ AreArguments token fact taken args = (symbols : List GrammarSymbol) × taken sym
 -- the actions take each production but the start production, with its rule and its symbols
 abbrev pub TakesAll : (ℕ → ℕ → List GrammarSymbol → Type 0) → Grammar → Type 0
 TakesAll taken g = (p : ℕ) → p < start_prod g → taken p (rule_of g p) (symbols_of g p)
+
+-- What is said of a production, by its number and its rule in the code. `index` gives the number of a value of the storage type `S`.
+module _ {S : Type 0} (index : S → ℕ) where
+  -- the actions take it with these symbols
+  abbrev pub TakesSymbols : (ℕ → ℕ → List GrammarSymbol → Type 0) → PIdx S → RIdx S → List (Symbol S) → Type 0
+  TakesSymbols taken prod rule symbols = taken (index prod.0) (index rule.0) (map (symbol_of index) symbols)
+
+  -- the arguments fit it; `parts` gives the parts of a lexeme
+  abbrev pub FitProduction : {X V : Type 0} → (X → LexemeParts S) → (ℕ → V → Type 0) → (ℕ → ℕ → List GrammarSymbol → Type 0) → PIdx S → RIdx S → List (AStackType X V) → Type 0
+  FitProduction parts fact taken prod rule args = AreArguments (token_by index parts) fact (taken (index prod.0) (index rule.0)) args
+
+  -- its value over these arguments may be this one
+  abbrev pub Answers : {L A P V Z : Type 0} → (ℕ → ℕ → L → Extent → List A → P → V → Type 0) → PIdx S → RIdx S → L → Extent → Vec A Z → P → V → Type 0
+  Answers answers prod rule lexer span args param value = answers (index prod.0) (index rule.0) lexer span args.items param value

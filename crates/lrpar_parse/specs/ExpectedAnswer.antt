@@ -1,11 +1,12 @@
 -- The answer of `expected`: what may come next after the lexemes of a lexer.
 use Rattle.std.specs.Prelude.{◌≡◌, ◌<◌, ◌≤◌, ◌↔◌, ◌⊎◌, ℕ, List, ◌∷◌, ◌++◌, Bool, true, false, Option, Some, None, Contains, length, take, Result, IfOk, IsErrOf, Vec}
 use Rattle.lrpar_grammar.specs.Grammar.{Grammar, end_token}
-use Rattle.lrpar_grammar.specs.Sentence.{LexemeFacts, IsFirstBadToken, IsFirstEarlyStart, IsSentence}
+use Rattle.lrpar_grammar.specs.Sentence.{LexemeFacts, IsFirstBadToken, IsFirstEarlyStart, IsSentence, IsValidList}
 use Rattle.lrpar_table_check.specs.Checked.{Checked}
 use Rattle.lrpar_table_conditions.specs.Complete.{IsComplete}
 use Rattle.lrpar_table_stacks.specs.Expected.{AreExpected, tokens_of}
 use Rattle.lrpar_table_check.specs.ExpectedRuns.{FeedsFront}
+use Rattle.lrpar_table_stacks.specs.Overlay.{Overlaid, overlaid}
 use Rattle.lrpar_table_stacks.specs.Reduction.{Feeds}
 use Rattle.lrpar_table_rows.specs.Table.{Table}
 use Rattle.lrpar_table_stacks.specs.Run.{token_at}
@@ -13,7 +14,7 @@ use Rattle.lrpar_table_stacks.specs.Stack.{IsStack, states_of}
 use Rattle.lrpar_grammar_places.specs.declared.span.StIdx.{StIdx}
 use Rattle.lrpar_grammar_places.specs.declared.span.TIdx.{TIdx}
 use Rattle.lrpar_parse_lexemes.specs.Lexemes.{LexemeParts}
-use Rattle.lrpar_parse_lexemes.specs.Views.{token_by}
+use Rattle.lrpar_parse_lexemes.specs.Views.{known, token_by}
 use Rattle.lrpar_parse.specs.Lexed.{first_error, lexemes_of}
 use Rattle.lrpar_parse.specs.Parse.{lexeme_facts}
 use Rattle.lrpar_parse.specs.declared.expected.Expected.{Expected}
@@ -53,6 +54,14 @@ pub record IsExpectedAfter {X : Type 0} (token : X → ℕ) (d : Checked) (lexem
 
 -- Of the program's states and tokens, by their numbers: `index` gives the number of a value of the storage type.
 module _ {S : Type 0} (index : S → ℕ) where
+  -- the lexemes are valid for the grammar; `parts` gives the parts of a lexeme
+  abbrev pub AreValid : {X : Type 0} → (X → LexemeParts S) → Checked → List X → Type 0
+  AreValid parts d lexemes = IsValidList d.grammar (known index parts lexemes)
+
+  -- the states that an overlay has above those that it keeps of its base
+  abbrev pub AreStatesAbove : Overlaid → List (StIdx S) → Type 0
+  AreStatesAbove overlay above = take overlay.kept overlay.base ++ states_of index above ≡ overlaid overlay
+
   module _ (d : Checked) where
     -- the states are a stack of the table
     abbrev pub IsStackOf : List (StIdx S) → Type 0

@@ -13,6 +13,7 @@ use Rattle.lrpar_parse_run.specs.End.{IsOfTree}
 use Rattle.lrpar_parse_run.specs.Folds.{Folds}
 use Rattle.lrpar_parse_run.specs.Made.{made_by}
 use Rattle.lrpar_parse_run.specs.Nodes.{IsNonterm, IsTerm}
+use Rattle.lrpar_parse_run.specs.TreeAnswer.{IsTreeAnswer}
 use Rattle.lrpar_parse_run.specs.declared.values.AStackType.{AStackType}
 use Rattle.lrpar_parse_trees.specs.declared.node.Node.{Node}
 use Rattle.lrpar_parse.specs.Acted.{IsActedValue}
@@ -30,28 +31,32 @@ ExpectsNext index parts parser lexes result = Expects index (facts_by index part
 
 module _ {S X R C : Type 0} (index : S → ℕ) (parts : X → LexemeParts S) (allows : R → Asked X → List (List PlainStep) → Type 0) (parser : Parser R) (lexes : List (Result X C) → Type 0) where
   -- a parse to a value that two functions make of the tree, one for lexemes and one for rules
-  abbrev pub ParsesToMapped : {V L Y Z : Type 0} → (X → V → Type 0) → (RIdx S → Vec V Y → V → Type 0) → Result (Option V × Vec (LexParseError S L X C) Z) ParseFault → Type 0
-  ParsesToMapped fterm fnonterm result =
+  abbrev pub GetsMapped : {V L Y Z : Type 0} → (X → V → Type 0) → (RIdx S → Vec V Y → V → Type 0) → Result (Option V × Vec (LexParseError S L X C) Z) ParseFault → Type 0
+  GetsMapped fterm fnonterm result =
       ParsesTo (subject index parts allows parser) lexes (Folds fterm (made_by index fnonterm) parser.checked.grammar) result
 
   -- a parse to the tree
-  abbrev pub ParsesToTree : {L Z : Type 0} → Result (Option (Node X S) × Vec (LexParseError S L X C) Z) ParseFault → Type 0
-  ParsesToTree result = ParsesTo (subject index parts allows parser) lexes (Folds IsTerm (IsNonterm index) parser.checked.grammar) result
+  abbrev pub GetsTree : {L Z : Type 0} → Result (Option (Node X S) × Vec (LexParseError S L X C) Z) ParseFault → Type 0
+  GetsTree result = ParsesTo (subject index parts allows parser) lexes (Folds IsTerm (IsNonterm index) parser.checked.grammar) result
 
   -- a parse to an entry that represents the tree
-  abbrev pub ParsesToEntry : {E L Z : Type 0} → Building X E → Result (Option E × Vec (LexParseError S L X C) Z) ParseFault → Type 0
-  ParsesToEntry builds result = ParsesTo (subject index parts allows parser) lexes (IsOfTree builds parser.checked) result
+  abbrev pub GetsEntry : {E L Z : Type 0} → Building X E → Result (Option E × Vec (LexParseError S L X C) Z) ParseFault → Type 0
+  GetsEntry builds result = ParsesTo (subject index parts allows parser) lexes (IsOfTree builds parser.checked) result
+
+  -- the run over these lexemes to such an entry, and its errors
+  abbrev pub RunsTo : {E L Z : Type 0} → Building X E → List X → Option E × Vec (LexParseError S L X C) Z → Type 0
+  RunsTo builds lexemes answer = IsTreeAnswer (subject index parts allows parser) builds lexemes answer
 
   -- a parse to a value that actions make of the tree
-  abbrev pub ParsesToActed : {V K P L Z : Type 0} → (ℕ → ℕ → K → Extent → List (AStackType X V) → P → V → Type 0) → (ℕ → V → Type 0) → K → P → Result (Option V × Vec (LexParseError S L X C) Z) ParseFault → Type 0
-  ParsesToActed answers fact lexer param result =
+  abbrev pub GetsActed : {V K P L Z : Type 0} → (ℕ → ℕ → K → Extent → List (AStackType X V) → P → V → Type 0) → (ℕ → V → Type 0) → K → P → Result (Option V × Vec (LexParseError S L X C) Z) ParseFault → Type 0
+  GetsActed answers fact lexer param result =
       ParsesTo (subject index parts allows parser) lexes (IsActedValue (span_by parts) answers fact parser.checked.grammar lexer param) result
 
   -- a parse to a value that a caller's function makes of the tree, or to its error
-  abbrev pub ParsesToGiven : {V E K L Z : Type 0} → (ParseFault → E → Type 0) → (ℕ → ValueArguments K X V → Result V E → Type 0) → K → Result (Option V × Vec (LexParseError S L X C) Z) E → Type 0
-  ParsesToGiven converts gives lexer result =
+  abbrev pub GetsGiven : {V E K L Z : Type 0} → (ParseFault → E → Type 0) → (ℕ → ValueArguments K X V → Result V E → Type 0) → K → Result (Option V × Vec (LexParseError S L X C) Z) E → Type 0
+  GetsGiven converts gives lexer result =
       ParsesToValue (subject index parts allows parser) lexes converts (IsGivenValue (span_by parts) gives parser.checked.grammar lexer) result
 
   -- a parse for the errors alone
-  abbrev pub ParsesForErrors : {L Z : Type 0} → Result (Vec (LexParseError S L X C) Z) ParseFault → Type 0
-  ParsesForErrors result = ParsesToErrors (subject index parts allows parser) lexes result
+  abbrev pub GetsErrors : {L Z : Type 0} → Result (Vec (LexParseError S L X C) Z) ParseFault → Type 0
+  GetsErrors result = ParsesToErrors (subject index parts allows parser) lexes result

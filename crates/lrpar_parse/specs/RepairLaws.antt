@@ -32,11 +32,6 @@ pub record IsSound (g : Grammar) (lexemes i : ℕ) (steps : List PlainStep) : Ty
 abbrev pub SuppliesOne : {X : Type 0} → (Point X → List (List PlainStep) → Type 0) → Type 0
 SuppliesOne {X} allows = (point : Point X) (a b : List (List PlainStep)) → allows point a → allows point b → a ≡ b
 
--- a law of what a recoverer allows at error points holds for each recoverer, each checked table, and each number of lexemes that must
--- follow a repair; `allows` says which answers a recoverer may give
-abbrev pub OfRecoverers : {R X : Type 0} → (R → Asked X → List (List PlainStep) → Type 0) → ((Point X → List (List PlainStep) → Type 0) → Type 0) → Type 0
-OfRecoverers {R} allows Law = (r : R) (d : Checked) (k : ℕ) → Law (allowed_at (allows r) d k)
-
 -- if each of two recoverers has at most one answer at each error point, so have both in turn; `together` says which answers both may give
 abbrev pub BothSupplyOne : {A B X : Type 0} → (A → Asked X → List (List PlainStep) → Type 0) → (B → Asked X → List (List PlainStep) → Type 0) → (TwoRecoverers A B → Asked X → List (List PlainStep) → Type 0) → Type 0
 BothSupplyOne {A} {B} first second together =

@@ -10,7 +10,7 @@ ghost use Rattle.lrpar_parse_run.specs.PlacedRising.{placed_rise};
 ghost use Rattle.lrpar_parse_run.specs.RunStack.{Pops, on_top};
 ghost use Rattle.lrpar_parse_run.specs.Spans.{Rise};
 ghost use Rattle.lrpar_parse.specs.Acted.{acts_by};
-ghost use Rattle.lrpar_parse.specs.Arguments.{AreArguments, IsArgument, TakesAll};
+ghost use Rattle.lrpar_parse.specs.Arguments.{Answers, FitProduction, IsArgument, TakesAll, TakesSymbols};
 
 use lrpar_grammar::grammar::YaccGrammar;
 use lrpar_grammar::span::{PIdx, RIdx, Span, StorageIndex, Symbol};
@@ -48,7 +48,7 @@ pub trait Actions<StorageT: StorageIndex, LexemeT: Lexeme<StorageT>, LexerT> {
         ridx: RIdx<StorageT>,
         symbols: &[Symbol<StorageT>],
     ) -> bool
-        ensures { IsTrue result ↔ taken self.now (StorageT.index pidx.0) (StorageT.index ridx.0) (map (symbol_of StorageT.index) symbols.now) };
+        ensures { IsTrue result ↔ TakesSymbols StorageT.index (taken self.now) pidx ridx symbols.now };
 
     /// The value of a production of rule `ridx`. `args` has an argument for each of its symbols, from left to right: a lexeme for a
     /// token, and a value for a rule. `span` extends from the first symbol's start to the last one's end. A production without symbols
@@ -63,10 +63,9 @@ pub trait Actions<StorageT: StorageIndex, LexemeT: Lexeme<StorageT>, LexerT> {
         args: Vec<AStackType<LexemeT, Self::ActionT>>,
         param: &Self::ParamT,
     ) -> Result<Self::ActionT, AllocError>
-        requires { AreArguments (λ x. StorageT.index (LexemeT.parts x).token) (fact self.now)
-            (taken self.now (StorageT.index pidx.0) (StorageT.index ridx.0)) args.items }
+        requires { FitProduction StorageT.index LexemeT.parts (fact self.now) (taken self.now) pidx ridx args.items }
         ensures fact { IfOk result (fact self.now (StorageT.index ridx.0)) }
-        ensures answers { IfOk result (answers self.now (StorageT.index pidx.0) (StorageT.index ridx.0) lexer.now span args.items param.now) };
+        ensures answers { IfOk result (Answers StorageT.index (answers self.now) pidx ridx lexer.now span args param.now) };
 }
 
 /// Builds the value of a caller's actions.

@@ -1,10 +1,6 @@
 //! What may come next after lexemes: how many of them can be fed, and the tokens that can be fed then.
 ghost use Rattle.std.specs.Prelude.{◌≡◌, ◌<◌, ◌++◌, IfOk, OnOk, take};
-ghost use Rattle.lrpar_table_stacks.specs.Overlay.{overlaid};
-ghost use Rattle.lrpar_table_stacks.specs.Stack.{states_of};
-ghost use Rattle.lrpar_grammar.specs.Sentence.{IsValidList};
-ghost use Rattle.lrpar_parse.specs.ExpectedAnswer.{FeedsFurthest, IsStackOf, MayComeAfter, MayFeed, MayFeedOver};
-ghost use Rattle.lrpar_parse_lexemes.specs.Views.{known};
+ghost use Rattle.lrpar_parse.specs.ExpectedAnswer.{AreStatesAbove, AreValid, FeedsFurthest, IsStackOf, MayComeAfter, MayFeed, MayFeedOver};
 
 use lrpar_grammar::span::{StIdx, StorageIndex, TIdx};
 use lrpar_parse_lexemes::lex_api::Lexeme;
@@ -32,7 +28,7 @@ pub(crate) fn expected_after<StorageT: StorageIndex, LexemeT: Lexeme<StorageT>>(
     checked: &ParserData<StorageT>,
     lexemes: &[LexemeT],
 ) -> Result<(usize, Vec<TIdx<StorageT>>), AllocError>
-    requires valid { IsValidList checked.now.grammar (known StorageT.index LexemeT.parts lexemes.now) }
+    requires valid { AreValid StorageT.index LexemeT.parts checked.now lexemes.now }
     ensures { IfOk result (MayComeAfter StorageT.index LexemeT.parts checked.now lexemes.now) }
 {
     // The contract of `stable` gives that the table is checked.
@@ -49,7 +45,7 @@ fn fed<StorageT: StorageIndex, LexemeT: Lexeme<StorageT>>(
     checked: &ParserData<StorageT>,
     lexemes: &[LexemeT],
 ) -> Result<(usize, Vec<StIdx<StorageT>>), AllocError>
-    requires valid { IsValidList checked.now.grammar (known StorageT.index LexemeT.parts lexemes.now) }
+    requires valid { AreValid StorageT.index LexemeT.parts checked.now lexemes.now }
     ensures furthest { IfOk result (FeedsFurthest StorageT.index LexemeT.parts checked.now lexemes.now) }
     ensures stack { IfOk result (λ fed. IsStackOf StorageT.index checked.now fed.1.items) }
 {
@@ -112,7 +108,7 @@ fn copy_above<StorageT: StorageIndex>(
     overlay: &Overlay<'_, StorageT>,
     above: &mut Vec<StIdx<StorageT>>,
 ) -> Result<(), AllocError>
-    ensures { OnOk result (take overlay.now.kept overlay.now.base ++ states_of StorageT.index above.new.items ≡ overlaid overlay.now) }
+    ensures { OnOk result (AreStatesAbove StorageT.index overlay.now above.new.items) }
 {
     above.clear();
     for at in overlay.kept()..overlay.len() {

@@ -1,14 +1,11 @@
 //! The parser: calls that take a lexer, and return a value or a tree, and the errors.
 ghost use Rattle.std.specs.Prelude.{◌≡◌, ◌<◌, ◌∷◌, ◌↔◌, [], Result, IfErr, IfOk, IfSome, IsOk, IsTrue, option_map};
 ghost use Rattle.lrpar_table_check.specs.Checked.{IsChecked};
-ghost use Rattle.lrpar_grammar.specs.Sentence.{IsValidList};
 ghost use Rattle.lrpar_parse.specs.Arguments.{TakesAll};
 ghost use Rattle.lrpar_parse_run.specs.Entries.{HasValueEntry};
 ghost use Rattle.lrpar_parse_run.specs.declared.values.AStackType.TheVariants.{ActionType};
-ghost use Rattle.lrpar_parse_lexemes.specs.Views.{known};
-ghost use Rattle.lrpar_parse.specs.ParseCalls.{ExpectsNext, ParsesForErrors, ParsesToActed, ParsesToEntry, ParsesToGiven, ParsesToMapped, ParsesToTree};
-ghost use Rattle.lrpar_parse.specs.Parser.{subject};
-ghost use Rattle.lrpar_parse_run.specs.TreeAnswer.{IsTreeAnswer};
+ghost use Rattle.lrpar_parse.specs.ExpectedAnswer.{AreValid};
+ghost use Rattle.lrpar_parse.specs.ParseCalls.{ExpectsNext, GetsErrors, GetsActed, GetsEntry, GetsGiven, GetsMapped, GetsTree, RunsTo};
 
 use crate::actions::Acting;
 pub use crate::actions::Actions;
@@ -121,7 +118,7 @@ impl<
     /// if fewer are left, if all of these can, and the parse then accepts. `count` must be at least 1; the `Err` has the parser as it
     /// was.
     pub fn shifts(self, count: usize) -> Result<Self, ZeroShifts<Self>>
-        ensures set { IfOk result (λ p. p ≡ record { checked = self.entry.checked; recoverer = self.entry.recoverer; shifts = count }) }
+        ensures set { IfOk result (λ p. p ≡ record (self.entry) { shifts = count }) }
         ensures back { IfErr result (λ refused. refused ≡ self.entry) }
         ensures exact { IsOk result ↔ (0 < count) }
     {
@@ -176,7 +173,7 @@ impl<
         requires fterm { F.IsAlwaysCallable fterm }
         requires fnonterm { G.IsAlwaysCallable fnonterm }
         // Out of memory, or the lexer allows an answer, and the result is that of the parse over this answer.
-        ensures parse { ParsesToMapped StorageT.index LexerTypesT.LexemeT.parts R.allows self.now (L.allows lexer.now)
+        ensures parse { GetsMapped StorageT.index LexerTypesT.LexemeT.parts R.allows self.now (L.allows lexer.now)
             (F.post fterm) (G.post fnonterm) result }
     {
         let functions = Functions {
@@ -213,7 +210,7 @@ impl<
     ) -> Result<Answer<StorageT, LexerTypesT, A::ActionT>, ParseFault>
         requires taken { TakesAll (A.taken actions.now) self.now.checked.grammar }
         // Out of memory, or the lexer allows an answer, and the result is that of the parse over this answer.
-        ensures parse { ParsesToActed StorageT.index LexerTypesT.LexemeT.parts R.allows self.now (L.allows lexer.now)
+        ensures parse { GetsActed StorageT.index LexerTypesT.LexemeT.parts R.allows self.now (L.allows lexer.now)
             (A.answers actions.now) (A.fact actions.now) lexer.now param.now result }
     {
         let acting = Acting {
@@ -266,7 +263,7 @@ impl<
         values: &V,
     ) -> Result<Answer<StorageT, LexerTypesT, V::Value>, V::Error>
         // A parse to a value or an error, as that of `parse_actions`, and the result is what comes out of it.
-        ensures parse { ParsesToGiven StorageT.index LexerTypesT.LexemeT.parts R.allows self.now (L.allows lexer.now)
+        ensures parse { GetsGiven StorageT.index LexerTypesT.LexemeT.parts R.allows self.now (L.allows lexer.now)
             V.Error.from_gives (V.gives values.now) lexer.now result }
     {
         come_out(self.parse_actions(alloc, lexer, &Valued { values }, &()))
@@ -287,7 +284,7 @@ impl<
         lexer: &L,
     ) -> Result<Answer<StorageT, LexerTypesT, Node<LexerTypesT::LexemeT, StorageT>>, ParseFault>
         // Out of memory, or the lexer allows an answer, and the result is that of the parse over this answer.
-        ensures parse { ParsesToTree StorageT.index LexerTypesT.LexemeT.parts R.allows self.now (L.allows lexer.now) result }
+        ensures parse { GetsTree StorageT.index LexerTypesT.LexemeT.parts R.allows self.now (L.allows lexer.now) result }
     {
         self.parsed(alloc, lexer, &Trees)
     }
@@ -301,7 +298,7 @@ impl<
         lexer: &L,
     ) -> Result<Vec<LexParseError<StorageT, LexerTypesT>>, ParseFault>
         // Out of memory, or the lexer allows an answer, and the result has the errors of the parse over this answer.
-        ensures parse { ParsesForErrors StorageT.index LexerTypesT.LexemeT.parts R.allows self.now (L.allows lexer.now) result }
+        ensures parse { GetsErrors StorageT.index LexerTypesT.LexemeT.parts R.allows self.now (L.allows lexer.now) result }
     {
         match self.parsed(alloc, lexer, &Nothing) {
             Ok((_, errors)) => Ok(errors),
@@ -359,7 +356,7 @@ impl<
         build: &B,
     ) -> Result<Answer<StorageT, LexerTypesT, B::Entry>, ParseFault>
         requires can { (B.builds build.now).can_build self.now.checked.grammar }
-        ensures parse { ParsesToEntry StorageT.index LexerTypesT.LexemeT.parts R.allows self.now (L.allows lexer.now)
+        ensures parse { GetsEntry StorageT.index LexerTypesT.LexemeT.parts R.allows self.now (L.allows lexer.now)
             (B.builds build.now) result }
     {
         let answers = lexer.iter(alloc)?;
@@ -380,9 +377,8 @@ impl<
         build: &B,
     ) -> Result<Answer<StorageT, LexerTypesT, B::Entry>, AllocError>
         requires can { (B.builds build.now).can_build self.now.checked.grammar }
-        requires valid { IsValidList self.now.checked.grammar (known StorageT.index LexerTypesT.LexemeT.parts lexemes.now) }
-        ensures ran { IfOk result (IsTreeAnswer (subject StorageT.index LexerTypesT.LexemeT.parts R.allows self.now)
-            (B.builds build.now) lexemes.now) }
+        requires valid { AreValid StorageT.index LexerTypesT.LexemeT.parts self.now.checked lexemes.now }
+        ensures ran { IfOk result (RunsTo StorageT.index LexerTypesT.LexemeT.parts R.allows self.now (B.builds build.now) lexemes.now) }
     {
         let whole_run = WholeRun {
             run: Run::new(self.checked, build),

@@ -1,6 +1,7 @@
 //! Values: what a caller's function makes of each production, or its error.
 ghost use Rattle.std.specs.Prelude.{◌≡◌, ◌≢◌, ◌↔◌, ℕ, IfOk, IsTrue, None, Result, Some, is_some};
 ghost use Rattle.lrpar_parse.specs.ValueArguments.{ValueArguments, first_failure};
+ghost use Rattle.lrpar_parse.specs.Arguments.{Answers};
 ghost use Rattle.lrpar_parse.specs.Values.{ComesOut, GivesOrCarries};
 
 use crate::actions::Actions;
@@ -76,7 +77,7 @@ impl<
         param: &(),
     ) -> Result<Result<V::Value, V::Error>, AllocError>
         ensures fact { IfOk result (λ _. Unit {0}) }
-        ensures answers { IfOk result (GivesOrCarries (V.gives self.now.values.now) (StorageT.index pidx.0) (StorageT.index ridx.0) lexer.now span args.items param.now) }
+        ensures answers { IfOk result (Answers StorageT.index (GivesOrCarries (V.gives self.now.values.now)) pidx ridx lexer.now span args param.now) }
     {
         if has_failure(&args) {
             return Ok(Err(first_failure(args)));

@@ -1,9 +1,7 @@
 //! Laws of trees that respect precedences. Each function has one as its contract, and does nothing.
-ghost use Rattle.std.specs.Prelude.{ℕ};
 ghost use Rattle.lrpar_grammar.specs.Sentence.{LexemeFacts};
-ghost use Rattle.lrpar_table_check.specs.Checked.{Checked};
 ghost use Rattle.lrpar_parse_lexemes.specs.Views.{facts_by};
-ghost use Rattle.lrpar_parse_repair.specs.Asked.{allowed_at};
+ghost use Rattle.lrpar_parse_run.specs.Subject.{OfRecoverers};
 ghost use Rattle.lrpar_parse_precedences.specs.OperatorGrammars.{RespectfulTreesAreOne, RespectfulTreesAreTaken};
 ghost use Rattle.lrpar_parse_precedences.specs.PrecedenceTrees.{RepairedTreesRespectPrecedences, TreesRespectPrecedences};
 
@@ -29,7 +27,7 @@ pub fn repaired_trees_respect_precedences<
     LexemeT: Lexeme<StorageT>,
     R: Recoverer<StorageT, LexemeT>,
 >()
-    ensures { (r : R) (d : Checked) (k : ℕ) → RepairedTreesRespectPrecedences (facts_by StorageT.index LexemeT.parts) (allowed_at (R.allows r) d k) }
+    ensures { OfRecoverers R.allows (RepairedTreesRespectPrecedences (facts_by StorageT.index LexemeT.parts)) }
 {}
 
 /// Let a grammar have one rule R, whose productions are atoms, R in brackets, and infix operators with a precedence, each token in one

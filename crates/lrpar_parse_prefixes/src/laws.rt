@@ -1,12 +1,10 @@
 //! Laws about runs over tables that are built of a grammar, and over other viable tables of it: each function has some as its
 //! contract, and does nothing.
-ghost use Rattle.std.specs.Prelude.{ℕ};
 ghost use Rattle.lrpar_grammar.specs.Sentence.{LexemeFacts};
 ghost use Rattle.lrpar_grammar.specs.Sum.{sum_grammar};
 ghost use Rattle.lrpar_parse_lexemes.specs.Views.{facts_by};
-ghost use Rattle.lrpar_parse_repair.specs.Asked.{allowed_at};
+ghost use Rattle.lrpar_parse_run.specs.Subject.{OfRecoverers};
 ghost use Rattle.lrpar_table_rows.specs.Sum.{with_bare_items};
-ghost use Rattle.lrpar_table_check.specs.Checked.{Checked};
 ghost use Rattle.lrpar_parse_prefixes.specs.ErrorStates.{BuiltActionsKeepToSentences, CompleteBuiltActionsFollowSentences, EachErrorComesInTime, ErrorStatesFollowSentences, ErrorStatesKeepToSentences};
 ghost use Rattle.lrpar_parse_prefixes.specs.FirstErrors.{FirstErrorsAreExact, FirstErrorsComeInTime, ViableFirstErrorsAreExact, ViableFirstErrorsComeInTime};
 ghost use Rattle.lrpar_parse_prefixes.specs.Unviable.{ErrsLate, bare_table, stray_graph, stray_table};
@@ -48,8 +46,8 @@ pub fn first_errors_are_where_texts_go_wrong<
     LexemeT: Lexeme<StorageT>,
     R: Recoverer<StorageT, LexemeT>,
 >()
-    ensures in_time { (r : R) (d : Checked) (k : ℕ) → FirstErrorsComeInTime (facts_by StorageT.index LexemeT.parts) (allowed_at (R.allows r) d k) }
-    ensures exact { (r : R) (d : Checked) (k : ℕ) → FirstErrorsAreExact (facts_by StorageT.index LexemeT.parts) (allowed_at (R.allows r) d k) }
+    ensures in_time { OfRecoverers R.allows (FirstErrorsComeInTime (facts_by StorageT.index LexemeT.parts)) }
+    ensures exact { OfRecoverers R.allows (FirstErrorsAreExact (facts_by StorageT.index LexemeT.parts)) }
 {}
 
 /// A table that was built of a grammar is viable, with conflicts or without, and so is one whose conflicts precedences resolve: each
@@ -86,8 +84,8 @@ pub fn viable_first_errors_are_where_texts_go_wrong<
     LexemeT: Lexeme<StorageT>,
     R: Recoverer<StorageT, LexemeT>,
 >()
-    ensures in_time { (r : R) (d : Checked) (k : ℕ) → ViableFirstErrorsComeInTime (facts_by StorageT.index LexemeT.parts) (allowed_at (R.allows r) d k) }
-    ensures exact { (r : R) (d : Checked) (k : ℕ) → ViableFirstErrorsAreExact (facts_by StorageT.index LexemeT.parts) (allowed_at (R.allows r) d k) }
+    ensures in_time { OfRecoverers R.allows (ViableFirstErrorsComeInTime (facts_by StorageT.index LexemeT.parts)) }
+    ensures exact { OfRecoverers R.allows (ViableFirstErrorsAreExact (facts_by StorageT.index LexemeT.parts)) }
 {}
 
 /// No later error of a parse comes too late either, whatever its recoverer, over any table that is safe and viable: a sentence begins
@@ -97,7 +95,7 @@ pub fn viable_errors_come_in_time<
     LexemeT: Lexeme<StorageT>,
     R: Recoverer<StorageT, LexemeT>,
 >()
-    ensures in_time { (r : R) (d : Checked) (k : ℕ) → EachErrorComesInTime (facts_by StorageT.index LexemeT.parts) (allowed_at (R.allows r) d k) }
+    ensures in_time { OfRecoverers R.allows (EachErrorComesInTime (facts_by StorageT.index LexemeT.parts)) }
 {}
 
 /// That a table is safe isn't enough. The small table of sums stays safe if it gets one more state, to which the start state shifts
@@ -133,6 +131,6 @@ pub fn errors_expect_what_can_follow<
     LexemeT: Lexeme<StorageT>,
     R: Recoverer<StorageT, LexemeT>,
 >()
-    ensures keep { (r : R) (d : Checked) (k : ℕ) → ErrorStatesKeepToSentences (facts_by StorageT.index LexemeT.parts) (allowed_at (R.allows r) d k) }
-    ensures follow { (r : R) (d : Checked) (k : ℕ) → ErrorStatesFollowSentences (facts_by StorageT.index LexemeT.parts) (allowed_at (R.allows r) d k) }
+    ensures keep { OfRecoverers R.allows (ErrorStatesKeepToSentences (facts_by StorageT.index LexemeT.parts)) }
+    ensures follow { OfRecoverers R.allows (ErrorStatesFollowSentences (facts_by StorageT.index LexemeT.parts)) }
 {}

@@ -22,5 +22,6 @@ pub mod Stacked
 pub mod Reducing
 pub mod ReducingLaws
 pub mod ReducingView
+pub mod Productions
 pub mod Made
 pub mod Entries

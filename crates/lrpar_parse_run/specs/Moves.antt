@@ -7,7 +7,8 @@ use Rattle.lrpar_table_stacks.specs.Reduction.{top_action}
 use Rattle.lrpar_table_rows.specs.Table.{Accepts}
 use Rattle.lrpar_parse_run.specs.Building.{Building}
 use Rattle.lrpar_parse_repair.specs.Repaired.{Consumes}
-use Rattle.lrpar_parse_lexemes.specs.Lexemes.{start_at}
+use Rattle.lrpar_parse_lexemes.specs.Lexemes.{LexemeParts, start_at}
+use Rattle.lrpar_parse_lexemes.specs.Views.{known}
 use Rattle.lrpar_parse_run.specs.RepairRun.{fed_between}
 use Rattle.lrpar_table_stacks.specs.Run.{Accepted, Far, FarEnd, Stopped}
 use Rattle.lrpar_parse_repair.specs.Sequences.{PlainStep, Replays, StepsTo}
@@ -17,6 +18,10 @@ use Rattle.lrpar_parse_run.specs.RunStack.{Stacked}
 -- the starts of the lexemes don't decrease, and the last one ends no earlier than it starts
 abbrev pub StartsRise : List LexemeFacts → Type 0
 StartsRise lexemes = (i : ℕ) → i < length lexemes → start_at lexemes i ≤ start_at lexemes (i + 1)
+
+-- so do those of the code; `index` gives the number of a value of the storage type, and `parts` the parts of a lexeme
+abbrev pub RiseIn : {S X : Type 0} → (S → ℕ) → (X → LexemeParts S) → List X → Type 0
+RiseIn index parts lexemes = StartsRise (known index parts lexemes)
 
 -- the entries are in order, and none starts past this byte
 abbrev pub RiseUpTo : {E : Type 0} → (List E → ℕ → Type 0) → List E → ℕ → Type 0

@@ -1,7 +1,7 @@
 -- The stack of a run, as plain lists, bottom first: its states, and entries that represent the trees between them. Three relations
 -- say what a parse builds. `leaf x e`: entry e may represent lexeme x. `node p before es e`: e may represent a node of production p
 -- whose children have the entries es, and which has `before` to its left. `suits s e`: e may be an entry of symbol s.
-use Rattle.std.specs.Prelude.{◌≡◌, ◌-◌, ℕ, List, [], ◌∷◌, ◌++◌, length, take, drop, Option, Some, None, Vec}
+use Rattle.std.specs.Prelude.{◌≡◌, ◌-◌, ℕ, List, [], ◌∷◌, ◌++◌, length, reverse, slice_get, take, drop, Option, Some, None, Vec}
 use Rattle.std.specs.List.{AllZip, last_or}
 use Rattle.lrpar_grammar_places.specs.declared.span.StIdx.{StIdx}
 use Rattle.lrpar_grammar.specs.Grammar.{Grammar, GrammarSymbol, Nonterminal, rule_of, prod_len}
@@ -9,6 +9,7 @@ use Rattle.lrpar_grammar.specs.Tree.{Tree, Forest, Leaf, Branch, Nil, Cons}
 use Rattle.lrpar_table_rows.specs.Table.{Table}
 use Rattle.lrpar_table_stacks.specs.Path.{IsPath}
 use Rattle.lrpar_table_stacks.specs.Reduction.{Reduces}
+use Rattle.lrpar_table_stacks.specs.Stack.{top_of}
 
 -- the states, and for each but the lowest the entry of the symbol that led to it
 pub record Stacked (E : Type 0) : Type 0 where
@@ -18,6 +19,22 @@ pub record Stacked (E : Type 0) : Type 0 where
 -- the stacks with this state and no entry
 abbrev pub begun : {E : Type 0} → ℕ → Stacked E
 begun state = record { states = state ∷ []; entries = [] }
+
+-- The same by a state of the code. `index` gives the number of a value of the storage type.
+abbrev pub HasBegun : {S E : Type 0} → (S → ℕ) → StIdx S → Stacked E → Type 0
+HasBegun index state stacks = stacks ≡ begun (index state.0)
+
+-- the state is on top
+abbrev pub IsTopState : {S E : Type 0} → (S → ℕ) → Stacked E → StIdx S → Type 0
+IsTopState index stacks state = top_of stacks.states ≡ Some (index state.0)
+
+-- the state is at this height, counted from 0
+abbrev pub IsStateAt : {S E : Type 0} → (S → ℕ) → Stacked E → ℕ → StIdx S → Type 0
+IsStateAt index stacks at state = slice_get stacks.states at ≡ Some (index state.0)
+
+-- the states stay
+abbrev pub KeepsStates : {E : Type 0} → Stacked E → Stacked E → Type 0
+KeepsStates old new = new.states ≡ old.states
 
 -- a state is pushed, with the entry of the symbol that led to it; `index` gives the number of a value of the storage type
 pub record IsPushed {S E : Type 0} (index : S → ℕ) (state : StIdx S) (entry : E) (old new : Stacked E) : Type 0 where
@@ -35,6 +52,14 @@ below_top n stack = take (length stack - n) stack
 -- the n elements on top are popped
 abbrev pub Pops : {E Z : Type 0} → ℕ → Vec E Z → Vec E Z → Type 0
 Pops n old new = new.items ≡ below_top n old.items
+
+-- the n elements on top are turned round
+abbrev pub TurnsTop : {E Z : Type 0} → ℕ → Vec E Z → Vec E Z → Type 0
+TurnsTop n old new = new.items ≡ below_top n old.items ++ reverse (on_top n old.items)
+
+-- each element of the list is made of one of the n on top, place by place; `makes` says what may be made of an element
+abbrev pub AreOfTop : {E V Y Z : Type 0} → (E → V → Type 0) → ℕ → Vec E Y → Vec V Z → Type 0
+AreOfTop makes n entries made = AllZip makes (on_top n entries.items) made.items
 
 -- the entries that a reduction by p leaves
 abbrev pub kept_by : {E : Type 0} → Grammar → ℕ → List E → List E

@@ -36,6 +36,10 @@ module _ {S X B E : Type 0} (builds : B → Building X E) (run : Run S X B) wher
     pub settles : SettlesTo (builds run.build.now) run.checked.now (index token.0) old new
     pub action_is : plain_action index action ≡ top_action run.checked.now.table (index token.0) new.states
 
+-- the table has entries for the token
+abbrev pub IsTokenOf : {S X B : Type 0} → (S → ℕ) → Run S X B → TIdx S → Type 0
+IsTokenOf index run token = index token.0 < run.checked.now.table.tokens
+
 module _ {S X B : Type 0} (index : S → ℕ) (parts : X → LexemeParts S) (run : Run S X B) where
   -- the table has entries for the lexeme's token, which isn't the end token
   pub record CanTake (x : X) : Type 0 where

@@ -1,10 +1,10 @@
 //! What a parse builds: an entry on the run's stack for each lexeme that is shifted and for each reduction.
 ghost use Rattle.std.specs.Prelude.{OnOk, IfOk};
 ghost use Rattle.lrpar_parse_run.specs.Building.{Building};
-ghost use Rattle.lrpar_parse_run.specs.Reducing.{CanReduce, IsNode};
+ghost use Rattle.lrpar_parse_run.specs.Productions.{CanReduceBy, IsNodeBy, SuitsRule};
 ghost use Rattle.lrpar_parse_run.specs.Rising.{KeepsRising};
 ghost use Rattle.lrpar_parse_run.specs.RunStack.{Pops};
-ghost use Rattle.lrpar_grammar.specs.Grammar.{Grammar, Nonterminal, Terminal, rule_of};
+ghost use Rattle.lrpar_grammar.specs.Grammar.{Grammar, Terminal};
 
 use lrpar_grammar::grammar::YaccGrammar;
 use lrpar_grammar::span::{PIdx, StorageIndex};
@@ -35,10 +35,10 @@ pub trait Build<StorageT: StorageIndex, LexemeT: Lexeme<StorageT>> {
         count: usize,
         entries: &mut Vec<Self::Entry>,
     ) -> Result<Self::Entry, AllocError>
-        requires { CanReduce (builds self.now) grm.now (StorageT.index pidx.now.0) count entries.old.items }
+        requires { CanReduceBy StorageT.index grm.now pidx.now (builds self.now) count entries.old.items }
         ensures kept { OnOk result (Pops count entries.old entries.new) }
-        ensures node { IfOk result (IsNode (builds self.now) grm.now (StorageT.index pidx.now.0) count entries.old.items) }
-        ensures suit { IfOk result ((builds self.now).suits (Nonterminal (rule_of grm.now (StorageT.index pidx.now.0)))) };
+        ensures node { IfOk result (IsNodeBy StorageT.index grm.now pidx.now (builds self.now) count entries.old.items) }
+        ensures suit { IfOk result (SuitsRule StorageT.index grm.now pidx.now (builds self.now).suits) };
 
     ghost rising: { (b : Self) (g : Grammar) → KeepsRising (λ x. (LexemeT.parts x).span.start) (builds b).leaf ((builds b).node g) (builds b).rises };
 }

@@ -1,8 +1,6 @@
 //! Arguments of a caller's actions, with their spans.
-ghost use Rattle.std.specs.Prelude.{◌≡◌, ◌++◌, ℕ};
-ghost use Rattle.std.specs.List.{last_or};
-ghost use Rattle.lrpar_parse_run.specs.Placed.{span_before, spans_of};
-ghost use Rattle.lrpar_parse_run.specs.Spans.{Rise, span_over};
+ghost use Rattle.std.specs.Prelude.{◌≡◌};
+ghost use Rattle.lrpar_parse_run.specs.Placed.{RiseBeside, span_beside};
 
 use lrpar_grammar::span::Span;
 
@@ -15,8 +13,8 @@ pub struct Placed<T> {
 
 /// The span of a production over its `own` entries, which come after the entries `before`.
 pub fn span_of<T>(before: &[Placed<T>], own: &[Placed<T>]) -> Span
-    requires { (start : ℕ) × Rise 0 (spans_of (before.now ++ own.now)) start }
-    ensures { result ≡ span_over (span_before (last_or None before.now)) (spans_of own.now) }
+    requires { RiseBeside before.now own.now }
+    ensures { result ≡ span_beside before.now own.now }
 {
     if own.is_empty() {
         match before.last() {

@@ -25,7 +25,7 @@ impl<'a, StorageT: StorageIndex, LexemeT: Lexeme<StorageT>, B: Build<StorageT, L
     LexemeT,
     B,
 > {
-    ghost use Rattle.lrpar_parse_run.specs.Running.{CanTake, HasSettled, IsReady, IsTaken, NeverSticksOver};
+    ghost use Rattle.lrpar_parse_run.specs.Running.{CanTake, HasSettled, IsReady, IsTaken, IsTokenOf, NeverSticksOver};
 
     pub fn new(checked: &'a ParserData<StorageT>, build: &'a B) -> Self
         ensures checked { result.checked.now ≡ checked.now }
@@ -69,7 +69,7 @@ impl<'a, StorageT: StorageIndex, LexemeT: Lexeme<StorageT>, B: Build<StorageT, L
         token: TIdx<StorageT>,
     ) -> Result<Action<StorageT>, AllocError>
         requires ready { IsReady B.builds self.now stack.old }
-        requires token { StorageT.index token.0 < self.now.checked.now.table.tokens }
+        requires token { IsTokenOf StorageT.index self.now token }
         ensures { IfOk result (HasSettled B.builds self.now StorageT.index token stack.old stack.new) }
     {
         let stable = self.checked.stable();

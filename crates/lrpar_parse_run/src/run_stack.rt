@@ -1,8 +1,9 @@
 //! The stacks of a run: the states, and an entry for each state but the lowest.
-ghost use Rattle.std.specs.Prelude.{◌≡◌, ◌<◌, [], ◌∷◌, length, slice_get, Some, OnErr, OnOk, IfOk};
-ghost use Rattle.lrpar_table_stacks.specs.Stack.{states_of, top_of};
-ghost use Rattle.lrpar_parse_run.specs.Reducing.{CanReduce, IsReducedBy, reduced_by};
-ghost use Rattle.lrpar_parse_run.specs.RunStack.{IsPushed, begun};
+ghost use Rattle.std.specs.Prelude.{◌≡◌, ◌<◌, [], ◌∷◌, length, OnErr, OnOk, IfOk};
+ghost use Rattle.lrpar_table_stacks.specs.Stack.{states_of};
+ghost use Rattle.lrpar_parse_run.specs.Productions.{CanReduceBy};
+ghost use Rattle.lrpar_parse_run.specs.Reducing.{IsReducedBy, reduced_by};
+ghost use Rattle.lrpar_parse_run.specs.RunStack.{HasBegun, IsPushed, IsStateAt, IsTopState, KeepsStates};
 
 use crate::building::Build;
 use lrpar_grammar::grammar::YaccGrammar;
@@ -31,7 +32,7 @@ impl<StorageT: StorageIndex, E: Drop> Model for Stack<StorageT, E> {
 impl<StorageT: StorageIndex, E: Drop> Stack<StorageT, E> {
     /// The stack with one state and no entry. `Err`: out of memory.
     pub fn new(alloc: Global, start: StIdx<StorageT>) -> Result<Self, AllocError>
-        ensures { IfOk result (λ stack. stack ≡ begun (StorageT.index start.0)) }
+        ensures { IfOk result (HasBegun StorageT.index start) }
     {
         let mut states = Vec::new(alloc);
         states.push(start)?;
@@ -58,7 +59,7 @@ impl<StorageT: StorageIndex, E: Drop> Stack<StorageT, E> {
     /// The top state.
     pub fn top(&self) -> StIdx<StorageT>
         requires { 0 < length self.now.states }
-        ensures { top_of self.now.states ≡ Some (StorageT.index result.0) }
+        ensures { IsTopState StorageT.index self.now result }
     {
         self.states[self.states.len() - 1]
     }
@@ -66,7 +67,7 @@ impl<StorageT: StorageIndex, E: Drop> Stack<StorageT, E> {
     /// The state at this height, counted from 0.
     pub fn state_at(&self, at: usize) -> StIdx<StorageT>
         requires { at < length self.now.states }
-        ensures { slice_get self.now.states at ≡ Some (StorageT.index result.0) }
+        ensures { IsStateAt StorageT.index self.now at result }
     {
         self.states[at]
     }
@@ -89,11 +90,11 @@ impl<StorageT: StorageIndex, E: Drop> Stack<StorageT, E> {
         grm: &YaccGrammar<StorageT>,
         by: Reduction<StorageT>,
     ) -> Result<(), AllocError>
-        requires can { CanReduce (B.builds build.now) grm.now (StorageT.index by.prod.0) by.symbols self.old.entries }
+        requires can { CanReduceBy StorageT.index grm.now by.prod (B.builds build.now) by.symbols self.old.entries }
         requires deep { by.symbols < length self.old.states }
         ensures states { OnOk result (self.new.states ≡ reduced_by StorageT.index by self.old.states) }
         ensures entries { OnOk result (IsReducedBy StorageT.index (B.builds build.now) grm.now by self.old.entries self.new.entries) }
-        ensures unchanged { OnErr result (self.new.states ≡ self.old.states) }
+        ensures unchanged { OnErr result (KeepsStates self.old self.new) }
     {
         let entry = build.reduced(alloc, grm, &by.prod, by.symbols, &mut self.entries)?;
         self.entries.push(entry)?;

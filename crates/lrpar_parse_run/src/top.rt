@@ -1,7 +1,6 @@
 //! A list made of the entries on top of a stack.
-ghost use Rattle.std.specs.Prelude.{◌≡◌, ◌≤◌, ◌-◌, ◌++◌, IfOk, OnOk, length, reverse};
-ghost use Rattle.std.specs.List.{AllZip};
-ghost use Rattle.lrpar_parse_run.specs.RunStack.{Pops, below_top, on_top};
+ghost use Rattle.std.specs.Prelude.{◌≡◌, ◌≤◌, ◌-◌, IfOk, OnOk, length};
+ghost use Rattle.lrpar_parse_run.specs.RunStack.{AreOfTop, Pops, TurnsTop};
 
 use std::alloc::{AllocError, Global};
 
@@ -17,7 +16,7 @@ pub fn made_of_top<E: Drop, V: Drop, F: Fn(E) -> V>(
     requires callable { F.IsAlwaysCallable make.now }
     requires deep { count ≤ length entries.old.items }
     ensures kept { OnOk result (Pops count entries.old entries.new) }
-    ensures made { IfOk result (λ made. AllZip (F.post make.now) (on_top count entries.old.items) made.items) }
+    ensures made { IfOk result (AreOfTop (F.post make.now) count entries.old) }
 {
     let at = turn_top(count, entries);
     let mut made = Vec::with_capacity(alloc, count)?;
@@ -32,7 +31,7 @@ pub fn made_of_top<E: Drop, V: Drop, F: Fn(E) -> V>(
 fn turn_top<E>(count: usize, entries: &mut Vec<E>) -> usize
     requires { count ≤ length entries.old.items }
     ensures below { result ≡ length entries.old.items - count }
-    ensures turned { entries.new.items ≡ below_top count entries.old.items ++ reverse (on_top count entries.old.items) }
+    ensures turned { TurnsTop count entries.old entries.new }
 {
     let at = entries.len() - count;
     entries[at..].reverse();

@@ -1,7 +1,8 @@
 //! Building the tree of a parse.
-ghost use Rattle.std.specs.Prelude.{◌<◌, ◌≤◌, IfOk, OnOk, length};
-ghost use Rattle.lrpar_grammar.specs.Grammar.{rule_of, start_prod};
+ghost use Rattle.std.specs.Prelude.{◌≤◌, IfOk, OnOk, length};
+ghost use Rattle.lrpar_grammar.specs.Grammar.{rule_of};
 ghost use Rattle.lrpar_parse_run.specs.Nodes.{IsNonterm, IsTerm};
+ghost use Rattle.lrpar_parse_run.specs.Productions.{IsListed, IsNontermBy};
 ghost use Rattle.lrpar_parse_run.specs.RunStack.{Pops, on_top};
 
 use crate::building::Build;
@@ -38,10 +39,10 @@ impl<StorageT: StorageIndex, LexemeT: Lexeme<StorageT>> Build<StorageT, LexemeT>
         count: usize,
         entries: &mut Vec<Node<LexemeT, StorageT>>,
     ) -> Result<Node<LexemeT, StorageT>, AllocError>
-        requires listed { StorageT.index pidx.now.0 < start_prod grm.now }
+        requires listed { IsListed StorageT.index grm.now pidx.now }
         requires deep { count ≤ length entries.old.items }
         ensures kept { OnOk result (Pops count entries.old entries.new) }
-        ensures node { IfOk result (IsNonterm StorageT.index (rule_of grm.now (StorageT.index pidx.now.0)) (on_top count entries.old.items)) }
+        ensures node { IfOk result (IsNontermBy StorageT.index grm.now pidx.now (on_top count entries.old.items)) }
     {
         let ridx = grm.prod_to_rule(*pidx);
         let nodes = entries.split_off(entries.len() - count)?;

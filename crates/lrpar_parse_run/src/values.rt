@@ -1,10 +1,10 @@
 //! Building a value with a caller's two functions, one for lexemes and one for rules.
-ghost use Rattle.std.specs.Prelude.{◌<◌, ◌≤◌, IfOk, OnOk, length};
-ghost use Rattle.std.specs.List.{AllZip};
-ghost use Rattle.lrpar_grammar.specs.Grammar.{Nonterminal, rule_of, start_prod};
+ghost use Rattle.std.specs.Prelude.{◌≤◌, IfOk, OnOk, length};
+ghost use Rattle.lrpar_grammar.specs.Grammar.{rule_of};
 ghost use Rattle.lrpar_parse_run.specs.Entries.{Gives, IsLexemeEntry, IsMadeEntry, SuitsSymbol};
 ghost use Rattle.lrpar_parse_run.specs.Made.{made_by};
-ghost use Rattle.lrpar_parse_run.specs.RunStack.{Pops, on_top};
+ghost use Rattle.lrpar_parse_run.specs.Productions.{IsListed, SuitsRule};
+ghost use Rattle.lrpar_parse_run.specs.RunStack.{AreOfTop, Pops, on_top};
 
 use crate::building::Build;
 use crate::top::made_of_top;
@@ -62,12 +62,12 @@ impl<
         entries: &mut Vec<AStackType<LexemeT, V>>,
     ) -> Result<AStackType<LexemeT, V>, AllocError>
         requires can { F.IsAlwaysCallable self.now.fterm.now × G.IsAlwaysCallable self.now.fnonterm.now }
-        requires listed { StorageT.index pidx.now.0 < start_prod grm.now }
+        requires listed { IsListed StorageT.index grm.now pidx.now }
         requires deep { count ≤ length entries.old.items }
         ensures kept { OnOk result (Pops count entries.old entries.new) }
         ensures node { IfOk result (IsMadeEntry (F.post self.now.fterm.now) (made_by StorageT.index (G.post self.now.fnonterm.now))
             (rule_of grm.now (StorageT.index pidx.now.0)) (on_top count entries.old.items)) }
-        ensures suit { IfOk result (SuitsSymbol (Nonterminal (rule_of grm.now (StorageT.index pidx.now.0)))) }
+        ensures suit { IfOk result (SuitsRule StorageT.index grm.now pidx.now SuitsSymbol) }
     {
         let values = values_of(alloc, self.fterm, count, entries)?;
         let ridx = grm.prod_to_rule(*pidx);
@@ -88,7 +88,7 @@ fn values_of<LexemeT: Copy, V: Drop, F: Fn(LexemeT) -> V>(
     requires callable { F.IsAlwaysCallable fterm.now }
     requires deep { count ≤ length entries.old.items }
     ensures kept { OnOk result (Pops count entries.old entries.new) }
-    ensures values { IfOk result (λ values. AllZip (Gives (F.post fterm.now)) (on_top count entries.old.items) values.items) }
+    ensures values { IfOk result (AreOfTop (Gives (F.post fterm.now)) count entries.old) }
 {
     let value_of = |entry: AStackType<LexemeT, V>| -> V
         requires { F.IsAlwaysCallable fterm.now }

@@ -3,7 +3,7 @@
 ghost use Rattle.std.specs.Prelude.{◌<◌, ◌≤◌, IfOk, length};
 ghost use Rattle.lrpar_grammar.specs.Sentence.{IsValidList};
 ghost use Rattle.lrpar_parse_lexemes.specs.Views.{known};
-ghost use Rattle.lrpar_parse_run.specs.Moves.{StartsRise};
+ghost use Rattle.lrpar_parse_run.specs.Moves.{RiseIn};
 
 use crate::building::Build;
 use crate::run::Run;
@@ -159,7 +159,7 @@ fn starts_rise<StorageT: StorageIndex, LexemeT: Lexeme<StorageT>>(
     lexemes: &[LexemeT],
 )
     requires { IsValidList grm.now (known StorageT.index LexemeT.parts lexemes.now) }
-    ensures { StartsRise (known StorageT.index LexemeT.parts lexemes.now) }
+    ensures { RiseIn StorageT.index LexemeT.parts lexemes.now }
 {
     if let Some(last) = lexemes.last() {
         let _start = last.span().start();

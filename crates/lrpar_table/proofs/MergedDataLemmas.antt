@@ -13,7 +13,7 @@ use Rattle.lrpar_table_merge.proofs.MergedByNoneLemmas.{merged_by_none_is_merged
 use Rattle.lrpar_table_merge.proofs.MergedCompleteLemmas.{merged_tables_are_complete_without_conflicts}
 use Rattle.lrpar_table_merge.proofs.MergedViableLemmas.{merged_tables_are_viable}
 use Rattle.lrpar_table_merge.specs.declared.build.Minimiser.TheVariants.{Pager}
-use Rattle.lrpar_table.specs.MergedParserData.{IsMergedParserData, IsMinimisedData, IsUnmerged, IsUnminimised}
+use Rattle.lrpar_table.specs.MergedParserData.{IsMergedData, IsMinimisedData, IsUnmerged, IsUnminimised}
 use Rattle.lrpar_table.specs.declared.build.Unbuilt.{Unbuilt}
 use Rattle.lrpar_table.specs.declared.build.Unbuilt.TheVariants.{Chains, Table}
 
@@ -25,7 +25,7 @@ merged_alone g lists graph table none merged =
 
 -- a checked table by the minimiser Pager and no precedences is one with merged item sets
 pub merged_data : (g : Grammar) (lists : PrecedenceLists) (most bound : ℕ) (d : Checked) → lists ≡ no_precedences
-    → IsMinimisedData Pager g lists most bound d → IsMergedParserData g most bound d
+    → IsMinimisedData Pager g lists most bound d → IsMergedData g most bound d
 merged_data g lists most bound d none made =
     let here : IsMerged g d.graph d.table = merged_alone g lists d.graph d.table none made.built in
     let there : IsMerged d.grammar d.graph d.table = subst (λ (x : Grammar). IsMerged x d.graph d.table) (sym made.grammar) here in record {

@@ -14,7 +14,7 @@ use Rattle.lrpar_table.specs.declared.build.Unbuilt.TheVariants.{Chains, Table}
 
 -- the checked table has merged item sets of the grammar, at most `most`, and has this cap; it is viable, and complete if and only if
 -- it has no conflicts
-pub record IsMergedParserData (g : Grammar) (most cap : ℕ) (d : Checked) : Type 0 where
+pub record IsMergedData (g : Grammar) (most cap : ℕ) (d : Checked) : Type 0 where
   pub grammar : d.grammar ≡ g
   pub cap_is : d.cap ≡ cap
   pub merged : IsMerged g d.graph d.table

@@ -1,6 +1,6 @@
 //! The table builder, and the checked table of a grammar alone.
 ghost use Rattle.std.specs.Prelude.{IfErr, IfOk};
-ghost use Rattle.lrpar_table.specs.MergedParserData.{IsMergedParserData, IsMinimisedData, IsUnmerged, IsUnminimised};
+ghost use Rattle.lrpar_table.specs.MergedParserData.{IsMergedData, IsMinimisedData, IsUnmerged, IsUnminimised};
 ghost use Rattle.lrpar_table.specs.ParserData.{IsParserDataBy, IsParserDataOf, IsUnbuilt, IsUnbuiltBy};
 
 use lrpar_grammar::grammar::YaccGrammar;
@@ -94,7 +94,7 @@ pub fn merged_parser_data<StorageT: StorageIndex>(
     max_states: usize,
     cap: u16,
 ) -> Result<ParserData<StorageT>, Unbuilt<StorageT>>
-    ensures built { IfOk result (IsMergedParserData grm max_states cap) }
+    ensures built { IfOk result (IsMergedData grm max_states cap) }
     ensures refused { IfErr result (IsUnmerged grm max_states cap) }
 {
     let precedences = Precedences::none(alloc);

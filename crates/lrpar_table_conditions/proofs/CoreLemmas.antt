@@ -11,6 +11,8 @@ use Rattle.lrpar_grammar_places.specs.declared.span.Symbol.{Symbol}
 use Rattle.lrpar_table_rows.specs.Graph.{Graph, HasCore}
 use Rattle.lrpar_table_rows.specs.PlainItems.{core_of}
 use Rattle.lrpar_table_rows.specs.PlainRows.{plain_goto}
+use Rattle.lrpar_table_conditions.specs.Tested.{HasCoreIn, IsTestable}
+use Rattle.lrpar_table_conditions.specs.declared.completeness_test.Completeness.{Completeness}
 use Rattle.lrpar_table_rows.specs.Safe.{CoresFollow, GoesBy, HasShape, StepsFromCores}
 use Rattle.lrpar_table_rows.specs.Table.{Table, ShiftTo, action_of, goto_of}
 use Rattle.lrpar_table_rows.proofs.ItemLemmas.{Contains-image}
@@ -32,6 +34,11 @@ begun_read index graph s cores i core all below read =
 pub core_in_shape : (g : Grammar) (graph : Graph) (table : Table) (s p k : ℕ) → HasShape g graph table → HasCore graph s p k
     → (p < prods_len g) × (k ≤ prod_len g p)
 core_in_shape g graph table s p k shape has = let item = shape.items s p k has.0 has.1 in (item.prod, item.dot)
+
+-- so is a core of a state of the parts that are tested
+pub core_known : {S : Type 0} (index : S → ℕ) (parts : Completeness S) (s : StIdx S) (prod : PIdx S) (dot : ℕ) → IsTestable parts → HasCoreIn index parts s prod dot
+    → (index prod.0 < prods_len parts.grm.now) × (dot ≤ prod_len parts.grm.now (index prod.0))
+core_known index parts s prod dot known core = core_in_shape parts.grm.now parts.sgraph.now parts.stable.now (index s.0) (index prod.0) dot known.shape core
 
 -- a symbol that was read is the symbol of the right side
 pub symbol_read : {S : Type 0} (index : S → ℕ) (xs : List (Symbol S)) (ys : List GrammarSymbol) (k : ℕ) (x : Symbol S)

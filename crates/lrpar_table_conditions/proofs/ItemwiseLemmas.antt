@@ -3,7 +3,7 @@ use Rattle.std.proofs.Common.{◌≡◌, ◌≢◌, ◌<◌, ◌≤◌, ◌+◌,
 use Rattle.std.proofs.lemmas.Bool.{cases_eq, eq-eqb, eqb-true, false≢true, false_from_ne_true, or_cases, or_left, or_right}
 use Rattle.std.proofs.lemmas.List.{drop_more, get_or-set_other, get_or-set_same, length-map, length-set, length-take-le, take_all, take_more}
 use Rattle.std.proofs.lemmas.List.Elements.{All-contains, All-contains_itself, All-set, Contains-append_left, Contains-push, Contains-push_cases}
-use Rattle.std.proofs.lemmas.Option.{get_or_from_slice_get, slice_get_within}
+use Rattle.std.proofs.lemmas.Option.{get_or_from_slice_get, same_Some, slice_get_within}
 use Rattle.std.specs.List.{Contains, HoldsAt}
 use Rattle.std.specs.Option.{option_map_or}
 use Rattle.lrpar_grammar_places.specs.declared.span.PIdx.{PIdx}
@@ -24,7 +24,10 @@ use Rattle.lrpar_table_rows.specs.PlainRows.{plain_action}
 use Rattle.lrpar_table_rows.specs.Table.{Table, TableAction, ShiftTo, ReduceBy, Accepts, Fails, action_of}
 use Rattle.lrpar_table_rows.specs.declared.rows.Action.{Action}
 use Rattle.lrpar_table_rows.specs.declared.rows.Action.TheVariants.{Shift, Reduce, Accept, Error}
-use Rattle.lrpar_table_conditions.specs.Complete.{CarriesItem, ClosesItem, EndsItem, ShiftsItem, StepsOn, EachItem, IsCompleteAt}
+use Rattle.lrpar_table_conditions.specs.Complete.{ClosesItem, EndsItem, StepsOn, EachItem, IsCompleteAt}
+use Rattle.lrpar_table_conditions.specs.Tested.{HasCoreIn, HasSetsIn, IsTestable}
+use Rattle.lrpar_table_conditions.specs.declared.completeness_test.Completeness.{Completeness}
+use Rattle.lrpar_table_conditions.proofs.CoreLemmas.{core_known}
 use Rattle.lrpar_table_conditions.specs.Itemwise.{AreStartsOf, ClosesAmong, EachOfCore, EndsBy, HaveStarts, ItemHolds}
 use Rattle.lrpar_table_conditions.specs.declared.completeness.CompletenessCondition.{CompletenessCondition}
 use Rattle.lrpar_table_conditions.specs.declared.completeness.CompletenessCondition.TheVariants.{C1, C2, C3, C4, C5}
@@ -208,39 +211,32 @@ closes_by_starts g graph s p k t rows starts = (
   λ closes r w further q b known by first. (starts q b).1 (closes r w further q b known by first),
 )
 
--- C3 by the token after the dot
-pub shifts_each : (g : Grammar) (graph : Graph) (table : Table) (s p k a : ℕ) (test : Bool) → slice_get (symbols_of g p) k ≡ Some (Terminal a)
-    → IsTrue test ↔ EachOfCore graph s p k (StepsOn graph table s (Terminal a)) → IsTrue test ↔ EachOfCore graph s p k (ShiftsItem g graph table s)
-shifts_each g graph table s p k a test at decides =
-    each_same (HasItem graph s p k) (StepsOn graph table s (Terminal a) p k) (ShiftsItem g graph table s p k) test
+-- the number of a token, and that of a rule, is the symbol's own
+pub tokens_apart : (a b : ℕ) → Terminal a ≡ Terminal b → a ≡ b
+tokens_apart a b same = cc
+
+pub rules_apart : (a b : ℕ) → Nonterminal a ≡ Nonterminal b → a ≡ b
+rules_apart a b same = cc
+
+-- what a core steps on: C3 by the token after the dot, C4 by the rule
+abbrev pub StepsOf : (ℕ → GrammarSymbol) → Grammar → Graph → Table → ℕ → ℕ → ℕ → ℕ → Type 0
+StepsOf kind g graph table s p k t = (n : ℕ) → slice_get (symbols_of g p) k ≡ Some (kind n) → StepsOn graph table s (kind n) p k t
+
+-- the symbol after the dot is of this kind: it decides
+pub each_of_kind : (kind : ℕ → GrammarSymbol) → ((a b : ℕ) → kind a ≡ kind b → a ≡ b) → (g : Grammar) (graph : Graph) (table : Table) (s p k n : ℕ) (test : Bool)
+    → slice_get (symbols_of g p) k ≡ Some (kind n) → IsTrue test ↔ EachOfCore graph s p k (StepsOn graph table s (kind n))
+    → IsTrue test ↔ EachOfCore graph s p k (StepsOf kind g graph table s)
+each_of_kind kind apart g graph table s p k n test at decides =
+    each_same (HasItem graph s p k) (StepsOn graph table s (kind n) p k) (StepsOf kind g graph table s p k) test
     (λ t. (
-      λ step b further.
-          let both : Some (Terminal a) ≡ Some (Terminal b) = sym at ∙ further in
-          let same : a ≡ b = cc in
-          subst (λ (n : ℕ). StepsOn graph table s (Terminal n) p k t) same step,
-      λ shifts. shifts a at,
+      λ step m further. subst (λ (x : ℕ). StepsOn graph table s (kind x) p k t) (apart n m (same_Some _ _ (sym at ∙ further))) step,
+      λ steps. steps n at,
     )) decides
 
-pub nothing_to_shift : (g : Grammar) (graph : Graph) (table : Table) (s p k : ℕ) → ((a : ℕ) → slice_get (symbols_of g p) k ≢ Some (Terminal a))
-    → IsTrue true ↔ EachOfCore graph s p k (ShiftsItem g graph table s)
-nothing_to_shift g graph table s p k none = accepted (λ t has a further. absurd (none a further))
-
--- C4 by the rule after the dot
-pub carries_each : (g : Grammar) (graph : Graph) (table : Table) (s p k r : ℕ) (test : Bool) → slice_get (symbols_of g p) k ≡ Some (Nonterminal r)
-    → IsTrue test ↔ EachOfCore graph s p k (StepsOn graph table s (Nonterminal r)) → IsTrue test ↔ EachOfCore graph s p k (CarriesItem g graph table s)
-carries_each g graph table s p k r test at decides =
-    each_same (HasItem graph s p k) (StepsOn graph table s (Nonterminal r) p k) (CarriesItem g graph table s p k) test
-    (λ t. (
-      λ step b further.
-          let both : Some (Nonterminal r) ≡ Some (Nonterminal b) = sym at ∙ further in
-          let same : r ≡ b = cc in
-          subst (λ (n : ℕ). StepsOn graph table s (Nonterminal n) p k t) same step,
-      λ carries. carries r at,
-    )) decides
-
-pub nothing_to_carry : (g : Grammar) (graph : Graph) (table : Table) (s p k : ℕ) → ((r : ℕ) → slice_get (symbols_of g p) k ≢ Some (Nonterminal r))
-    → IsTrue true ↔ EachOfCore graph s p k (CarriesItem g graph table s)
-nothing_to_carry g graph table s p k none = accepted (λ t has r further. absurd (none r further))
+-- and it isn't: nothing is asked
+pub nothing_to_step : (kind : ℕ → GrammarSymbol) (g : Grammar) (graph : Graph) (table : Table) (s p k : ℕ) → ((n : ℕ) → slice_get (symbols_of g p) k ≢ Some (kind n))
+    → IsTrue true ↔ EachOfCore graph s p k (StepsOf kind g graph table s)
+nothing_to_step kind g graph table s p k none = accepted (λ t has n further. absurd (none n further))
 
 -- a transition, by the state to which it leads
 pub steps_each : (graph : Graph) (table : Table) (s : ℕ) (x : GrammarSymbol) (next p k : ℕ) (test : Bool) → GoesBy table s x next
@@ -386,6 +382,12 @@ starts_len g sets room = sym (length-map sets (λ s. s.bits.items)) ∙ room.pro
 pub start_within : (g : Grammar) (sets : List TokenSet) (p prod : ℕ) → HaveStarts g (rows_of sets) → p < prods_len g → prod ≡ p → prod < length sets
 start_within g sets p prod room known is = let count = room.prods in omega (arith, count, known, is, length-map sets (λ s. s.bits.items))
 
+-- so has that of a core of a state
+pub start_of_core : {S : Type 0} (index : S → ℕ) (parts : Completeness S) (s : StIdx S) (prod : PIdx S) (dot : ℕ) (starts : List TokenSet) (place : ℕ) → IsTestable parts
+    → HasCoreIn index parts s prod dot → HasSetsIn parts starts → place ≡ index prod.0 → place < length starts
+start_of_core index parts s prod dot starts place known core room is =
+    start_within parts.grm.now starts (index prod.0) place room (core_known index parts s prod dot known core).0 is
+
 -- it is as wide as all sets
 pub start_wide : (g : Grammar) (sets : List TokenSet) (prod : ℕ) (d : TokenSet) → HaveStarts g (rows_of sets) → prod < length sets
     → length (get_or sets prod d).bits.items ≡ dummy_lookahead g + 1
@@ -523,6 +525,12 @@ of_rule_known {S} index g r prods i pidx are within is =
     let known = (each_of_rule g r (λ q. q < prods_len g)).1 (λ q h by. h) in
     let all = subst (λ (qs : List ℕ). All (λ q. q < prods_len g) qs) (sym are) known in
     subst (λ (x : PIdx S). index x.0 < prods_len g) (sym is) (All-map-at (λ q. q < prods_len g) (λ (x : PIdx S). index x.0) prods all i pidx within)
+
+-- and it has a set
+pub start_of_rule : {S : Type 0} (index : S → ℕ) (g : Grammar) (r : ℕ) (prods : List (PIdx S)) (i : ℕ) (pidx : PIdx S) (starts : List TokenSet) (place : ℕ)
+    → map (λ p. index p.0) prods ≡ prods_of g r → i < length prods → pidx ≡ get_or prods i pidx → HaveStarts g (rows_of starts) → place ≡ index pidx.0 → place < length starts
+start_of_rule index g r prods i pidx starts place are within read room is =
+    start_within g starts (index pidx.0) place room (of_rule_known index g r prods i pidx are within read) is
 
 -- a condition is in the list at the place one less than its number
 pub listed_at : (condition : CompletenessCondition) → get_or ALL (condition_number condition - 1) condition ≡ condition

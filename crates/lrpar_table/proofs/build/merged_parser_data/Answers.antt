@@ -1,6 +1,6 @@
 use Rattle.std.proofs.lemmas.Result.{IfErr-weaker, IfOk-weaker}
 use Rattle.lrpar_table_merge.specs.declared.build.Minimiser.TheVariants.{Pager}
-use Rattle.lrpar_table.specs.MergedParserData.{IsMergedParserData, IsMinimisedData, IsUnmerged, IsUnminimised}
+use Rattle.lrpar_table.specs.MergedParserData.{IsMergedData, IsMinimisedData, IsUnmerged, IsUnminimised}
 use Rattle.lrpar_table.proofs.MergedDataLemmas.{merged_data, unmerged}
 use Rattle.lrpar_table.proofs.build.merged_parser_data.Goals as goal
 
@@ -8,7 +8,7 @@ pub returns-clause-built : goal.returns-clause-built
 returns-clause-built g c =
     let lists = c.none-precedences.result in
     IfOk-weaker c.parser_data_by.result (IsMinimisedData Pager c.args.grm lists c.args.max_states c.args.cap)
-    (IsMergedParserData c.args.grm c.args.max_states c.args.cap)
+    (IsMergedData c.args.grm c.args.max_states c.args.cap)
     (λ d. merged_data c.args.grm lists c.args.max_states c.args.cap d c.none-precedences.ensures) c.parser_data_by.ensures.built
 
 pub returns-clause-refused : goal.returns-clause-refused

@@ -4,21 +4,19 @@ use Rattle.lrpar_table_first.specs.FirstRows.{IsFirstBefore, rows_of}
 use Rattle.lrpar_grammar.specs.declared.token_set.TokenSet.{TokenSet}
 use Rattle.lrpar_table_rows.specs.Graph.{HasItem}
 use Rattle.lrpar_table_conditions.specs.Itemwise.{ClosesAmong, EachOfCore}
-use Rattle.lrpar_table_conditions.proofs.CoreLemmas.{core_in_shape}
+use Rattle.lrpar_table_conditions.proofs.CoreLemmas.{core_known}
 use Rattle.lrpar_table_conditions.proofs.ItemwiseLemmas.{closed_core, nothing_to_close, only_put}
 use Rattle.lrpar_table_conditions.proofs.completeness_test.Completeness.closes_core.Goals as goal
 
 pub rule_after-requires-clause-prod : goal.rule_after-requires-clause-prod
 rule_after-requires-clause-prod g c =
     let index = g.StorageT.StorageIndex.index in
-    (core_in_shape c.args.self.now.grm.now c.args.self.now.sgraph.now c.args.self.now.stable.now (index c.args.s.0) (index c.args.pidx.0) c.args.dot
-    c.requires.known.shape c.requires.core).0
+    (core_known index c.args.self.now c.args.s c.args.pidx c.args.dot c.requires.known c.requires.core).0
 
 pub rule_after-requires-clause-dot : goal.rule_after-requires-clause-dot
 rule_after-requires-clause-dot g c =
     let index = g.StorageT.StorageIndex.index in
-    (core_in_shape c.args.self.now.grm.now c.args.self.now.sgraph.now c.args.self.now.stable.now (index c.args.s.0) (index c.args.pidx.0) c.args.dot
-    c.requires.known.shape c.requires.core).1
+    (core_known index c.args.self.now c.args.s c.args.pidx c.args.dot c.requires.known c.requires.core).1
 
 pub returns-in-Some-clause-test : goal.returns-in-Some-clause-test
 returns-in-Some-clause-test g c =

@@ -5,33 +5,30 @@ use Rattle.lrpar_grammar_places.proofs.ListLemmas.{All-map-at}
 use Rattle.lrpar_table_first.specs.FirstRows.{dummy_lookahead, row_at, rows_of}
 use Rattle.lrpar_grammar.specs.Tokens.{has}
 use Rattle.lrpar_table_first.proofs.RowLemmas.{row_is, wide_at}
-use Rattle.lrpar_table_conditions.proofs.ItemwiseLemmas.{each_of_rule, of_rule_known, start_within}
+use Rattle.lrpar_table_conditions.proofs.ItemwiseLemmas.{each_of_rule, start_of_rule}
 use Rattle.lrpar_table_rows.proofs.TestLemmas.{accepted, each_more, refused}
 use Rattle.lrpar_table_conditions.proofs.completeness_test.Completeness.starts_cover.Goals as goal
 
 pub bounds-starts-prod : goal.bounds-starts-prod
 bounds-starts-prod g c =
     let index = g.StorageT.StorageIndex.index in
-    let known = of_rule_known index c.args.self.now.grm.now (index c.args.rule.0) c.rule_to_prods-pidx-items.result.now c.loop-pidx.pidx-index c.pidx-item.result
-    c.rule_to_prods-pidx-items.ensures c.loop-pidx-test.true c.pidx-item.is in
-    start_within c.args.self.now.grm.now c.args.starts.now (index c.pidx-item.result.0) c.from-prod.result c.requires.starts known c.from-prod.ensures
+    start_of_rule index c.args.self.now.grm.now (index c.args.rule.0) c.rule_to_prods-pidx-items.result.now c.loop-pidx.pidx-index c.pidx-item.result c.args.starts.now c.from-prod.result
+    c.rule_to_prods-pidx-items.ensures c.loop-pidx-test.true c.pidx-item.is c.requires.starts c.from-prod.ensures
 
 pub offset_bounds-starts-prod : goal.offset_bounds-starts-prod
 offset_bounds-starts-prod g c =
     let index = g.StorageT.StorageIndex.index in
-    let known = of_rule_known index c.args.self.now.grm.now (index c.args.rule.0) c.rule_to_prods-pidx-items.result.now c.loop-pidx.pidx-index c.pidx-item.result
-    c.rule_to_prods-pidx-items.ensures c.loop-pidx-test.true c.pidx-item.is in
     let within : c.from-prod.result < length c.args.starts.now =
-    start_within c.args.self.now.grm.now c.args.starts.now (index c.pidx-item.result.0) c.from-prod.result c.requires.starts known c.from-prod.ensures in
+    start_of_rule index c.args.self.now.grm.now (index c.args.rule.0) c.rule_to_prods-pidx-items.result.now c.loop-pidx.pidx-index c.pidx-item.result c.args.starts.now c.from-prod.result
+    c.rule_to_prods-pidx-items.ensures c.loop-pidx-test.true c.pidx-item.is c.requires.starts c.from-prod.ensures in
     search rules
 
 pub covers-requires : goal.covers-requires
 covers-requires g c =
     let index = g.StorageT.StorageIndex.index in
     let grm = c.args.self.now.grm.now in
-    let known = of_rule_known index grm (index c.args.rule.0) c.rule_to_prods-pidx-items.result.now c.loop-pidx.pidx-index c.pidx-item.result
-    c.rule_to_prods-pidx-items.ensures c.loop-pidx-test.true c.pidx-item.is in
-    let within = start_within grm c.args.starts.now (index c.pidx-item.result.0) c.from-prod.result c.requires.starts known c.from-prod.ensures in
+    let within = start_of_rule index grm (index c.args.rule.0) c.rule_to_prods-pidx-items.result.now c.loop-pidx.pidx-index c.pidx-item.result c.args.starts.now c.from-prod.result
+    c.rule_to_prods-pidx-items.ensures c.loop-pidx-test.true c.pidx-item.is c.requires.starts c.from-prod.ensures in
     let wide = wide_at c.args.starts.now c.from-prod.result (dummy_lookahead grm + 1) c.index-starts-prod.result c.requires.starts.wide within c.index-starts-prod.is in
     omega (arith, wide, c.requires.tokens)
 
@@ -42,9 +39,8 @@ returns-then-not-covers g c =
     let starts = c.args.starts.now in
     let prods = c.rule_to_prods-pidx-items.result.now in
     let P : ℕ → Type 0 = λ q. (b : ℕ) → IsTrue (has c.args.tokens.now.bits.items b) → IsTrue (has (row_at (rows_of starts) q) b) in
-    let known = of_rule_known index grm (index c.args.rule.0) prods c.loop-pidx.pidx-index c.pidx-item.result
-    c.rule_to_prods-pidx-items.ensures c.loop-pidx-test.true c.pidx-item.is in
-    let within = start_within grm starts (index c.pidx-item.result.0) c.from-prod.result c.requires.starts known c.from-prod.ensures in
+    let within = start_of_rule index grm (index c.args.rule.0) prods c.loop-pidx.pidx-index c.pidx-item.result starts c.from-prod.result
+    c.rule_to_prods-pidx-items.ensures c.loop-pidx-test.true c.pidx-item.is c.requires.starts c.from-prod.ensures in
     let row = ap (row_at (rows_of starts)) (sym c.from-prod.ensures) ∙ row_is starts c.from-prod.result c.index-starts-prod.result within c.index-starts-prod.is in
     refused (λ all.
     let of_rule = (each_of_rule grm (index c.args.rule.0) P).1 (λ q h by b has_b. all q b h by has_b) in
@@ -59,9 +55,8 @@ loop-pidx-preserved g c =
     let starts = c.args.starts.now in
     let prods = c.rule_to_prods-pidx-items.result.now in
     let P : ℕ → Type 0 = λ q. (b : ℕ) → IsTrue (has c.args.tokens.now.bits.items b) → IsTrue (has (row_at (rows_of starts) q) b) in
-    let known = of_rule_known index grm (index c.args.rule.0) prods c.loop-pidx.pidx-index c.pidx-item.result
-    c.rule_to_prods-pidx-items.ensures c.loop-pidx-test.true c.pidx-item.is in
-    let within = start_within grm starts (index c.pidx-item.result.0) c.from-prod.result c.requires.starts known c.from-prod.ensures in
+    let within = start_of_rule index grm (index c.args.rule.0) prods c.loop-pidx.pidx-index c.pidx-item.result starts c.from-prod.result
+    c.rule_to_prods-pidx-items.ensures c.loop-pidx-test.true c.pidx-item.is c.requires.starts c.from-prod.ensures in
     let row = ap (row_at (rows_of starts)) (sym c.from-prod.ensures) ∙ row_is starts c.from-prod.result c.index-starts-prod.result within c.index-starts-prod.is in
     let here : P (index c.pidx-item.result.0) =
     λ b has_b. subst (λ bits. IsTrue (has bits b)) (sym row) (c.covers.ensures.0 c.if-not-covers.false b has_b) in
