@@ -1,5 +1,5 @@
 -- Item sets that are kept: each is read at its place.
-use Rattle.std.proofs.Common.{◌≡◌, ◌<◌, ◌+◌, ◌∙◌, sym, subst, ap, arith, ℕ, List, [], ◌∷◌, ◌++◌, All, get_or, length, map}
+use Rattle.std.proofs.Common.{◌≡◌, ◌<◌, ◌∙◌, sym, subst, ap, arith, ℕ, List, [], ◌∷◌, ◌++◌, All, get_or, length, map}
 use Rattle.std.proofs.lemmas.List.{get_or_push, length_push}
 use Rattle.std.proofs.lemmas.List.Elements.{All-get_or, All-push}
 use Rattle.lrpar_grammar.specs.Grammar.{Grammar}

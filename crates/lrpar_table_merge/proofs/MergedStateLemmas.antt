@@ -18,7 +18,7 @@ use Rattle.lrpar_table_build.proofs.SetLemmas.{before_other, before_same, same_o
 use Rattle.lrpar_table_build.proofs.StepLemmas.{AreStatesAlong, IsStepAlong, IsTableAlong}
 use Rattle.lrpar_table_merge.specs.Held.{IsHeld}
 use Rattle.lrpar_table_merge.specs.Merged.{Along, AreMerged}
-use Rattle.lrpar_table_merge.specs.MergedBy.{IsMergedBy, IsMergedRefusal, IsMergedTableBy}
+use Rattle.lrpar_table_merge.specs.MergedBy.{IsMergedBy, IsTableRefusal, IsMergedTableBy}
 use Rattle.lrpar_table_merge.specs.MergedStates.{AreMergedStates, steps_of_states}
 use Rattle.lrpar_table_merge.proofs.MergedHeldLemmas.{held_at_end, held_items}
 
@@ -118,7 +118,7 @@ module _ (g : Grammar) (well : IsWellFormed g) (states : List StateOf) (are : Ar
       })
 
   -- what a refusal of a state says
-  pub merged_refusal : (fault : BuildFault) → IsRefusalOf (length states) (IsRefusedState g states) fault → IsMergedRefusal g fault
+  pub merged_refusal : (fault : BuildFault) → IsRefusalOf (length states) (IsRefusedState g states) fault → IsTableRefusal g fault
   merged_refusal (AcceptReduceConflict n) h =
       let rows = item_rows g states in
       let len : graph_len rows ≡ length states = length-map states _ in

@@ -8,7 +8,7 @@ use Rattle.lrpar_table_rows.specs.Table.{Table}
 use Rattle.lrpar_table_items.specs.declared.fault.BuildFault.{BuildFault}
 use Rattle.lrpar_table_items.specs.declared.fault.BuildFault.TheVariants.{AcceptReduceConflict, Memory, StorageTooSmall, TooManyStates}
 use Rattle.lrpar_table_build.specs.Built.{HasAcceptConflict, IsBuildRefusal}
-use Rattle.lrpar_table_merge.specs.MergedBy.{HasMergedAcceptConflict, IsMergedRefusal}
+use Rattle.lrpar_table_merge.specs.MergedBy.{HasMergedAcceptConflict, IsTableRefusal}
 use Rattle.lrpar_table_merge.specs.Minimised.{IsMergeFault, IsMergingRefusal, IsMinimisedBy}
 use Rattle.lrpar_table_merge.specs.declared.build.Minimiser.{Minimiser}
 use Rattle.lrpar_table_merge.specs.declared.build.Minimiser.TheVariants.{Canonical, Pager}
@@ -40,7 +40,7 @@ module _ (g : Grammar) (well : IsWellFormed g) where
   minimised_safe Pager lists graph table merged =
       merged_tables_by_precedences_are_safe g lists graph table merged.steps well merged.merged merged.resolution
 
-pub merged_refusal_of : (g : Grammar) (fault : BuildFault) → IsMergedRefusal g fault → IsMergingRefusal g fault
+pub merged_refusal_of : (g : Grammar) (fault : BuildFault) → IsTableRefusal g fault → IsMergingRefusal g fault
 merged_refusal_of g TooManyStates h = tt
 merged_refusal_of g StorageTooSmall h = tt
 merged_refusal_of g (AcceptReduceConflict n) h = h

@@ -1,5 +1,5 @@
 -- Rounds over the states, until none waits.
-use Rattle.std.proofs.Common.{◌≡◌, ◌≢◌, ◌<◌, ◌+◌, ◌||◌, ◌∙◌, refl, sym, ap, subst, inl, inr, arith, ℕ, Bool, true, false, List, Some, Result, Ok, Err, OnOk, length, set}
+use Rattle.std.proofs.Common.{◌≡◌, ◌≢◌, ◌<◌, ◌+◌, ◌||◌, ◌∙◌, refl, sym, ap, subst, inl, inr, arith, ℕ, Bool, true, false, List, Some, length, set}
 use Rattle.std.proofs.lemmas.Bool.{cases_eq, cases_lt, false≢true}
 use Rattle.std.proofs.lemmas.List.{get_or-set_other, get_or-set_same, get_or_past}
 use Rattle.lrpar_grammar.specs.Grammar.{Grammar, GrammarSymbol}
@@ -16,11 +16,6 @@ use Rattle.lrpar_table_merge.specs.Propagated.{AreAdded, ArePropagated, DoesWait
 use Rattle.lrpar_table_merge.proofs.HeldLemmas.{advanced_held, all_held, closure_held}
 use Rattle.lrpar_table_merge.proofs.PropagateLemmas.{among_low, off_before}
 use Rattle.lrpar_table_merge.proofs.WithinLemmas.{closure_root}
-
--- if three facts hold on a success, what follows from them does
-pub on_ok_three : {T E P Q R S : Type 0} (r : Result T E) → OnOk r P → OnOk r Q → OnOk r R → (P → Q → R → S) → OnOk r S
-on_ok_three (Ok x) p q r then_this = then_this p q r
-on_ok_three (Err e) p q r then_this = tt
 
 -- the start item was passed to state 0, which waits
 pub begun_by : (g : Grammar) (before after : List (List CoreSet)) (next : List CoreSet) (waits : List Bool)

@@ -13,3 +13,6 @@ pub mod MergedSteps
 pub mod Minimised
 pub mod Propagated
 pub mod Misfits
+pub mod StoredKernels
+pub mod Passing
+pub mod StoredStates

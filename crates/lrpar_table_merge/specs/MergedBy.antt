@@ -62,8 +62,8 @@ pub record HasMergedAcceptConflict (g : Grammar) (n : ℕ) : Type 0 where
   pub conflict : IsAcceptConflict g (sets_of graph) n
 
 -- why no table is made of merged item sets: one has an accept/reduce conflict, or an allocation failed
-abbrev pub IsMergedRefusal : Grammar → BuildFault → Type 0
-IsMergedRefusal g (AcceptReduceConflict n) = HasMergedAcceptConflict g n
-IsMergedRefusal g Memory = Unit {0}
-IsMergedRefusal g TooManyStates = ⊥
-IsMergedRefusal g StorageTooSmall = ⊥
+abbrev pub IsTableRefusal : Grammar → BuildFault → Type 0
+IsTableRefusal g (AcceptReduceConflict n) = HasMergedAcceptConflict g n
+IsTableRefusal g Memory = Unit {0}
+IsTableRefusal g TooManyStates = ⊥
+IsTableRefusal g StorageTooSmall = ⊥

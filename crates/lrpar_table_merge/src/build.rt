@@ -1,15 +1,13 @@
 //! The table builder with a choice: canonical item sets, or merged ones.
-ghost use Rattle.std.specs.Prelude.{◌≡◌, ◌≤◌, IfErr, IfOk, IfSome, length, map};
+ghost use Rattle.std.specs.Prelude.{◌≡◌, ◌≤◌, IfErr, IfOk, IfSome, length};
 ghost use Rattle.lrpar_grammar.specs.Grammar.{IsWellFormed};
 ghost use Rattle.lrpar_table_rows.specs.Graph.{graph_len};
 ghost use Rattle.lrpar_table_rows.specs.Safe.{IsSafe};
-ghost use Rattle.lrpar_table_items.specs.Next.{kernel_rows};
-ghost use Rattle.lrpar_table_items.specs.States.{state_of};
-ghost use Rattle.lrpar_table_merge.specs.Expansions.{AreExpansions};
+ghost use Rattle.lrpar_table_merge.specs.Expansions.{HaveSets};
 ghost use Rattle.lrpar_table_merge.specs.MergedBy.{IsMergedBy};
-ghost use Rattle.lrpar_table_merge.specs.MergedStates.{AreMergedStates};
-ghost use Rattle.lrpar_table_merge.specs.Merging.{AreCoreRows};
 ghost use Rattle.lrpar_table_merge.specs.Minimised.{IsMergeFault, IsMergingRefusal, IsMinimisedBy, IsMinimisedRefusal};
+ghost use Rattle.lrpar_table_merge.specs.StoredKernels.{HaveCores};
+ghost use Rattle.lrpar_table_merge.specs.StoredStates.{AreStatesOf};
 
 use crate::expansions::Expansions;
 use crate::held::{HeldFault, Transitions};
@@ -92,16 +90,16 @@ fn states_of<StorageT: StorageIndex>(
     grm: &YaccGrammar<StorageT>,
     max_states: usize,
 ) -> Result<Option<Vec<State<StorageT>>>, BuildFault>
-    ensures states { IfOk result (λ states. IfSome states (λ states. AreMergedStates grm.now (map (state_of StorageT.index) states.items))) }
+    ensures states { IfOk result (λ states. IfSome states (AreStatesOf StorageT.index grm.now)) }
     ensures room { IfOk result (λ states. IfSome states (λ states. length states.items ≤ max_states)) }
     ensures fits { IfOk result (λ states. IfSome states (λ states. length states.items ≤ StorageT.limit)) }
     ensures well_formed { IsWellFormed grm.now }
     ensures fault { IfErr result IsMergeFault }
 {
     let _start = grm.start_prod();
-    let mut sets = Expansions::new(alloc, grm)?;
-    let (mut kernels, all) = merge(alloc, grm, &mut sets, max_states)?;
-    match settled(alloc, grm, &mut sets, &all, &mut kernels) {
+    let mut expansions = Expansions::new(alloc, grm)?;
+    let (mut kernels, all) = merge(alloc, grm, &mut expansions, max_states)?;
+    match settled(alloc, grm, &mut expansions, &all, &mut kernels) {
         Ok(states) => Ok(Some(states)),
         Err(HeldFault::Misfit) => Ok(None),
         Err(HeldFault::Memory) => Err(BuildFault::Memory),
@@ -112,17 +110,17 @@ fn states_of<StorageT: StorageIndex>(
 fn settled<StorageT: StorageIndex>(
     alloc: Global,
     grm: &YaccGrammar<StorageT>,
-    sets: &mut Expansions<StorageT>,
+    expansions: &mut Expansions<StorageT>,
     all: &[Transitions],
     kernels: &mut [Vec<CoreItems<StorageT>>],
 ) -> Result<Vec<State<StorageT>>, HeldFault>
     requires well_formed { IsWellFormed grm.now }
-    requires sets { AreExpansions StorageT.index grm.now sets.old }
-    requires cores { AreCoreRows grm.now (kernel_rows StorageT.index kernels.old) }
+    requires sets { HaveSets StorageT.index grm.now expansions.old }
+    requires cores { HaveCores StorageT.index grm.now kernels.old }
     requires fit { length kernels.old ≤ StorageT.limit }
-    ensures states { IfOk result (λ states. AreMergedStates grm.now (map (state_of StorageT.index) states.items)) }
+    ensures states { IfOk result (AreStatesOf StorageT.index grm.now) }
     ensures len { IfOk result (λ states. length states.items ≡ length kernels.old) }
 {
-    propagate(alloc, grm, sets, all, kernels)?;
-    merged_states(alloc, grm, sets, all, kernels)
+    propagate(alloc, grm, expansions, all, kernels)?;
+    merged_states(alloc, grm, expansions, all, kernels)
 }

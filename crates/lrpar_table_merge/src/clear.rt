@@ -1,22 +1,14 @@
 //! Kernels without lookaheads.
-ghost use Rattle.std.specs.Prelude.{◌≡◌, ℕ, All, false, map};
-ghost use Rattle.lrpar_grammar.specs.Grammar.{Grammar};
-ghost use Rattle.lrpar_grammar.specs.Tokens.{has};
-ghost use Rattle.lrpar_table_rows.specs.Graph.{ItemOf};
-ghost use Rattle.lrpar_table_items.specs.Cores.{IsAmong, IsCoreOf, core_set};
-ghost use Rattle.lrpar_table_items.specs.Next.{kernel_at, kernel_rows};
-ghost use Rattle.lrpar_table_merge.specs.Compatible.{HaveSameCores, lr0_core};
-ghost use Rattle.lrpar_table_merge.specs.Propagated.{AreAlike};
+ghost use Rattle.lrpar_table_merge.specs.StoredKernels.{AreSameCores, AreWithoutItems, HasNoLookahead, HaveNoItem, IsSameCore, KeepCores, StayAlike, StayCores, StaysCore};
 
 use lrpar_grammar::span::StorageIndex;
 use lrpar_table_items::cores::CoreItems;
 
 // Removes the lookaheads of all cores. The cores and the rooms of their sets stay.
 pub(crate) fn clear_kernels<StorageT: StorageIndex>(kernels: &mut [Vec<CoreItems<StorageT>>])
-    ensures cores { (g : Grammar) → All (All (IsCoreOf g)) (kernel_rows StorageT.index kernels.old)
-        → All (All (IsCoreOf g)) (kernel_rows StorageT.index kernels.new) }
-    ensures alike { AreAlike (kernel_rows StorageT.index kernels.old) (kernel_rows StorageT.index kernels.new) }
-    ensures none { (s : ℕ) (x : ItemOf) → ¬ (IsAmong (kernel_at (kernel_rows StorageT.index kernels.new) s) x) }
+    ensures cores { KeepCores StorageT.index kernels.old kernels.new }
+    ensures alike { StayAlike StorageT.index kernels.old kernels.new }
+    ensures none { AreWithoutItems StorageT.index kernels.new }
 {
     for state in 0..kernels.len() {
         clear_kernel(&mut kernels[state]);
@@ -25,20 +17,18 @@ pub(crate) fn clear_kernels<StorageT: StorageIndex>(kernels: &mut [Vec<CoreItems
 
 // As `clear_cores`, for a list.
 fn clear_kernel<StorageT: StorageIndex>(kernel: &mut Vec<CoreItems<StorageT>>)
-    ensures cores { (g : Grammar) → All (IsCoreOf g) (map (core_set StorageT.index) kernel.old.items)
-        → All (IsCoreOf g) (map (core_set StorageT.index) kernel.new.items) }
-    ensures same { HaveSameCores (map (core_set StorageT.index) kernel.new.items) (map (core_set StorageT.index) kernel.old.items) }
-    ensures none { (x : ItemOf) → ¬ (IsAmong (map (core_set StorageT.index) kernel.new.items) x) }
+    ensures cores { StayCores StorageT.index kernel.old.items kernel.new.items }
+    ensures same { AreSameCores StorageT.index kernel.new.items kernel.old.items }
+    ensures none { HaveNoItem StorageT.index kernel.new.items }
 {
     clear_cores(kernel);
 }
 
 // Removes the lookaheads of the cores.
 fn clear_cores<StorageT: StorageIndex>(kernel: &mut [CoreItems<StorageT>])
-    ensures cores { (g : Grammar) → All (IsCoreOf g) (map (core_set StorageT.index) kernel.old)
-        → All (IsCoreOf g) (map (core_set StorageT.index) kernel.new) }
-    ensures same { HaveSameCores (map (core_set StorageT.index) kernel.new) (map (core_set StorageT.index) kernel.old) }
-    ensures none { (x : ItemOf) → ¬ (IsAmong (map (core_set StorageT.index) kernel.new) x) }
+    ensures cores { StayCores StorageT.index kernel.old kernel.new }
+    ensures same { AreSameCores StorageT.index kernel.new kernel.old }
+    ensures none { HaveNoItem StorageT.index kernel.new }
 {
     for place in 0..kernel.len() {
         clear_core(&mut kernel[place]);
@@ -47,9 +37,9 @@ fn clear_cores<StorageT: StorageIndex>(kernel: &mut [CoreItems<StorageT>])
 
 // Removes the lookaheads of the core.
 fn clear_core<StorageT: StorageIndex>(core: &mut CoreItems<StorageT>)
-    ensures core { (g : Grammar) → IsCoreOf g (core_set StorageT.index core.old) → IsCoreOf g (core_set StorageT.index core.new) }
-    ensures same { lr0_core (core_set StorageT.index core.new) ≡ lr0_core (core_set StorageT.index core.old) }
-    ensures none { (t : ℕ) → has core.new.tokens.bits.items t ≡ false }
+    ensures core { StaysCore StorageT.index core.old core.new }
+    ensures same { IsSameCore StorageT.index core.new core.old }
+    ensures none { HasNoLookahead core.new }
 {
     core.tokens.clear();
 }

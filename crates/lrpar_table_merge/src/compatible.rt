@@ -1,7 +1,7 @@
 //! Weak compatibility of kernels.
-ghost use Rattle.std.specs.Prelude.{◌≡◌, ◌<◌, ◌↔◌, ℕ, IsTrue, length, map};
-ghost use Rattle.lrpar_table_items.specs.Cores.{core_set};
-ghost use Rattle.lrpar_table_merge.specs.Compatible.{ArePairCompatible, AreWeaklyCompatible, HaveCommon, HaveSameCores, IsPairCompatible, lr0_core};
+ghost use Rattle.std.specs.Prelude.{◌≡◌, ◌<◌, ◌↔◌, IsTrue, length};
+ghost use Rattle.lrpar_table_merge.specs.Compatible.{HaveCommon, IsPairCompatible};
+ghost use Rattle.lrpar_table_merge.specs.StoredKernels.{AreCompatible, AreSameCores, IsCompatibleBefore, IsSameCore};
 
 use lrpar_grammar::span::StorageIndex;
 use lrpar_grammar::token_set::TokenSet;
@@ -13,7 +13,7 @@ pub fn are_weakly_compatible<StorageT: StorageIndex>(
     kernel: &[CoreItems<StorageT>],
     other: &[CoreItems<StorageT>],
 ) -> bool
-    ensures { IsTrue result ↔ AreWeaklyCompatible (map (core_set StorageT.index) kernel.now) (map (core_set StorageT.index) other.now) }
+    ensures { IsTrue result ↔ AreCompatible StorageT.index kernel.now other.now }
 {
     if !have_same_cores(kernel, other) {
         return false;
@@ -34,8 +34,7 @@ fn is_compatible_with_earlier<StorageT: StorageIndex>(
 ) -> bool
     requires len { length other.now ≡ length kernel.now }
     requires place { place < length kernel.now }
-    ensures { IsTrue result ↔ ((j : ℕ) → j < place
-        → ArePairCompatible (map (core_set StorageT.index) kernel.now) (map (core_set StorageT.index) other.now) place j) }
+    ensures { IsTrue result ↔ IsCompatibleBefore StorageT.index kernel.now other.now place }
 {
     let here = &kernel[place].tokens;
     let there = &other[place].tokens;
@@ -74,7 +73,7 @@ pub fn have_same_cores<StorageT: StorageIndex>(
     kernel: &[CoreItems<StorageT>],
     other: &[CoreItems<StorageT>],
 ) -> bool
-    ensures { IsTrue result ↔ HaveSameCores (map (core_set StorageT.index) kernel.now) (map (core_set StorageT.index) other.now) }
+    ensures { IsTrue result ↔ AreSameCores StorageT.index kernel.now other.now }
 {
     if kernel.len() != other.len() {
         return false;
@@ -92,7 +91,7 @@ fn has_same_core<StorageT: StorageIndex>(
     core: &CoreItems<StorageT>,
     other: &CoreItems<StorageT>,
 ) -> bool
-    ensures { IsTrue result ↔ (lr0_core (core_set StorageT.index core.now) ≡ lr0_core (core_set StorageT.index other.now)) }
+    ensures { IsTrue result ↔ IsSameCore StorageT.index core.now other.now }
 {
     let prod = usize::from(core.prod);
     let same = usize::from(other.prod);

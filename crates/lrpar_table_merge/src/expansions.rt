@@ -1,10 +1,9 @@
 //! Item sets that are kept, so that the closure of a kernel is made once.
-ghost use Rattle.std.specs.Prelude.{◌≡◌, ◌<◌, All, IfOk, IfSome, List, length, map};
-ghost use Rattle.lrpar_grammar.specs.Grammar.{Grammar, IsWellFormed};
-ghost use Rattle.lrpar_table_items.specs.CoreOrder.{IsKernel};
-ghost use Rattle.lrpar_table_items.specs.Cores.{CoreSet, core_set};
+ghost use Rattle.std.specs.Prelude.{◌<◌, IfOk, IfSome, length};
+ghost use Rattle.lrpar_grammar.specs.Grammar.{IsWellFormed};
 ghost use Rattle.lrpar_table_items.specs.Working.{AreSets};
-ghost use Rattle.lrpar_table_merge.specs.Expansions.{AreExpansions, IsExpanded, IsExpandedAt, IsExpansionOf};
+ghost use Rattle.lrpar_table_merge.specs.Expansions.{ExpandsKernel, HasKernel, HaveSets, IsKeptAt, IsPlaceOf, IsReadAt};
+ghost use Rattle.lrpar_table_merge.specs.StoredKernels.{IsKernelOf};
 
 use lrpar_grammar::grammar::YaccGrammar;
 use lrpar_grammar::span::StorageIndex;
@@ -42,7 +41,7 @@ impl<StorageT: StorageIndex> Drop for Expansions<StorageT> {
 impl<StorageT: StorageIndex> Expansions<StorageT> {
     /// No item sets.
     pub(crate) fn new(alloc: Global, grm: &YaccGrammar<StorageT>) -> Result<Self, AllocError>
-        ensures { IfOk result (AreExpansions StorageT.index grm.now) }
+        ensures { IfOk result (HaveSets StorageT.index grm.now) }
     {
         let sets = Sets::new(alloc, grm)?;
         Ok(Expansions {
@@ -60,10 +59,10 @@ impl<StorageT: StorageIndex> Expansions<StorageT> {
         kernel: &[CoreItems<StorageT>],
     ) -> Result<usize, AllocError>
         requires well_formed { IsWellFormed grm.now }
-        requires kernel { IsKernel grm.now (map (core_set StorageT.index) kernel.now) }
-        requires sets { AreExpansions StorageT.index grm.now self.old }
-        ensures sets { AreExpansions StorageT.index grm.now self.new }
-        ensures expanded { IfOk result (IsExpandedAt StorageT.index grm.now self.new.all.items (map (core_set StorageT.index) kernel.now)) }
+        requires kernel { IsKernelOf StorageT.index grm.now kernel.now }
+        requires sets { HaveSets StorageT.index grm.now self.old }
+        ensures sets { HaveSets StorageT.index grm.now self.new }
+        ensures expanded { IfOk result (IsKeptAt StorageT.index grm.now self.new kernel.now) }
     {
         match self.find(kernel) {
             Some(place) => Ok(place),
@@ -74,16 +73,14 @@ impl<StorageT: StorageIndex> Expansions<StorageT> {
     /// The closure and the kernels at a place.
     pub(crate) fn at(&self, place: usize) -> &Successors<StorageT>
         requires { place < length self.now.all.items }
-        ensures { (g : Grammar) (kernel : List CoreSet) → IsExpandedAt StorageT.index g self.now.all.items kernel place
-            → IsExpanded StorageT.index g kernel result.now }
+        ensures { IsReadAt StorageT.index self.now place result.now }
     {
         &self.all[place].successors
     }
 
     // The place of the kernel's item set, if it was made.
     fn find(&self, kernel: &[CoreItems<StorageT>]) -> Option<usize>
-        ensures { IfSome result (λ place. (g : Grammar) → All (IsExpansionOf StorageT.index g) self.now.all.items
-            → IsExpandedAt StorageT.index g self.now.all.items (map (core_set StorageT.index) kernel.now) place) }
+        ensures { IfSome result (IsPlaceOf StorageT.index self.now kernel.now) }
     {
         let place = *self.places.get(kernel)?;
         let found = self.all.get(place)?;
@@ -102,10 +99,10 @@ impl<StorageT: StorageIndex> Expansions<StorageT> {
         kernel: &[CoreItems<StorageT>],
     ) -> Result<usize, AllocError>
         requires well_formed { IsWellFormed grm.now }
-        requires kernel { IsKernel grm.now (map (core_set StorageT.index) kernel.now) }
-        requires sets { AreExpansions StorageT.index grm.now self.old }
-        ensures sets { AreExpansions StorageT.index grm.now self.new }
-        ensures expanded { IfOk result (IsExpandedAt StorageT.index grm.now self.new.all.items (map (core_set StorageT.index) kernel.now)) }
+        requires kernel { IsKernelOf StorageT.index grm.now kernel.now }
+        requires sets { HaveSets StorageT.index grm.now self.old }
+        ensures sets { HaveSets StorageT.index grm.now self.new }
+        ensures expanded { IfOk result (IsKeptAt StorageT.index grm.now self.new kernel.now) }
     {
         let expansion = expansion_of(alloc, grm, &mut self.sets, kernel)?;
         let key = copied(alloc, kernel)?;
@@ -124,11 +121,11 @@ fn expansion_of<StorageT: StorageIndex>(
     kernel: &[CoreItems<StorageT>],
 ) -> Result<Expansion<StorageT>, AllocError>
     requires well_formed { IsWellFormed grm.now }
-    requires kernel { IsKernel grm.now (map (core_set StorageT.index) kernel.now) }
+    requires kernel { IsKernelOf StorageT.index grm.now kernel.now }
     requires sets { AreSets grm.now sets.old }
     ensures sets { AreSets grm.now sets.new }
-    ensures kernel { IfOk result (λ expansion. map (core_set StorageT.index) expansion.kernel.items ≡ map (core_set StorageT.index) kernel.now) }
-    ensures expanded { IfOk result (λ expansion. IsExpanded StorageT.index grm.now (map (core_set StorageT.index) kernel.now) expansion.successors) }
+    ensures kernel { IfOk result (HasKernel StorageT.index kernel.now) }
+    ensures expanded { IfOk result (ExpandsKernel StorageT.index grm.now kernel.now) }
 {
     let own = copied(alloc, kernel)?;
     let copy = copied(alloc, kernel)?;

@@ -1,15 +1,9 @@
 //! The items that states hold, propagated from the start along transitions.
-ghost use Rattle.std.specs.Prelude.{◌≡◌, ◌<◌, IfErr, IfOk, OnOk, Some, length, map};
+ghost use Rattle.std.specs.Prelude.{◌≡◌, IfErr, IfOk, OnOk, Some};
 ghost use Rattle.std.specs.Bool.{OnFalse, OnTrue};
-ghost use Rattle.lrpar_grammar.specs.Grammar.{Grammar};
-ghost use Rattle.lrpar_table_first.specs.FirstRows.{total_missing};
-ghost use Rattle.lrpar_table_items.specs.CoreOrder.{IsKernel};
-ghost use Rattle.lrpar_table_items.specs.Cores.{core_set};
-ghost use Rattle.lrpar_table_items.specs.Next.{kernel_rows};
-ghost use Rattle.lrpar_table_merge.specs.Compatible.{HaveSameCores, lookahead_rows};
-ghost use Rattle.lrpar_table_merge.specs.PassedOn.{AreBeginnings, IsMisfit, IsPassedTo, all_missing};
-ghost use Rattle.lrpar_table_merge.specs.United.{AreUnited, rooms_of};
-ghost use Rattle.lrpar_table_merge.specs.declared.held.HeldFault.TheVariants.{Memory, Misfit};
+ghost use Rattle.lrpar_table_merge.specs.Passing.{AreSameUnless, IsMisfitAlong, LackFewerIf, PassesTo, ShareGrammar, StayKernels};
+ghost use Rattle.lrpar_table_merge.specs.StoredKernels.{AreEqualCores, AreSameCores, HaveSameRooms, LackFewer, UniteKernels};
+ghost use Rattle.lrpar_table_merge.specs.declared.held.HeldFault.TheVariants.{Memory};
 
 use crate::compatible::have_same_cores;
 use crate::unite::unite;
@@ -56,16 +50,12 @@ pub fn pass_to<StorageT: StorageIndex>(
     state: usize,
     next: &[CoreItems<StorageT>],
 ) -> Result<bool, HeldFault>
-    requires known { (g : Grammar) × AreBeginnings g (kernel_rows StorageT.index kernels.old) × IsKernel g (map (core_set StorageT.index) next.now) }
-    ensures passed { OnOk result (IsPassedTo (kernel_rows StorageT.index kernels.old) state (map (core_set StorageT.index) next.now)
-        (kernel_rows StorageT.index kernels.new)) }
-    ensures kernels { OnOk result ((g : Grammar) → AreBeginnings g (kernel_rows StorageT.index kernels.old)
-        → IsKernel g (map (core_set StorageT.index) next.now) → AreBeginnings g (kernel_rows StorageT.index kernels.new)) }
-    ensures grown { IfOk result (λ grown. OnTrue grown (all_missing (kernel_rows StorageT.index kernels.new)
-        < all_missing (kernel_rows StorageT.index kernels.old))) }
-    ensures same { IfOk result (λ grown. OnFalse grown (kernel_rows StorageT.index kernels.new ≡ kernel_rows StorageT.index kernels.old)) }
-    ensures misfit { IfErr result (λ fault. (fault ≡ Misfit)
-        × IsMisfit (kernel_rows StorageT.index kernels.old) (Some state) (map (core_set StorageT.index) next.now)) }
+    requires known { ShareGrammar StorageT.index kernels.old next.now }
+    ensures passed { OnOk result (PassesTo StorageT.index state next.now kernels.old kernels.new) }
+    ensures kernels { OnOk result (StayKernels StorageT.index kernels.old next.now kernels.new) }
+    ensures grown { IfOk result (LackFewerIf StorageT.index kernels.old kernels.new) }
+    ensures same { IfOk result (AreSameUnless StorageT.index kernels.old kernels.new) }
+    ensures misfit { IfErr result (IsMisfitAlong StorageT.index kernels.old (Some state) next.now) }
 {
     if state >= kernels.len() || !have_same_cores(&kernels[state], next) {
         return Err(HeldFault::Misfit);
@@ -78,13 +68,11 @@ fn unite_kernel<StorageT: StorageIndex>(
     kernel: &mut Vec<CoreItems<StorageT>>,
     other: &[CoreItems<StorageT>],
 ) -> bool
-    requires same { HaveSameCores (map (core_set StorageT.index) kernel.old.items) (map (core_set StorageT.index) other.now) }
-    requires room { rooms_of (map (core_set StorageT.index) kernel.old.items) ≡ rooms_of (map (core_set StorageT.index) other.now) }
-    ensures united { AreUnited (map (core_set StorageT.index) kernel.old.items) (map (core_set StorageT.index) other.now)
-        (map (core_set StorageT.index) kernel.new.items) }
-    ensures grown { OnTrue result (total_missing (lookahead_rows (map (core_set StorageT.index) kernel.new.items))
-        < total_missing (lookahead_rows (map (core_set StorageT.index) kernel.old.items))) }
-    ensures same { OnFalse result (map (core_set StorageT.index) kernel.new.items ≡ map (core_set StorageT.index) kernel.old.items) }
+    requires same { AreSameCores StorageT.index kernel.old.items other.now }
+    requires room { HaveSameRooms StorageT.index kernel.old.items other.now }
+    ensures united { UniteKernels StorageT.index kernel.old.items other.now kernel.new.items }
+    ensures grown { OnTrue result (LackFewer StorageT.index kernel.old.items kernel.new.items) }
+    ensures same { OnFalse result (AreEqualCores StorageT.index kernel.new.items kernel.old.items) }
 {
     unite(kernel, other)
 }

@@ -1,16 +1,13 @@
 //! The merging of item sets whose kernels are weakly compatible.
 //!
 //! D. Pager, 'A practical general method for constructing LR(k) parsers', Acta Informatica 7, 1977.
-ghost use Rattle.std.specs.Prelude.{◌≡◌, ◌<◌, ◌≤◌, ℕ, All, IfErr, IfOk, IfSome, OnOk, length, map};
-ghost use Rattle.lrpar_grammar.specs.Grammar.{Grammar, IsWellFormed};
-ghost use Rattle.lrpar_table_items.specs.CoreOrder.{IsKernel};
-ghost use Rattle.lrpar_table_items.specs.Cores.{core_set};
-ghost use Rattle.lrpar_table_items.specs.Next.{kernel_at, kernel_rows};
-ghost use Rattle.lrpar_table_merge.specs.Expansions.{AreExpansions};
-ghost use Rattle.lrpar_table_merge.specs.Compatible.{AreWeaklyCompatible, HaveSameCores};
+ghost use Rattle.std.specs.Prelude.{◌≡◌, ◌<◌, ◌≤◌, ℕ, IfErr, IfOk, IfSome, OnOk, length};
+ghost use Rattle.lrpar_grammar.specs.Grammar.{IsWellFormed};
+ghost use Rattle.lrpar_table_merge.specs.Expansions.{HaveSets};
 ghost use Rattle.lrpar_table_merge.specs.Minimised.{IsMergeFault};
-ghost use Rattle.lrpar_table_merge.specs.Merging.{AreCoreRows, AreKernelsOrEmpty, AreMerging, kernels_of};
-ghost use Rattle.lrpar_table_merge.specs.United.{rooms_of};
+ghost use Rattle.lrpar_table_merge.specs.Merging.{AreMerging};
+ghost use Rattle.lrpar_table_merge.specs.StoredKernels.{AreKernelsOf, AreSameCores, HaveCores, HaveSameRooms, IsKernelOf, StaysKernel};
+ghost use Rattle.lrpar_table_merge.specs.StoredStates.{HaveCoresOf, IsCompatibleWith};
 
 use crate::compatible::are_weakly_compatible;
 use crate::expansions::Expansions;
@@ -45,13 +42,13 @@ pub struct Merging<StorageT> {
 pub(crate) fn merge<StorageT: StorageIndex>(
     alloc: Global,
     grm: &YaccGrammar<StorageT>,
-    sets: &mut Expansions<StorageT>,
+    expansions: &mut Expansions<StorageT>,
     max_states: usize,
 ) -> Result<(Vec<Vec<CoreItems<StorageT>>>, Vec<Transitions>), BuildFault>
     requires well_formed { IsWellFormed grm.now }
-    requires sets { AreExpansions StorageT.index grm.now sets.old }
-    ensures sets { AreExpansions StorageT.index grm.now sets.new }
-    ensures cores { IfOk result (λ merged. AreCoreRows grm.now (kernel_rows StorageT.index merged.0.items)) }
+    requires sets { HaveSets StorageT.index grm.now expansions.old }
+    ensures sets { HaveSets StorageT.index grm.now expansions.new }
+    ensures cores { IfOk result (λ merged. HaveCores StorageT.index grm.now merged.0.items) }
     ensures room { IfOk result (λ merged. length merged.0.items ≤ max_states) }
     ensures fits { IfOk result (λ merged. length merged.0.items ≤ StorageT.limit) }
     ensures fault { IfErr result IsMergeFault }
@@ -59,7 +56,7 @@ pub(crate) fn merge<StorageT: StorageIndex>(
     let mut merging = Merging::new(alloc, grm)?;
     let start = start_kernel(alloc, grm)?;
     let _start = merging.place(alloc, grm, max_states, &start)?;
-    merging.settle(alloc, grm, sets, max_states)?;
+    merging.settle(alloc, grm, expansions, max_states)?;
     let reached = reached(alloc, &merging.states)?;
     Ok(finished(alloc, &merging.states, &reached)?)
 }
@@ -84,19 +81,19 @@ impl<StorageT: StorageIndex> Merging<StorageT> {
         &mut self,
         alloc: Global,
         grm: &YaccGrammar<StorageT>,
-        sets: &mut Expansions<StorageT>,
+        expansions: &mut Expansions<StorageT>,
         max_states: usize,
     ) -> Result<(), BuildFault>
         requires well_formed { IsWellFormed grm.now }
-        requires sets { AreExpansions StorageT.index grm.now sets.old }
+        requires sets { HaveSets StorageT.index grm.now expansions.old }
         requires merging { AreMerging StorageT.index grm.now max_states StorageT.limit self.old }
-        ensures sets { AreExpansions StorageT.index grm.now sets.new }
+        ensures sets { HaveSets StorageT.index grm.now expansions.new }
         ensures merging { OnOk result (AreMerging StorageT.index grm.now max_states StorageT.limit self.new) }
         ensures fault { IfErr result IsMergeFault }
     {
         // Each round but the last adds a state or lookaheads, so the last one comes long before the bound.
         for _ in 0..usize::MAX {
-            if !self.work_on_all(alloc, grm, sets, max_states)? {
+            if !self.work_on_all(alloc, grm, expansions, max_states)? {
                 return Ok(());
             }
         }
@@ -108,13 +105,13 @@ impl<StorageT: StorageIndex> Merging<StorageT> {
         &mut self,
         alloc: Global,
         grm: &YaccGrammar<StorageT>,
-        sets: &mut Expansions<StorageT>,
+        expansions: &mut Expansions<StorageT>,
         max_states: usize,
     ) -> Result<bool, BuildFault>
         requires well_formed { IsWellFormed grm.now }
-        requires sets { AreExpansions StorageT.index grm.now sets.old }
+        requires sets { HaveSets StorageT.index grm.now expansions.old }
         requires merging { AreMerging StorageT.index grm.now max_states StorageT.limit self.old }
-        ensures sets { AreExpansions StorageT.index grm.now sets.new }
+        ensures sets { HaveSets StorageT.index grm.now expansions.new }
         ensures merging { OnOk result (AreMerging StorageT.index grm.now max_states StorageT.limit self.new) }
         ensures fault { IfErr result IsMergeFault }
     {
@@ -125,7 +122,7 @@ impl<StorageT: StorageIndex> Merging<StorageT> {
             }
             if self.states[number].waits {
                 waited = true;
-                self.work_on(alloc, grm, sets, max_states, number)?;
+                self.work_on(alloc, grm, expansions, max_states, number)?;
             }
         }
         Ok(waited)
@@ -136,20 +133,20 @@ impl<StorageT: StorageIndex> Merging<StorageT> {
         &mut self,
         alloc: Global,
         grm: &YaccGrammar<StorageT>,
-        sets: &mut Expansions<StorageT>,
+        expansions: &mut Expansions<StorageT>,
         max_states: usize,
         number: usize,
     ) -> Result<(), BuildFault>
         requires well_formed { IsWellFormed grm.now }
-        requires sets { AreExpansions StorageT.index grm.now sets.old }
+        requires sets { HaveSets StorageT.index grm.now expansions.old }
         requires number { number < length self.old.states.items }
         requires merging { AreMerging StorageT.index grm.now max_states StorageT.limit self.old }
-        ensures sets { AreExpansions StorageT.index grm.now sets.new }
+        ensures sets { HaveSets StorageT.index grm.now expansions.new }
         ensures merging { OnOk result (AreMerging StorageT.index grm.now max_states StorageT.limit self.new) }
         ensures fault { IfErr result IsMergeFault }
     {
-        let place = sets.expand(alloc, grm, &self.states[number].kernel)?;
-        let successors = sets.at(place);
+        let place = expansions.expand(alloc, grm, &self.states[number].kernel)?;
+        let successors = expansions.at(place);
         self.states[number].waits = false;
         let rules = self.place_all(alloc, grm, max_states, &successors.rules)?;
         let tokens = self.place_all(alloc, grm, max_states, &successors.tokens)?;
@@ -168,7 +165,7 @@ impl<StorageT: StorageIndex> Merging<StorageT> {
         kernels: &[Vec<CoreItems<StorageT>>],
     ) -> Result<Vec<Option<usize>>, BuildFault>
         requires merging { AreMerging StorageT.index grm.now max_states StorageT.limit self.old }
-        requires kernels { AreKernelsOrEmpty grm.now (kernel_rows StorageT.index kernels.now) }
+        requires kernels { AreKernelsOf StorageT.index grm.now kernels.now }
         ensures merging { OnOk result (AreMerging StorageT.index grm.now max_states StorageT.limit self.new) }
         ensures fault { IfErr result IsMergeFault }
     {
@@ -193,7 +190,7 @@ impl<StorageT: StorageIndex> Merging<StorageT> {
         kernel: &[CoreItems<StorageT>],
     ) -> Result<usize, BuildFault>
         requires merging { AreMerging StorageT.index grm.now max_states StorageT.limit self.old }
-        requires kernel { IsKernel grm.now (map (core_set StorageT.index) kernel.now) }
+        requires kernel { IsKernelOf StorageT.index grm.now kernel.now }
         ensures merging { OnOk result (AreMerging StorageT.index grm.now max_states StorageT.limit self.new) }
         ensures fault { IfErr result IsMergeFault }
     {
@@ -210,8 +207,7 @@ impl<StorageT: StorageIndex> Merging<StorageT> {
     // The first of the numbers whose state is weakly compatible with the kernel.
     fn find(&self, numbers: &[usize], kernel: &[CoreItems<StorageT>]) -> Option<usize>
         ensures low { IfSome result (λ number. number < length self.now.states.items) }
-        ensures compatible { IfSome result (λ number. AreWeaklyCompatible
-            (kernel_at (kernels_of StorageT.index self.now.states.items) number) (map (core_set StorageT.index) kernel.now)) }
+        ensures compatible { IfSome result (IsCompatibleWith StorageT.index self.now kernel.now) }
     {
         for number in numbers {
             if *number < self.states.len()
@@ -234,7 +230,7 @@ impl<StorageT: StorageIndex> Merging<StorageT> {
     ) -> Result<usize, BuildFault>
         requires prod { prod < length self.old.by_prod.items }
         requires merging { AreMerging StorageT.index grm.now max_states StorageT.limit self.old }
-        requires kernel { IsKernel grm.now (map (core_set StorageT.index) kernel.now) }
+        requires kernel { IsKernelOf StorageT.index grm.now kernel.now }
         ensures merging { OnOk result (AreMerging StorageT.index grm.now max_states StorageT.limit self.new) }
         ensures fault { IfErr result IsMergeFault }
     {
@@ -261,10 +257,9 @@ impl<StorageT: StorageIndex> Merging<StorageT> {
 
 // Adds the lookaheads of the kernel to those of the state's kernel. If any of them was new, the state waits.
 fn grow<StorageT: StorageIndex>(state: &mut MergedState<StorageT>, kernel: &[CoreItems<StorageT>])
-    requires same { HaveSameCores (map (core_set StorageT.index) state.old.kernel.items) (map (core_set StorageT.index) kernel.now) }
-    requires room { rooms_of (map (core_set StorageT.index) state.old.kernel.items) ≡ rooms_of (map (core_set StorageT.index) kernel.now) }
-    ensures { (g : Grammar) → IsKernel g (map (core_set StorageT.index) state.old.kernel.items)
-        → IsKernel g (map (core_set StorageT.index) state.new.kernel.items) }
+    requires same { AreSameCores StorageT.index state.old.kernel.items kernel.now }
+    requires room { HaveSameRooms StorageT.index state.old.kernel.items kernel.now }
+    ensures { StaysKernel StorageT.index state.old.kernel.items state.new.kernel.items }
 {
     if unite(&mut state.kernel, kernel) {
         state.waits = true;
@@ -330,8 +325,7 @@ fn finished<StorageT: StorageIndex>(
     marks: &[bool],
 ) -> Result<(Vec<Vec<CoreItems<StorageT>>>, Vec<Transitions>), AllocError>
     requires { length marks.now ≡ length states.now }
-    ensures cores { IfOk result (λ merged. (g : Grammar) → All (IsKernel g) (kernels_of StorageT.index states.now)
-        → AreCoreRows g (kernel_rows StorageT.index merged.0.items)) }
+    ensures cores { IfOk result (λ merged. HaveCoresOf StorageT.index states.now merged.0.items) }
     ensures len { IfOk result (λ merged. length merged.0.items ≤ length states.now) }
 {
     let numbers = numbers_of(alloc, marks)?;

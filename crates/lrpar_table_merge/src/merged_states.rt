@@ -1,23 +1,11 @@
 //! The states of merged item sets, from their kernels and transitions.
-ghost use Rattle.std.specs.Prelude.{◌≡◌, ◌<◌, ◌≤◌, ◌↔◌, ℕ, IfErr, IfOk, IsTrue, None, Some, length, map, slice_index_or};
-ghost use Rattle.std.specs.Option.{option_map};
-ghost use Rattle.lrpar_grammar.specs.Grammar.{IsWellFormed, Nonterminal, Terminal, rules_len, tokens_len};
-ghost use Rattle.lrpar_table_rows.specs.Graph.{ItemOf};
-ghost use Rattle.lrpar_table_rows.specs.PlainRows.{goto_entry};
-ghost use Rattle.lrpar_table_items.specs.Canonical.{AreSame};
-ghost use Rattle.lrpar_table_items.specs.CoreOrder.{IsKernel};
-ghost use Rattle.lrpar_table_items.specs.Cores.{IsAmong, core_set};
-ghost use Rattle.lrpar_table_items.specs.ItemSets.{IsInClosure};
-ghost use Rattle.lrpar_table_items.specs.Next.{kernel_at, kernel_rows};
-ghost use Rattle.lrpar_table_items.specs.Resolution.{shift_entry};
-ghost use Rattle.lrpar_table_items.specs.States.{state_of, step_entry};
+ghost use Rattle.std.specs.Prelude.{◌≡◌, ◌<◌, ◌≤◌, ◌↔◌, IfErr, IfOk, IsTrue, None, length, slice_index_or};
+ghost use Rattle.lrpar_grammar.specs.Grammar.{IsWellFormed};
 ghost use Rattle.lrpar_table_items.specs.Working.{AreSuccessors};
-ghost use Rattle.lrpar_table_merge.specs.Expansions.{AreExpansions, IsExpandedAt};
-ghost use Rattle.lrpar_table_merge.specs.Held.{GoesBy, IsHeld, transitions_at};
-ghost use Rattle.lrpar_table_merge.specs.MergedStates.{AreMergedStates, all_transitions, transitions_of};
-ghost use Rattle.lrpar_table_merge.specs.MergedSteps.{AreGivenBy, AreGivenSteps, FitsNext, IsGivenState};
-ghost use Rattle.lrpar_table_merge.specs.PassedOn.{AreBeginnings, IsBeginning};
-ghost use Rattle.lrpar_table_merge.specs.declared.held.HeldFault.TheVariants.{Misfit};
+ghost use Rattle.lrpar_table_merge.specs.Expansions.{HaveSets, IsKeptAt};
+ghost use Rattle.lrpar_table_merge.specs.Passing.{AreKernelsHeld};
+ghost use Rattle.lrpar_table_merge.specs.StoredKernels.{AreKernelsIfFilled, HaveAnItem, IsKernelIfFilled, IsKernelOf};
+ghost use Rattle.lrpar_table_merge.specs.StoredStates.{AreStatesOf, FitsGoto, HasGivenGotos, HasGivenShifts, HasGivenSteps, IsGivenNext, IsMisfitAt, IsStateAt};
 
 use crate::compatible::have_same_cores;
 use crate::expansions::Expansions;
@@ -34,29 +22,27 @@ use std::alloc::Global;
 ///
 /// It returns `Misfit` if a kernel has no item; if a transition is missing where an item has the symbol after its dot; and if a transition
 /// is there where no item has it, or leads to state 0, to no state, or to a state with other LR(0) cores. It returns `Memory` if an
-/// allocation fails. After an `Err` no state is left, and `sets` can be used again. For each state it takes a closure, and time proportional
-/// to the number of rules and tokens.
+/// allocation fails. After an `Err` no state is left, and `expansions` can be used again. For each state it takes a closure, and time
+/// proportional to the number of rules and tokens.
 pub(crate) fn merged_states<StorageT: StorageIndex>(
     alloc: Global,
     grm: &YaccGrammar<StorageT>,
-    sets: &mut Expansions<StorageT>,
+    expansions: &mut Expansions<StorageT>,
     all: &[Transitions],
     kernels: &[Vec<CoreItems<StorageT>>],
 ) -> Result<Vec<State<StorageT>>, HeldFault>
     requires well_formed { IsWellFormed grm.now }
-    requires sets { AreExpansions StorageT.index grm.now sets.old }
+    requires sets { HaveSets StorageT.index grm.now expansions.old }
     requires some { 0 < length kernels.now }
     requires fit { length kernels.now ≤ StorageT.limit }
-    requires kernels { AreBeginnings grm.now (kernel_rows StorageT.index kernels.now) }
-    requires held { (s : ℕ) → AreSame (IsInClosure grm.now (IsAmong (kernel_at (kernel_rows StorageT.index kernels.now) s)))
-        (IsHeld grm.now (GoesBy (all_transitions all.now)) s) }
-    ensures sets { AreExpansions StorageT.index grm.now sets.new }
-    ensures states { IfOk result (λ states. AreMergedStates grm.now (map (state_of StorageT.index) states.items)) }
+    requires held { AreKernelsHeld StorageT.index grm.now all.now kernels.now }
+    ensures sets { HaveSets StorageT.index grm.now expansions.new }
+    ensures states { IfOk result (AreStatesOf StorageT.index grm.now) }
     ensures len { IfOk result (λ states. length states.items ≡ length kernels.now) }
 {
     let mut states = Vec::new(alloc);
     for number in 0..kernels.len() {
-        let state = merged_state(alloc, grm, sets, all, kernels, number)?;
+        let state = merged_state(alloc, grm, expansions, all, kernels, number)?;
         states.push(state)?;
     }
     Ok(states)
@@ -66,23 +52,21 @@ pub(crate) fn merged_states<StorageT: StorageIndex>(
 fn merged_state<StorageT: StorageIndex>(
     alloc: Global,
     grm: &YaccGrammar<StorageT>,
-    sets: &mut Expansions<StorageT>,
+    expansions: &mut Expansions<StorageT>,
     all: &[Transitions],
     kernels: &[Vec<CoreItems<StorageT>>],
     number: usize,
 ) -> Result<State<StorageT>, HeldFault>
     requires well_formed { IsWellFormed grm.now }
-    requires sets { AreExpansions StorageT.index grm.now sets.old }
+    requires sets { HaveSets StorageT.index grm.now expansions.old }
     requires number { number < length kernels.now }
     requires fit { length kernels.now ≤ StorageT.limit }
-    requires kernels { AreBeginnings grm.now (kernel_rows StorageT.index kernels.now) }
-    ensures sets { AreExpansions StorageT.index grm.now sets.new }
-    ensures state { IfOk result (λ state. IsGivenState grm.now (kernel_rows StorageT.index kernels.now)
-        (transitions_at (all_transitions all.now) number) (kernel_at (kernel_rows StorageT.index kernels.now) number)
-        (state_of StorageT.index state)) }
+    requires kernels { AreKernelsIfFilled StorageT.index grm.now kernels.now }
+    ensures sets { HaveSets StorageT.index grm.now expansions.new }
+    ensures state { IfOk result (IsStateAt StorageT.index grm.now kernels.now all.now number) }
 {
-    let place = expanded(alloc, grm, sets, &kernels[number])?;
-    let successors = sets.at(place);
+    let place = expanded(alloc, grm, expansions, &kernels[number])?;
+    let successors = expansions.at(place);
     let items = copied(alloc, &successors.items)?;
     let none = Transitions {
         rules: Vec::new(alloc),
@@ -101,26 +85,26 @@ fn merged_state<StorageT: StorageIndex>(
 fn expanded<StorageT: StorageIndex>(
     alloc: Global,
     grm: &YaccGrammar<StorageT>,
-    sets: &mut Expansions<StorageT>,
+    expansions: &mut Expansions<StorageT>,
     kernel: &[CoreItems<StorageT>],
 ) -> Result<usize, HeldFault>
     requires well_formed { IsWellFormed grm.now }
-    requires sets { AreExpansions StorageT.index grm.now sets.old }
-    requires kernel { IsBeginning grm.now (map (core_set StorageT.index) kernel.now) }
-    ensures sets { AreExpansions StorageT.index grm.now sets.new }
-    ensures is_kernel { IfOk result (λ _. IsKernel grm.now (map (core_set StorageT.index) kernel.now)) }
-    ensures expanded { IfOk result (IsExpandedAt StorageT.index grm.now sets.new.all.items (map (core_set StorageT.index) kernel.now)) }
+    requires sets { HaveSets StorageT.index grm.now expansions.old }
+    requires kernel { IsKernelIfFilled StorageT.index grm.now kernel.now }
+    ensures sets { HaveSets StorageT.index grm.now expansions.new }
+    ensures is_kernel { IfOk result (λ _. IsKernelOf StorageT.index grm.now kernel.now) }
+    ensures expanded { IfOk result (IsKeptAt StorageT.index grm.now expansions.new kernel.now) }
 {
     if !has_item(kernel) {
         return Err(HeldFault::Misfit);
     }
-    let place = sets.expand(alloc, grm, kernel)?;
+    let place = expansions.expand(alloc, grm, kernel)?;
     Ok(place)
 }
 
 // Whether the first core has a lookahead. Then the cores have an item.
 fn has_item<StorageT: StorageIndex>(kernel: &[CoreItems<StorageT>]) -> bool
-    ensures { IsTrue result → (x : ItemOf) × IsAmong (map (core_set StorageT.index) kernel.now) x }
+    ensures { IsTrue result → HaveAnItem StorageT.index kernel.now }
 {
     !kernel.is_empty() && kernel[0].tokens.has_any()
 }
@@ -141,12 +125,8 @@ fn all_steps<StorageT: StorageIndex>(
 >
     requires successors { AreSuccessors StorageT.index grm.now successors.now }
     requires fit { length kernels.now ≤ StorageT.limit }
-    ensures gotos { IfOk result (λ rows. AreGivenBy grm.now (kernel_rows StorageT.index kernels.now)
-        (map (core_set StorageT.index) successors.now.items.items) (transitions_of transitions.now) Nonterminal
-        (map (goto_entry StorageT.index) rows.0.items) (rules_len grm.now)) }
-    ensures shifts { IfOk result (λ rows. AreGivenBy grm.now (kernel_rows StorageT.index kernels.now)
-        (map (core_set StorageT.index) successors.now.items.items) (transitions_of transitions.now) Terminal
-        (map (shift_entry StorageT.index) rows.1.items) (tokens_len grm.now)) }
+    ensures gotos { IfOk result (HasGivenGotos StorageT.index grm.now kernels.now successors.now transitions.now) }
+    ensures shifts { IfOk result (HasGivenShifts StorageT.index grm.now kernels.now successors.now transitions.now) }
 {
     let gotos = steps::<StorageT, RIdx<StorageT>>(
         alloc,
@@ -176,8 +156,7 @@ fn steps<StorageT: StorageIndex, SymbolT: Numbered<StorageT>>(
     requires len { length reached.now ≡ len }
     requires symbols { len ≤ StorageT.limit }
     requires fit { length kernels.now ≤ StorageT.limit }
-    ensures { IfOk result (λ rows. AreGivenSteps (kernel_rows StorageT.index kernels.now) (kernel_at (kernel_rows StorageT.index reached.now))
-        (λ k. slice_index_or row.now k None) (map (step_entry SymbolT.number StorageT.index) rows.items) len) }
+    ensures { IfOk result (HasGivenSteps StorageT.index SymbolT.number kernels.now reached.now row.now len) }
 {
     let mut rows = Vec::new(alloc);
     for number in 0..len {
@@ -209,10 +188,9 @@ fn step<StorageT: StorageIndex>(
     given: Option<usize>,
 ) -> Result<Option<StIdx<StorageT>>, HeldFault>
     requires fit { length kernels.now ≤ StorageT.limit }
-    ensures state { IfOk result (λ state. option_map (λ s. StorageT.index s.0) state ≡ given) }
-    ensures fits { IfOk result (λ state. FitsNext (kernel_rows StorageT.index kernels.now) (map (core_set StorageT.index) next.now) given) }
-    ensures misfit { IfErr result (λ fault. (fault ≡ Misfit)
-        × (¬ (FitsNext (kernel_rows StorageT.index kernels.now) (map (core_set StorageT.index) next.now) given))) }
+    ensures state { IfOk result (IsGivenNext StorageT.index given) }
+    ensures fits { IfOk result (λ _. FitsGoto StorageT.index kernels.now next.now given) }
+    ensures misfit { IfErr result (IsMisfitAt StorageT.index kernels.now next.now given) }
 {
     if !fits_next(kernels, next, given) {
         return Err(HeldFault::Misfit);
@@ -229,7 +207,7 @@ fn fits_next<StorageT: StorageIndex>(
     next: &[CoreItems<StorageT>],
     given: Option<usize>,
 ) -> bool
-    ensures { IsTrue result ↔ FitsNext (kernel_rows StorageT.index kernels.now) (map (core_set StorageT.index) next.now) given }
+    ensures { IsTrue result ↔ FitsGoto StorageT.index kernels.now next.now given }
 {
     match given {
         None => next.is_empty(),

@@ -1,9 +1,8 @@
 //! The state graph and the table of merged item sets.
-ghost use Rattle.std.specs.Prelude.{◌≡◌, ◌≤◌, IfErr, IfOk, length, map};
+ghost use Rattle.std.specs.Prelude.{◌≡◌, ◌≤◌, IfErr, IfOk, length};
 ghost use Rattle.lrpar_table_rows.specs.Graph.{graph_len};
-ghost use Rattle.lrpar_table_items.specs.States.{state_of};
-ghost use Rattle.lrpar_table_merge.specs.MergedBy.{IsMergedBy, IsMergedRefusal};
-ghost use Rattle.lrpar_table_merge.specs.MergedStates.{AreMergedStates};
+ghost use Rattle.lrpar_table_merge.specs.MergedBy.{IsMergedBy, IsTableRefusal};
+ghost use Rattle.lrpar_table_merge.specs.StoredStates.{AreStatesOf};
 
 use lrpar_grammar::grammar::YaccGrammar;
 use lrpar_grammar::span::StorageIndex;
@@ -25,11 +24,11 @@ pub(crate) fn table_of_merged<StorageT: StorageIndex>(
     precedences: &Precedences,
     states: Vec<State<StorageT>>,
 ) -> Result<(StateGraph<StorageT>, StateTable<StorageT>), BuildFault>
-    requires states { AreMergedStates grm.now (map (state_of StorageT.index) states.items) }
+    requires states { AreStatesOf StorageT.index grm.now states }
     requires fit { length states.items ≤ StorageT.limit }
     ensures merged { IfOk result (λ built. IsMergedBy grm.now precedences.now built.0 built.1) }
     ensures len { IfOk result (λ built. graph_len built.0 ≡ length states.items) }
-    ensures refused { IfErr result (IsMergedRefusal grm.now) }
+    ensures refused { IfErr result (IsTableRefusal grm.now) }
 {
     let _start = grm.start_prod();
     state_tables(alloc, grm, precedences, states)

@@ -1,12 +1,8 @@
 //! Kernels that are passed on along the transitions of a state.
 ghost use Rattle.std.specs.Prelude.{◌≡◌, ◌<◌, IfErr, IfOk, OnOk, length, map};
-ghost use Rattle.lrpar_grammar.specs.Grammar.{Grammar};
 ghost use Rattle.lrpar_table_items.specs.Cores.{core_set};
-ghost use Rattle.lrpar_table_items.specs.Next.{kernel_rows};
-ghost use Rattle.lrpar_table_merge.specs.Misfits.{HasMisfitIn};
-ghost use Rattle.lrpar_table_merge.specs.PassedOn.{AreBeginnings, IsMisfit};
-ghost use Rattle.lrpar_table_merge.specs.Propagated.{AreAdded, AreNoneOrKernels, ArePassedAlong, HasGrown, IsNoneOrKernel, IsPassedAlong, step_at};
-ghost use Rattle.lrpar_table_merge.specs.declared.held.HeldFault.TheVariants.{Misfit};
+ghost use Rattle.lrpar_table_merge.specs.Passing.{AddsItems, HasMisfit, IsMisfitAlong, PassesAlong, PassesRow, ShareGrammarAll, ShareGrammarIfAny, StayKernelsAll, StayKernelsIfAny, TellsGrowth};
+ghost use Rattle.lrpar_table_merge.specs.Propagated.{step_at};
 
 use crate::held::{HeldFault, pass_to};
 use lrpar_grammar::span::StorageIndex;
@@ -20,15 +16,12 @@ pub(crate) fn pass_all<StorageT: StorageIndex>(
     nexts: &[Vec<CoreItems<StorageT>>],
 ) -> Result<bool, HeldFault>
     requires waits { length waits.old ≡ length kernels.old }
-    requires known { (g : Grammar) × AreBeginnings g (kernel_rows StorageT.index kernels.old)
-        × AreNoneOrKernels g (kernel_rows StorageT.index nexts.now) }
-    ensures added { OnOk result (AreAdded (kernel_rows StorageT.index kernels.old) waits.old (kernel_rows StorageT.index kernels.new) waits.new) }
-    ensures passed { OnOk result (ArePassedAlong row.now (kernel_rows StorageT.index nexts.now) (length nexts.now)
-        (kernel_rows StorageT.index kernels.old) (kernel_rows StorageT.index kernels.new)) }
-    ensures kernels { OnOk result ((g : Grammar) → AreBeginnings g (kernel_rows StorageT.index kernels.old)
-        → AreNoneOrKernels g (kernel_rows StorageT.index nexts.now) → AreBeginnings g (kernel_rows StorageT.index kernels.new)) }
-    ensures grown { IfOk result (HasGrown (kernel_rows StorageT.index kernels.old) waits.old (kernel_rows StorageT.index kernels.new) waits.new) }
-    ensures misfit { IfErr result (λ _. HasMisfitIn (kernel_rows StorageT.index kernels.old) row.now (kernel_rows StorageT.index nexts.now)) }
+    requires known { ShareGrammarAll StorageT.index kernels.old nexts.now }
+    ensures added { OnOk result (AddsItems StorageT.index kernels.old waits.old kernels.new waits.new) }
+    ensures passed { OnOk result (PassesRow StorageT.index row.now nexts.now kernels.old kernels.new) }
+    ensures kernels { OnOk result (StayKernelsAll StorageT.index kernels.old nexts.now kernels.new) }
+    ensures grown { IfOk result (TellsGrowth StorageT.index kernels.old waits.old kernels.new waits.new) }
+    ensures misfit { IfErr result (λ _. HasMisfit StorageT.index kernels.old row.now nexts.now) }
 {
     let mut grown = false;
     for symbol in 0..nexts.len() {
@@ -57,17 +50,13 @@ fn pass_one<StorageT: StorageIndex>(
     next: &[CoreItems<StorageT>],
 ) -> Result<bool, HeldFault>
     requires waits { length waits.old ≡ length kernels.old }
-    requires known { (g : Grammar) × AreBeginnings g (kernel_rows StorageT.index kernels.old)
-        × IsNoneOrKernel g (map (core_set StorageT.index) next.now) }
-    ensures added { OnOk result (AreAdded (kernel_rows StorageT.index kernels.old) waits.old (kernel_rows StorageT.index kernels.new) waits.new) }
-    ensures passed { OnOk result (IsPassedAlong step (map (core_set StorageT.index) next.now)
-        (kernel_rows StorageT.index kernels.old) (kernel_rows StorageT.index kernels.new)) }
-    ensures kernels { OnOk result ((g : Grammar) → AreBeginnings g (kernel_rows StorageT.index kernels.old)
-        → IsNoneOrKernel g (map (core_set StorageT.index) next.now) → AreBeginnings g (kernel_rows StorageT.index kernels.new)) }
-    ensures grown { IfOk result (HasGrown (kernel_rows StorageT.index kernels.old) waits.old (kernel_rows StorageT.index kernels.new) waits.new) }
+    requires known { ShareGrammarIfAny StorageT.index kernels.old next.now }
+    ensures added { OnOk result (AddsItems StorageT.index kernels.old waits.old kernels.new waits.new) }
+    ensures passed { OnOk result (PassesAlong StorageT.index step next.now kernels.old kernels.new) }
+    ensures kernels { OnOk result (StayKernelsIfAny StorageT.index kernels.old next.now kernels.new) }
+    ensures grown { IfOk result (TellsGrowth StorageT.index kernels.old waits.old kernels.new waits.new) }
     ensures some { IfErr result (λ _. 0 < length (map (core_set StorageT.index) next.now)) }
-    ensures misfit { IfErr result (λ fault. (fault ≡ Misfit)
-        × IsMisfit (kernel_rows StorageT.index kernels.old) step (map (core_set StorageT.index) next.now)) }
+    ensures misfit { IfErr result (IsMisfitAlong StorageT.index kernels.old step next.now) }
 {
     if next.is_empty() {
         return Ok(false);

@@ -1,20 +1,11 @@
 //! The items that states hold, propagated from the start along transitions until nothing grows.
-ghost use Rattle.std.specs.Prelude.{◌≡◌, ◌<◌, ◌↔◌, ℕ, All, IfErr, IfOk, IsTrue, OnOk, length, map};
-ghost use Rattle.lrpar_grammar.specs.Grammar.{GrammarSymbol, IsWellFormed};
-ghost use Rattle.lrpar_table_rows.specs.Graph.{ItemOf};
-ghost use Rattle.lrpar_table_items.specs.Canonical.{AreSame};
-ghost use Rattle.lrpar_table_items.specs.CoreOrder.{AreCores, IsKernel};
-ghost use Rattle.lrpar_table_items.specs.Cores.{IsAmong, IsCoreOf, core_set};
-ghost use Rattle.lrpar_table_items.specs.ItemSets.{IsInClosure};
-ghost use Rattle.lrpar_table_items.specs.Next.{kernel_at, kernel_rows};
-ghost use Rattle.lrpar_table_items.specs.Working.{AreSuccessors};
-ghost use Rattle.lrpar_table_merge.specs.Expansions.{AreExpansions};
-ghost use Rattle.lrpar_table_merge.specs.Held.{GoesBy, IsHeld, transitions_at};
+ghost use Rattle.std.specs.Prelude.{◌≡◌, ◌<◌, ◌↔◌, IfErr, IfOk, IsTrue, OnOk, length};
+ghost use Rattle.lrpar_grammar.specs.Grammar.{IsWellFormed};
+ghost use Rattle.lrpar_table_merge.specs.Expansions.{HaveSets};
+ghost use Rattle.lrpar_table_merge.specs.Held.{transitions_at};
 ghost use Rattle.lrpar_table_merge.specs.MergedStates.{all_transitions};
-ghost use Rattle.lrpar_table_merge.specs.Misfits.{HasNoStart, IsFaultOfHeld, IsStuck, IsStuckAt};
-ghost use Rattle.lrpar_table_merge.specs.PassedOn.{AreBeginnings};
-ghost use Rattle.lrpar_table_merge.specs.Propagated.{AreAdded, AreAlike, ArePropagated, HasGrown, HasSettled, HaveBegun, IsPassedFrom, IsRoundTo, LeadOn};
-ghost use Rattle.lrpar_table_merge.specs.declared.held.HeldFault.TheVariants.{Misfit};
+ghost use Rattle.lrpar_table_merge.specs.Passing.{BeginsAtStart, EndsRound, HasGoneOn, HasPassedOn, HavePropagated, IsPropagationFault, IsStartFault, IsStuckFault, IsStuckFaultAt, IsUnderWay, PassesFrom};
+ghost use Rattle.lrpar_table_merge.specs.StoredKernels.{AreKernelsIfFilled, AreWithoutItems, HaveAnItem, HaveCores, StayAlike};
 
 use crate::clear::clear_kernels;
 use crate::expansions::Expansions;
@@ -27,7 +18,7 @@ use lrpar_table_items::states::start_kernel;
 use std::alloc::Global;
 
 /// Sets the lookaheads of the kernels to those that the states hold: propagated from the start item along the transitions, and nothing
-/// else. The cores of the kernels stay. `sets` is scratch space.
+/// else. The cores of the kernels stay. The closures that it makes stay in `expansions`.
 ///
 /// It returns `Misfit` if a state holds an item with a symbol after the dot by which no transition goes, or if one goes by it to no state
 /// or to a state with other LR(0) cores than those of the advanced items; also, if the kernel of state 0 has any core but the start
@@ -38,26 +29,22 @@ use std::alloc::Global;
 pub(crate) fn propagate<StorageT: StorageIndex>(
     alloc: Global,
     grm: &YaccGrammar<StorageT>,
-    sets: &mut Expansions<StorageT>,
+    expansions: &mut Expansions<StorageT>,
     all: &[Transitions],
     kernels: &mut [Vec<CoreItems<StorageT>>],
 ) -> Result<(), HeldFault>
     requires well_formed { IsWellFormed grm.now }
-    requires sets { AreExpansions StorageT.index grm.now sets.old }
-    requires cores { All (All (IsCoreOf grm.now)) (kernel_rows StorageT.index kernels.old) }
-    ensures sets { AreExpansions StorageT.index grm.now sets.new }
+    requires sets { HaveSets StorageT.index grm.now expansions.old }
+    requires cores { HaveCores StorageT.index grm.now kernels.old }
+    ensures sets { HaveSets StorageT.index grm.now expansions.new }
     ensures len { length kernels.new ≡ length kernels.old }
     ensures some { OnOk result (0 < length kernels.new) }
-    ensures alike { OnOk result (AreAlike (kernel_rows StorageT.index kernels.old) (kernel_rows StorageT.index kernels.new)) }
-    ensures kernels { OnOk result (AreBeginnings grm.now (kernel_rows StorageT.index kernels.new)) }
-    ensures held { OnOk result ((s : ℕ) → AreSame (IsInClosure grm.now (IsAmong (kernel_at (kernel_rows StorageT.index kernels.new) s)))
-        (IsHeld grm.now (GoesBy (all_transitions all.now)) s)) }
-    ensures steps { OnOk result (LeadOn grm.now (GoesBy (all_transitions all.now)) (length kernels.new)) }
-    ensures fault { IfErr result (IsFaultOfHeld grm.now (all_transitions all.now) (kernel_rows StorageT.index kernels.old)) }
+    ensures held { OnOk result (HavePropagated StorageT.index grm.now all.now kernels.old kernels.new) }
+    ensures fault { IfErr result (IsPropagationFault StorageT.index grm.now all.now kernels.old) }
 {
     clear_kernels(kernels);
     let mut waits = begin(alloc, grm, kernels)?;
-    pass_rounds(alloc, grm, sets, all, kernels, &mut waits)
+    pass_rounds(alloc, grm, expansions, all, kernels, &mut waits)
 }
 
 // Passes the start item to the kernel of state 0. Returns which states wait: state 0 alone.
@@ -66,13 +53,13 @@ fn begin<StorageT: StorageIndex>(
     grm: &YaccGrammar<StorageT>,
     kernels: &mut [Vec<CoreItems<StorageT>>],
 ) -> Result<Vec<bool>, HeldFault>
-    requires cores { All (All (IsCoreOf grm.now)) (kernel_rows StorageT.index kernels.old) }
-    requires none { (s : ℕ) (x : ItemOf) → ¬ (IsAmong (kernel_at (kernel_rows StorageT.index kernels.old) s) x) }
+    requires cores { HaveCores StorageT.index grm.now kernels.old }
+    requires none { AreWithoutItems StorageT.index kernels.old }
     ensures some { OnOk result (0 < length kernels.new) }
     ensures waits { IfOk result (λ waits. length waits.items ≡ length kernels.new) }
-    ensures alike { OnOk result (AreAlike (kernel_rows StorageT.index kernels.old) (kernel_rows StorageT.index kernels.new)) }
-    ensures begun { IfOk result (λ waits. HaveBegun grm.now (kernel_rows StorageT.index kernels.new) waits.items) }
-    ensures misfit { IfErr result (λ fault. fault ≡ Misfit → HasNoStart grm.now (kernel_rows StorageT.index kernels.old)) }
+    ensures alike { OnOk result (StayAlike StorageT.index kernels.old kernels.new) }
+    ensures begun { IfOk result (BeginsAtStart StorageT.index grm.now kernels.new) }
+    ensures misfit { IfErr result (IsStartFault StorageT.index grm.now kernels.old) }
 {
     let start = start_kernel(alloc, grm)?;
     let _grown = pass_to(kernels, 0, &start)?;
@@ -85,24 +72,20 @@ fn begin<StorageT: StorageIndex>(
 fn pass_rounds<StorageT: StorageIndex>(
     alloc: Global,
     grm: &YaccGrammar<StorageT>,
-    sets: &mut Expansions<StorageT>,
+    expansions: &mut Expansions<StorageT>,
     all: &[Transitions],
     kernels: &mut [Vec<CoreItems<StorageT>>],
     waits: &mut [bool],
 ) -> Result<(), HeldFault>
     requires well_formed { IsWellFormed grm.now }
-    requires sets { AreExpansions StorageT.index grm.now sets.old }
+    requires sets { HaveSets StorageT.index grm.now expansions.old }
     requires waits { length waits.old ≡ length kernels.old }
-    requires propagated { ArePropagated grm.now (GoesBy (all_transitions all.now)) (kernel_rows StorageT.index kernels.old) waits.old }
-    ensures sets { AreExpansions StorageT.index grm.now sets.new }
-    ensures alike { OnOk result (AreAlike (kernel_rows StorageT.index kernels.old) (kernel_rows StorageT.index kernels.new)) }
-    ensures kernels { OnOk result (AreBeginnings grm.now (kernel_rows StorageT.index kernels.new)) }
-    ensures held { OnOk result ((s : ℕ) → AreSame (IsInClosure grm.now (IsAmong (kernel_at (kernel_rows StorageT.index kernels.new) s)))
-        (IsHeld grm.now (GoesBy (all_transitions all.now)) s)) }
-    ensures steps { OnOk result (LeadOn grm.now (GoesBy (all_transitions all.now)) (length kernels.new)) }
-    ensures stuck { IfErr result (λ fault. fault ≡ Misfit → IsStuck grm.now (all_transitions all.now) (kernel_rows StorageT.index kernels.old)) }
+    requires propagated { IsUnderWay StorageT.index grm.now all.now kernels.old waits.old }
+    ensures sets { HaveSets StorageT.index grm.now expansions.new }
+    ensures held { OnOk result (HavePropagated StorageT.index grm.now all.now kernels.old kernels.new) }
+    ensures stuck { IfErr result (IsStuckFault StorageT.index grm.now all.now kernels.old) }
 {
-    'rounds: while pass_round(alloc, grm, sets, all, kernels, waits)? {}
+    'rounds: while pass_round(alloc, grm, expansions, all, kernels, waits)? {}
     Ok(())
 }
 
@@ -110,25 +93,23 @@ fn pass_rounds<StorageT: StorageIndex>(
 fn pass_round<StorageT: StorageIndex>(
     alloc: Global,
     grm: &YaccGrammar<StorageT>,
-    sets: &mut Expansions<StorageT>,
+    expansions: &mut Expansions<StorageT>,
     all: &[Transitions],
     kernels: &mut [Vec<CoreItems<StorageT>>],
     waits: &mut [bool],
 ) -> Result<bool, HeldFault>
     requires well_formed { IsWellFormed grm.now }
-    requires sets { AreExpansions StorageT.index grm.now sets.old }
+    requires sets { HaveSets StorageT.index grm.now expansions.old }
     requires waits { length waits.old ≡ length kernels.old }
-    requires propagated { ArePropagated grm.now (GoesBy (all_transitions all.now)) (kernel_rows StorageT.index kernels.old) waits.old }
-    ensures sets { AreExpansions StorageT.index grm.now sets.new }
-    ensures alike { OnOk result (AreAlike (kernel_rows StorageT.index kernels.old) (kernel_rows StorageT.index kernels.new)) }
-    ensures propagated { OnOk result (ArePropagated grm.now (GoesBy (all_transitions all.now)) (kernel_rows StorageT.index kernels.new) waits.new) }
-    ensures round { IfOk result (IsRoundTo (kernel_rows StorageT.index kernels.old) (kernel_rows StorageT.index kernels.new) waits.new
-        (length kernels.new)) }
-    ensures stuck { IfErr result (λ fault. fault ≡ Misfit → IsStuck grm.now (all_transitions all.now) (kernel_rows StorageT.index kernels.old)) }
+    requires propagated { IsUnderWay StorageT.index grm.now all.now kernels.old waits.old }
+    ensures sets { HaveSets StorageT.index grm.now expansions.new }
+    ensures propagated { OnOk result (HasGoneOn StorageT.index grm.now all.now kernels.old kernels.new waits.new) }
+    ensures round { IfOk result (EndsRound StorageT.index kernels.old kernels.new waits.new) }
+    ensures stuck { IfErr result (IsStuckFault StorageT.index grm.now all.now kernels.old) }
 {
     let mut grown = false;
     for state in 0..kernels.len() {
-        let more = pass_waiting(alloc, grm, sets, all, state, kernels, waits)?;
+        let more = pass_waiting(alloc, grm, expansions, all, state, kernels, waits)?;
         grown = grown || more;
     }
     Ok(grown)
@@ -138,29 +119,26 @@ fn pass_round<StorageT: StorageIndex>(
 fn pass_waiting<StorageT: StorageIndex>(
     alloc: Global,
     grm: &YaccGrammar<StorageT>,
-    sets: &mut Expansions<StorageT>,
+    expansions: &mut Expansions<StorageT>,
     all: &[Transitions],
     state: usize,
     kernels: &mut [Vec<CoreItems<StorageT>>],
     waits: &mut [bool],
 ) -> Result<bool, HeldFault>
     requires well_formed { IsWellFormed grm.now }
-    requires sets { AreExpansions StorageT.index grm.now sets.old }
+    requires sets { HaveSets StorageT.index grm.now expansions.old }
     requires waits { length waits.old ≡ length kernels.old }
     requires state { state < length kernels.old }
-    requires propagated { ArePropagated grm.now (GoesBy (all_transitions all.now)) (kernel_rows StorageT.index kernels.old) waits.old }
-    ensures sets { AreExpansions StorageT.index grm.now sets.new }
-    ensures alike { OnOk result (AreAlike (kernel_rows StorageT.index kernels.old) (kernel_rows StorageT.index kernels.new)) }
-    ensures propagated { OnOk result (ArePropagated grm.now (GoesBy (all_transitions all.now)) (kernel_rows StorageT.index kernels.new) waits.new) }
-    ensures grown { IfOk result (HasSettled state (kernel_rows StorageT.index kernels.old) waits.old (kernel_rows StorageT.index kernels.new) waits.new) }
-    ensures stuck { IfErr result (λ fault. fault ≡ Misfit → (symbol : GrammarSymbol)
-        × IsStuckAt grm.now (all_transitions all.now) (kernel_rows StorageT.index kernels.old) state symbol) }
+    requires propagated { IsUnderWay StorageT.index grm.now all.now kernels.old waits.old }
+    ensures sets { HaveSets StorageT.index grm.now expansions.new }
+    ensures passed { IfOk result (HasPassedOn StorageT.index grm.now all.now state kernels.old waits.old kernels.new waits.new) }
+    ensures stuck { IfErr result (IsStuckFaultAt StorageT.index grm.now all.now kernels.old state) }
 {
     if !waits[state] {
         return Ok(false);
     }
     waits[state] = false;
-    pass_from(alloc, grm, sets, all, state, kernels, waits)
+    pass_from(alloc, grm, expansions, all, state, kernels, waits)
 }
 
 // Passes the items of the state on along its transitions, and marks each state that grew as waiting. Returns whether any kernel grew. A
@@ -168,31 +146,26 @@ fn pass_waiting<StorageT: StorageIndex>(
 fn pass_from<StorageT: StorageIndex>(
     alloc: Global,
     grm: &YaccGrammar<StorageT>,
-    sets: &mut Expansions<StorageT>,
+    expansions: &mut Expansions<StorageT>,
     all: &[Transitions],
     state: usize,
     kernels: &mut [Vec<CoreItems<StorageT>>],
     waits: &mut [bool],
 ) -> Result<bool, HeldFault>
     requires well_formed { IsWellFormed grm.now }
-    requires sets { AreExpansions StorageT.index grm.now sets.old }
-    requires beginnings { AreBeginnings grm.now (kernel_rows StorageT.index kernels.old) }
+    requires sets { HaveSets StorageT.index grm.now expansions.old }
+    requires beginnings { AreKernelsIfFilled StorageT.index grm.now kernels.old }
     requires waits { length waits.old ≡ length kernels.old }
     requires state { state < length kernels.old }
-    ensures sets { AreExpansions StorageT.index grm.now sets.new }
-    ensures added { OnOk result (AreAdded (kernel_rows StorageT.index kernels.old) waits.old (kernel_rows StorageT.index kernels.new) waits.new) }
-    ensures passed { OnOk result (IsPassedFrom grm.now (GoesBy (all_transitions all.now)) state
-        (kernel_rows StorageT.index kernels.old) (kernel_rows StorageT.index kernels.new)) }
-    ensures beginnings { OnOk result (AreBeginnings grm.now (kernel_rows StorageT.index kernels.new)) }
-    ensures grown { IfOk result (HasGrown (kernel_rows StorageT.index kernels.old) waits.old (kernel_rows StorageT.index kernels.new) waits.new) }
-    ensures stuck { IfErr result (λ fault. fault ≡ Misfit → (symbol : GrammarSymbol)
-        × IsStuckAt grm.now (all_transitions all.now) (kernel_rows StorageT.index kernels.old) state symbol) }
+    ensures sets { HaveSets StorageT.index grm.now expansions.new }
+    ensures passed { IfOk result (PassesFrom StorageT.index grm.now all.now state kernels.old waits.old kernels.new waits.new) }
+    ensures stuck { IfErr result (IsStuckFaultAt StorageT.index grm.now all.now kernels.old state) }
 {
     if !has_items(&kernels[state]) {
         return Ok(false);
     }
-    let place = sets.expand(alloc, grm, &kernels[state])?;
-    let successors = sets.at(place);
+    let place = expansions.expand(alloc, grm, &kernels[state])?;
+    let successors = expansions.at(place);
     let by_rules = pass_all(kernels, waits, rules_from(all, state), &successors.rules)?;
     let by_tokens = pass_all(kernels, waits, tokens_from(all, state), &successors.tokens)?;
     Ok(by_rules | by_tokens)
@@ -200,7 +173,7 @@ fn pass_from<StorageT: StorageIndex>(
 
 // Whether the cores have any item.
 fn has_items<StorageT: StorageIndex>(cores: &[CoreItems<StorageT>]) -> bool
-    ensures { IsTrue result ↔ ((x : ItemOf) × IsAmong (map (core_set StorageT.index) cores.now) x) }
+    ensures { IsTrue result ↔ HaveAnItem StorageT.index cores.now }
 {
     for core in cores {
         if core.tokens.has_any() {

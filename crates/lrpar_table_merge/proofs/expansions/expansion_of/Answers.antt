@@ -1,4 +1,4 @@
-use Rattle.std.proofs.Common.{◌∙◌, sym, ap, subst, map}
+use Rattle.std.proofs.Common.{sym, ap, subst, map}
 use Rattle.lrpar_table_items.specs.Canonical.{AreSame}
 use Rattle.lrpar_table_items.specs.CoreOrder.{AreCores}
 use Rattle.lrpar_table_items.specs.Cores.{IsAmong, core_set}

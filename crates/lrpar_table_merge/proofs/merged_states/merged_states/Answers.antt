@@ -20,6 +20,9 @@ loop-number-init g c =
       given = λ s low. absurd (omega (arith, low));
     }
 
+pub merged_state-requires-clause-kernels : goal.merged_state-requires-clause-kernels
+merged_state-requires-clause-kernels g c = c.requires.held.filled
+
 pub loop-number-preserved : goal.loop-number-preserved
 loop-number-preserved g c =
     let index = g.StorageT.StorageIndex.index in
@@ -53,7 +56,7 @@ returns-clause-states g c =
     let within = so_far.within in
     let count = rows_len index kernels in
     let some = c.requires.some in
-    are_merged_states c.args.grm.now c.requires.well_formed rows (omega (arith, some, count)) all c.requires.held states
+    are_merged_states c.args.grm.now c.requires.well_formed rows (omega (arith, some, count)) all c.requires.held.held states
     (omega (arith, len, within, count, c.loop-number-test.false))
     (λ s low. so_far.given s (omega (arith, low, len)))
 

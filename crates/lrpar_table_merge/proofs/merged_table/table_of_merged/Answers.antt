@@ -7,7 +7,7 @@ use Rattle.lrpar_table_items.specs.Resolution.{IsAcceptReduce}
 use Rattle.lrpar_table_items.specs.StateRows.{IsRefusalOf, IsRefusedState, item_rows, table_of_states}
 use Rattle.lrpar_table_items.specs.States.{state_at, state_of}
 use Rattle.lrpar_table_build.proofs.TablesLemmas.{ok_four}
-use Rattle.lrpar_table_merge.specs.MergedBy.{IsMergedBy, IsMergedRefusal}
+use Rattle.lrpar_table_merge.specs.MergedBy.{IsMergedBy, IsTableRefusal}
 use Rattle.lrpar_table_merge.proofs.MergedStateLemmas.{merged_refusal, states_merged_by}
 use Rattle.lrpar_table_merge.proofs.merged_table.table_of_merged.Goals as goal
 
@@ -35,6 +35,6 @@ returns-clause-refused g c =
     let grm = c.args.grm.now in
     let states = map (state_of g.StorageT.StorageIndex.index) c.args.states.items in
     let len = length-map c.args.states.items (state_of g.StorageT.StorageIndex.index) in
-    IfErr-weaker c.state_tables.result (IsRefusalOf (length c.args.states.items) (IsRefusedState grm states)) (IsMergedRefusal grm)
+    IfErr-weaker c.state_tables.result (IsRefusalOf (length c.args.states.items) (IsRefusedState grm states)) (IsTableRefusal grm)
     (λ fault h. merged_refusal grm c.start_prod-start.ensures.well_formed states c.requires.states fault
     (subst (λ n. IsRefusalOf n (IsRefusedState grm states) fault) (sym len) h)) c.state_tables.ensures.refused

@@ -23,15 +23,18 @@ loop-state-preserved g c =
     let waits = c.pass_waiting.new.waits in
     let state = c.loop-state.state in
     let so_far = c.loop-state.invariant in
-    let one = c.in_ok-more.ensures in
+    let one = c.in_ok-more.ensures.passed in
     let grown = grown_result c.loop-state.grown c.in_ok-more.more c.if-grown.grown (elim c.if-grown.branch [
       | then-grown w ↦ inl (w.if-grown.true, w.grown-is ∙ w.if-grown.true)
       | else-grown w ↦ inr (w.if-grown.false, w.grown-is)
     ]) in record {
-      sets = one.sets;
-      alike = alike_on first before after so_far.alike one.alike;
-      propagated = one.propagated;
+      sets = c.in_ok-more.ensures.sets;
+      alike = alike_on first before after so_far.alike one.goes_on.alike;
+      propagated = one.goes_on.propagated;
       round =
           subst (IsRoundTo first after waits (state + 1)) grown
-          (round_more first before after c.loop-state.waits waits state c.loop-state.grown c.in_ok-more.more so_far.round one.grown);
+          (round_more first before after c.loop-state.waits waits state c.loop-state.grown c.in_ok-more.more so_far.round one.settled);
     }
+
+pub returns-clause-propagated : goal.returns-clause-propagated
+returns-clause-propagated g c = record { alike = c.loop-state.invariant.alike; propagated = c.loop-state.invariant.propagated }

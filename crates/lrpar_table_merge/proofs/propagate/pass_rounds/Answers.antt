@@ -24,8 +24,8 @@ rounds-preserved g c =
       sets = round.sets;
       alike =
           alike_on (kernel_rows index c.args.kernels.now) (kernel_rows index c.rounds.kernels) (kernel_rows index c.pass_round.new.kernels)
-          c.rounds.invariant.alike round.alike;
-      propagated = round.propagated;
+          c.rounds.invariant.alike round.propagated.alike;
+      propagated = round.propagated.propagated;
     }
 
 pub returns-in_err-pass_round-clause-stuck : goal.returns-in_err-pass_round-clause-stuck
@@ -36,28 +36,19 @@ returns-in_err-pass_round-clause-stuck g c =
     stuck_back c.args.grm.now (all_transitions c.args.all.now) (kernel_rows index c.args.kernels.now) (kernel_rows index c.rounds.kernels)
     c.rounds.invariant.alike (c.in_err-pass_round.ensures.stuck is))
 
-pub returns-clause-alike : goal.returns-clause-alike
-returns-clause-alike g c =
-    let index = g.StorageT.StorageIndex.index in
-    alike_on (kernel_rows index c.args.kernels.now) (kernel_rows index c.rounds.kernels) (kernel_rows index c.pass_round.new.kernels)
-    c.rounds.invariant.alike c.in_ok-pass_round.ensures.alike
-
 pub returns-clause-held : goal.returns-clause-held
 returns-clause-held g c =
-    let kernels = c.pass_round.new.kernels in
-    let waits = c.pass_round.new.waits in
-    let count : length waits ≡ length kernels =
-    omega (arith, c.requires.waits, c.rounds.auto.kernels, c.rounds.auto.waits, c.pass_round.auto.kernels, c.pass_round.auto.waits) in
-    held_exactly c.args.grm.now (all_transitions c.args.all.now) (kernel_rows g.StorageT.StorageIndex.index kernels) waits
-    c.in_ok-pass_round.ensures.propagated (none_waits waits (length kernels) count (OnFalse_at c.if-branch.false c.in_ok-pass_round.ensures.round.1).1)
-
-pub returns-clause-steps : goal.returns-clause-steps
-returns-clause-steps g c =
     let index = g.StorageT.StorageIndex.index in
+    let grm = c.args.grm.now in
+    let all = all_transitions c.args.all.now in
     let kernels = c.pass_round.new.kernels in
+    let rows = kernel_rows index kernels in
     let waits = c.pass_round.new.waits in
+    let last = c.in_ok-pass_round.ensures.propagated in
     let count : length waits ≡ length kernels =
     omega (arith, c.requires.waits, c.rounds.auto.kernels, c.rounds.auto.waits, c.pass_round.auto.kernels, c.pass_round.auto.waits) in
-    subst (LeadOn c.args.grm.now (GoesBy (all_transitions c.args.all.now))) (rows_len index kernels)
-    (lead_on c.args.grm.now (all_transitions c.args.all.now) (kernel_rows index kernels) waits c.in_ok-pass_round.ensures.propagated
-    (none_waits waits (length kernels) count (OnFalse_at c.if-branch.false c.in_ok-pass_round.ensures.round.1).1))
+    let none = none_waits waits (length kernels) count (OnFalse_at c.if-branch.false c.in_ok-pass_round.ensures.round.1).1 in record {
+      alike = alike_on (kernel_rows index c.args.kernels.now) (kernel_rows index c.rounds.kernels) rows c.rounds.invariant.alike last.alike;
+      held = record { filled = last.propagated.beginnings; held = held_exactly grm all rows waits last.propagated none };
+      steps = subst (LeadOn grm (GoesBy all)) (rows_len index kernels) (lead_on grm all rows waits last.propagated none);
+    }

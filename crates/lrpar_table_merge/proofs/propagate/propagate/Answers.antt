@@ -12,13 +12,17 @@ use Rattle.lrpar_table_merge.proofs.propagate.propagate.Goals as goal
 pub begin-requires-clause-cores : goal.begin-requires-clause-cores
 begin-requires-clause-cores g c = c.clear_kernels.ensures.cores c.args.grm.now c.requires.cores
 
-pub returns-clause-alike : goal.returns-clause-alike
-returns-clause-alike g c =
+pub returns-clause-held : goal.returns-clause-held
+returns-clause-held g c =
     let rows = λ (kernels : List _). kernel_rows g.StorageT.StorageIndex.index kernels in
     let start = c.in_ok-waits.ensures.alike in
     let first = alike_on (rows c.args.kernels.now) (rows c.clear_kernels.new.kernels) (rows c.begin.new.kernels) c.clear_kernels.ensures.alike start in
     on_ok_weaker c.pass_rounds.result
-    (alike_on (rows c.args.kernels.now) (rows c.begin.new.kernels) (rows c.pass_rounds.new.kernels) first) c.pass_rounds.ensures.alike
+    (λ done. record {
+      alike = alike_on (rows c.args.kernels.now) (rows c.begin.new.kernels) (rows c.pass_rounds.new.kernels) first done.alike;
+      held = done.held;
+      steps = done.steps;
+    }) c.pass_rounds.ensures.held
 
 pub returns-in_err-waits-clause-fault : goal.returns-in_err-waits-clause-fault
 returns-in_err-waits-clause-fault g c =
