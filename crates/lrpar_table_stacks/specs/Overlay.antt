@@ -1,9 +1,11 @@
 -- Overlays: stacks of states over a borrowed list, and their reductions and shifts at a token.
 use Rattle.std.specs.Prelude.{◌≡◌, ◌≢◌, ◌≤◌, ◌+◌, ◌-◌, ◌^◌, ◌⊎◌, ℕ, List, [], ◌∷◌, ◌++◌, Bool, true, false, length, min, take}
+use Rattle.lrpar_grammar_places.specs.declared.span.StIdx.{StIdx}
 use Rattle.lrpar_grammar.specs.Grammar.{Grammar, prod_len}
 use Rattle.lrpar_table_rows.specs.Table.{Table, ShiftTo}
 use Rattle.lrpar_table_stacks.specs.Reduction.{Feeds, Reduces, ReducesBy, top_action}
 use Rattle.lrpar_table_stacks.specs.Settled.{IsSettledBy}
+use Rattle.lrpar_table_stacks.specs.Stack.{Pushes, Replaces, states_of}
 
 -- the number of states of the base that are kept; the states above them, the tail; and the tail's room, a number of states
 pub record Overlaid : Type 0 where
@@ -15,6 +17,18 @@ pub record Overlaid : Type 0 where
 -- the states that an overlay represents, bottom first
 abbrev pub overlaid : Overlaid → List ℕ
 overlaid o = take o.kept o.base ++ o.tail
+
+-- an overlay of these states of code, with no states above them, and with no room
+abbrev pub laid_on : {S : Type 0} → (S → ℕ) → List (StIdx S) → Overlaid
+laid_on index base = record { base = states_of index base; kept = length base; tail = []; room = 0 }
+
+-- the state of code was pushed onto the overlay
+abbrev pub PushesOver : {S : Type 0} → (S → ℕ) → StIdx S → Overlaid → Overlaid → Type 0
+PushesOver index state old new = Pushes index state (overlaid old) (overlaid new)
+
+-- this number of states of the overlay was dropped, and the state of code was pushed
+abbrev pub ReplacesOver : {S : Type 0} → (S → ℕ) → ℕ → StIdx S → Overlaid → Overlaid → Type 0
+ReplacesOver index symbols state old new = Replaces index symbols state (overlaid old) (overlaid new)
 
 -- the number of states that are kept when a stack of this height makes these reductions: the least of the number before, and
 -- of the heights that the reductions leave before they push

@@ -2,8 +2,9 @@
 use Rattle.std.specs.Prelude.{◌≡◌, ◌≢◌, ℕ, List, [], ◌∷◌, ◌++◌}
 use Rattle.lrpar_grammar.specs.Grammar.{Grammar, GrammarSymbol, Nonterminal, Terminal, IsWellFormed, end_token, start_prod, rule_of, symbols_of}
 use Rattle.lrpar_table_rows.specs.Graph.{Graph}
-use Rattle.lrpar_table_rows.specs.Table.{Table, ShiftTo, ReduceBy, Accepts, IsClosed}
+use Rattle.lrpar_table_rows.specs.Table.{Table, ShiftTo, ReduceBy, Accepts, FailsPastTokens, HasNoGotoPastRules, IsClosed}
 use Rattle.lrpar_table_stacks.specs.Reduction.{Reduces, top_action}
+use Rattle.lrpar_table_stacks.specs.Stack.{IsStack}
 use Rattle.lrpar_table_rows.specs.Safe.{GoesBy, IsSafe}
 
 -- from state s the symbols lead through the states of st, one after the other
@@ -17,6 +18,16 @@ Leads table s (x ∷ xs) (next ∷ st) = GoesBy table s x next × Leads table ne
 abbrev pub IsPath : Table → List GrammarSymbol → List ℕ → Type 0
 IsPath table symbols [] = ⊥
 IsPath table symbols (s ∷ st) = (s ≡ table.start) × Leads table s symbols st
+
+-- a path is a stack, if the table has no entries past its tokens and its rules
+abbrev pub PathsAreStacks : Type 0
+PathsAreStacks =
+    (table : Table) (symbols : List GrammarSymbol) (st : List ℕ) → FailsPastTokens table → HasNoGotoPastRules table → IsPath table symbols st
+    → IsStack table st
+
+-- every stack is a path along some symbols
+abbrev pub StacksArePaths : Type 0
+StacksArePaths = (table : Table) (st : List ℕ) → IsStack table st → (symbols : List GrammarSymbol) × IsPath table symbols st
 
 -- At token t a stack along these symbols reduces by p: p isn't the start production, its symbols are the top ones, there are
 -- more states than symbols of p, and the state that is left has a goto by the rule of p.

@@ -1,10 +1,14 @@
 -- One step under a lookahead, over any list of states: a stack, or the states of a chain.
 use Rattle.std.specs.Prelude.{◌≡◌, ◌<◌, ◌≤◌, ℕ, List, [], ◌∷◌, ◌++◌, length, Some, None}
+use Rattle.lrpar_grammar_places.specs.declared.span.PIdx.{PIdx}
+use Rattle.lrpar_grammar_places.specs.declared.span.TIdx.{TIdx}
 use Rattle.lrpar_grammar.specs.Grammar.{Grammar, prods_len, prod_len, rules_len, rule_of}
 use Rattle.lrpar_table_stacks.specs.Chain.{DropsAll}
-use Rattle.lrpar_table_stacks.specs.Reduction.{Reduces, top_goto, left_by}
-use Rattle.lrpar_table_stacks.specs.StackReduction.{StackReduces}
+use Rattle.lrpar_table_stacks.specs.Reduction.{Reduces, top_action, top_goto, left_by}
+use Rattle.lrpar_table_stacks.specs.StackReduction.{IsStepShortOfMemory, StackReduces}
+use Rattle.lrpar_table_rows.specs.PlainRows.{plain_action}
 use Rattle.lrpar_table_rows.specs.Table.{Table, ReduceBy, action_of}
+use Rattle.lrpar_table_rows.specs.declared.rows.Action.{Action}
 use Rattle.lrpar_table_stacks.specs.declared.reduction.Step.{Step}
 use Rattle.lrpar_table_stacks.specs.declared.reduction.Step.TheVariants.{Reduced, LeavesNone, Stays}
 
@@ -44,3 +48,32 @@ abbrev pub IsStackStep : {X : Type 0} → (X → List ℕ) → (X → ℕ → �
 IsStackStep states reduces g table t old Reduced new = (p : ℕ) × StackReduces states reduces g table t old p new
 IsStackStep states reduces g table t old LeavesNone new = new ≡ old
 IsStackStep states reduces g table t old Stays new = new ≡ old
+
+-- the stack of code allows the reduction by p, if it has the states for it
+abbrev pub AllowsReduction : {S X : Type 0} → (S → ℕ) → (X → List ℕ) → (X → ℕ → ℕ → ℕ → Type 0) → Grammar → Table → PIdx S → X → Type 0
+AllowsReduction index states can_reduce g table p old =
+    CanReduce g table (index p.0) (states old) → can_reduce old (index p.0) (rule_of g (index p.0)) (prod_len g (index p.0))
+
+-- the states of the stack of code were reduced by p, or the step says why not
+abbrev pub IsReductionMade : {S X : Type 0} → (S → ℕ) → (X → List ℕ) → Grammar → Table → PIdx S → X → X → Step → Type 0
+IsReductionMade index states g table p old new step = IsReduction g table (index p.0) (states old) step (states new)
+
+-- the rest of the stack of code was reduced by p, or stays
+abbrev pub IsRestMade : {S X : Type 0} → (S → ℕ) → (X → ℕ → ℕ → ℕ → X → Type 0) → Grammar → PIdx S → X → X → Step → Type 0
+IsRestMade index reduces g p old new step = IsRestOf reduces g (index p.0) old step new
+
+-- the states of the stack of code took the step at the token
+abbrev pub TakesStep : {S X : Type 0} → (S → ℕ) → (X → List ℕ) → Grammar → Table → TIdx S → X → X → Step × Action S → Type 0
+TakesStep index states g table t old new taken = IsStepOf g table (index t.0) (states old) taken.0 (states new)
+
+-- the stack of code took the step at the token
+abbrev pub MakesStep : {S X : Type 0} → (S → ℕ) → (X → List ℕ) → (X → ℕ → ℕ → ℕ → X → Type 0) → Grammar → Table → TIdx S → X → X → Step × Action S → Type 0
+MakesStep index states reduces g table t old new taken = IsStackStep states reduces g table (index t.0) old taken.0 new
+
+-- with the step comes the action of the top of these states at the token
+abbrev pub HasTopAction : {S : Type 0} → (S → ℕ) → Table → TIdx S → List ℕ → Step × Action S → Type 0
+HasTopAction index table t st taken = plain_action index taken.1 ≡ top_action table (index t.0) st
+
+-- an allocation failed for the step of the stack of code at the token
+abbrev pub FailsStep : {S X : Type 0} → (S → ℕ) → (X → List ℕ) → (X → ℕ → X → Type 0) → Grammar → Table → TIdx S → X → X → Type 0
+FailsStep index states fails g table t old new = IsStepShortOfMemory states fails g table (index t.0) old new

@@ -1,5 +1,7 @@
 -- Stacks of states that share their lower states, by numbers.
-use Rattle.std.specs.Prelude.{◌≡◌, ◌<◌, ◌≤◌, ◌+◌, ℕ, List, [], ◌∷◌, ◌++◌, length, slice_get, slice_index_or, Some}
+use Rattle.std.specs.Prelude.{◌≡◌, ◌<◌, ◌≤◌, ◌+◌, ◌-◌, ℕ, List, [], ◌∷◌, ◌++◌, length, slice_get, slice_index_or, take, Some}
+use Rattle.lrpar_grammar_places.specs.declared.span.StIdx.{StIdx}
+use Rattle.lrpar_table_stacks.specs.Stack.{Pushes, Replaces}
 use Rattle.lrpar_table_stacks.specs.declared.shared_stacks.Top.{Top}
 
 -- the stacks by their numbers, and the number of the current one
@@ -22,6 +24,27 @@ AreApart stacks = (m n : ℕ) → m < length stacks → n < length stacks → st
 -- there are more stacks, perhaps, and those that were there have their numbers
 abbrev pub Extends : Shared → Shared → Type 0
 Extends old new = (more : List (List ℕ)) × (new.stacks ≡ old.stacks ++ more)
+
+-- the number of a stack means the same stack from then on
+abbrev pub NumberedStacksStay : Type 0
+NumberedStacksStay =
+    (old new : Shared) (n : ℕ) → Extends old new → n < length old.stacks → (n < length new.stacks) × (stack_at new.stacks n ≡ stack_at old.stacks n)
+
+-- the stack with this number has the states that are left of a numbered one without so many of its top states
+abbrev pub IsBelow : List (List ℕ) → ℕ → ℕ → ℕ → Type 0
+IsBelow stacks number count below = stack_at stacks below ≡ take (length (stack_at stacks number) - count) (stack_at stacks number)
+
+-- the current stack has the state of code on top of a numbered one
+abbrev pub PushesOnto : {S : Type 0} → (S → ℕ) → ℕ → StIdx S → Shared → Shared → Type 0
+PushesOnto index below state old new = Pushes index state (stack_at old.stacks below) (current_stack new)
+
+-- the state of code was pushed onto the current stack
+abbrev pub PushesCurrent : {S : Type 0} → (S → ℕ) → StIdx S → Shared → Shared → Type 0
+PushesCurrent index state old new = Pushes index state (current_stack old) (current_stack new)
+
+-- this number of states of the current stack was dropped, and the state of code was pushed
+abbrev pub ReplacesCurrent : {S : Type 0} → (S → ℕ) → ℕ → StIdx S → Shared → Shared → Type 0
+ReplacesCurrent index symbols state old new = Replaces index symbols state (current_stack old) (current_stack new)
 
 -- the stack that has a state on top of a numbered one
 abbrev pub stack_of : List (List ℕ) → Top → List ℕ

@@ -1,14 +1,13 @@
 //! Laws about the definitions that contracts cite. Each function has such a law as its contract, and does nothing.
-ghost use Rattle.std.specs.Prelude.{◌≡◌, ◌<◌, ◌≤◌, ℕ, List, ◌∷◌, [], None, length};
-ghost use Rattle.lrpar_grammar.specs.Grammar.{GrammarSymbol, Nonterminal, Terminal};
+ghost use Rattle.std.specs.Prelude.{◌∷◌, []};
+ghost use Rattle.lrpar_grammar.specs.Grammar.{Nonterminal, Terminal};
 ghost use Rattle.lrpar_grammar.specs.Sum.{sum_grammar};
 ghost use Rattle.lrpar_table_stacks.specs.Chain.{AreChainsShort, BoundsReductions, IsLongChain};
-ghost use Rattle.lrpar_table_stacks.specs.Path.{CheckedRunsNeverStick, IsPath};
+ghost use Rattle.lrpar_table_stacks.specs.Path.{CheckedRunsNeverStick, IsPath, PathsAreStacks, StacksArePaths};
 ghost use Rattle.lrpar_table_stacks.specs.Reduction.{SettlesOneWay, Settles};
-ghost use Rattle.lrpar_table_stacks.specs.SharedStacks.{Extends, Shared, stack_at};
+ghost use Rattle.lrpar_table_stacks.specs.SharedStacks.{NumberedStacksStay};
 ghost use Rattle.lrpar_table_stacks.specs.Stack.{IsStack};
 ghost use Rattle.lrpar_table_rows.specs.Sum.{sum_table};
-ghost use Rattle.lrpar_table_rows.specs.Table.{Table, Fails, action_of, goto_of};
 
 /// Reductions are deterministic: from a stack, under a lookahead, there is at most one list of reductions after which no
 /// reduction is due, and one stack after them.
@@ -37,8 +36,8 @@ pub fn checked_runs_never_stick()
 /// A path is a stack, if the table has no entries past its tokens and its rules; and every stack is a path along some
 /// symbols.
 pub fn paths_are_stacks()
-    ensures stacks { (table : Table) (symbols : List GrammarSymbol) (st : List ℕ) → ((s t : ℕ) → table.tokens ≤ t → action_of table s t ≡ Fails) → ((s r : ℕ) → table.rules ≤ r → goto_of table s r ≡ None) → IsPath table symbols st → IsStack table st }
-    ensures paths { (table : Table) (st : List ℕ) → IsStack table st → (symbols : List GrammarSymbol) × IsPath table symbols st }
+    ensures stacks { PathsAreStacks }
+    ensures paths { StacksArePaths }
 {}
 
 /// A path of the small table, along `T '+' ID`; that stack isn't a path along `E '+' ID`, nor along `T '+'`.
@@ -63,5 +62,5 @@ pub fn sum_table_has_chains()
 
 /// The number of a stack means the same stack from then on.
 pub fn numbered_stacks_stay()
-    ensures { (old new : Shared) (n : ℕ) → Extends old new → n < length old.stacks → (n < length new.stacks) × (stack_at new.stacks n ≡ stack_at old.stacks n) }
+    ensures { NumberedStacksStay }
 {}

@@ -1,6 +1,7 @@
 //! A stack of states over a borrowed one. It can reduce and shift, and the borrowed one stays as it is.
-ghost use Rattle.std.specs.Prelude.{◌≡◌, ◌<◌, ◌≤◌, ◌-◌, [], ◌∷◌, ◌++◌, length, take, Some, OnOk, OnErr, IfOk};
-ghost use Rattle.lrpar_table_stacks.specs.Stack.{states_of, top_of};
+ghost use Rattle.std.specs.Prelude.{◌≡◌, ◌<◌, ◌≤◌, length, OnOk, OnErr, IfOk};
+ghost use Rattle.lrpar_table_stacks.specs.Expected.{laid_over};
+ghost use Rattle.lrpar_table_stacks.specs.Stack.{IsTopOf, states_of};
 
 use crate::state_stack::{Reduction, ShiftStack, StateStack, push_on, put_at};
 use lrpar_grammar::span::{StIdx, StorageIndex};
@@ -28,12 +29,12 @@ impl<'a, StorageT: StorageIndex> Model for Overlay<'a, StorageT> {
 }
 
 impl<'a, StorageT: StorageIndex> Overlay<'a, StorageT> {
-    ghost use Rattle.lrpar_table_stacks.specs.Overlay.{overlaid};
+    ghost use Rattle.lrpar_table_stacks.specs.Overlay.{laid_on, overlaid};
 
     /// The states of the base. It doesn't allocate; the allocator is for later states.
     pub fn new(alloc: Global, base: &'a [StIdx<StorageT>]) -> Self
         requires { 0 < length base.now }
-        ensures made { result ≡ record { base = states_of StorageT.index base.now; kept = length base.now; tail = []; room = 0 } }
+        ensures made { result ≡ laid_on StorageT.index base.now }
         ensures states { overlaid result ≡ states_of StorageT.index base.now }
     {
         Overlay {
@@ -52,7 +53,7 @@ impl<'a, StorageT: StorageIndex> Overlay<'a, StorageT> {
 
     /// The top state.
     pub fn top(&self) -> StIdx<StorageT>
-        ensures { top_of (overlaid self.now) ≡ Some (StorageT.index result.0) }
+        ensures { IsTopOf StorageT.index (overlaid self.now) result }
     {
         match self.tail.last() {
             Some(top) => *top,
@@ -82,7 +83,7 @@ impl<'a, StorageT: StorageIndex> Overlay<'a, StorageT> {
 
     /// Sets it back to the states of the base. It neither allocates nor frees memory.
     pub fn set_back(&mut self)
-        ensures made { self.new ≡ record { base = self.old.base; kept = length self.old.base; tail = []; room = self.old.room } }
+        ensures made { self.new ≡ laid_over self.old.base self.old.room }
         ensures states { overlaid self.new ≡ self.old.base }
     {
         self.kept = self.base.len();
@@ -91,8 +92,8 @@ impl<'a, StorageT: StorageIndex> Overlay<'a, StorageT> {
 }
 
 impl<'a, StorageT: StorageIndex> StateStack<StorageT> for Overlay<'a, StorageT> {
-    ghost use Rattle.std.specs.Prelude.{◌≡◌, ◌<◌, ◌-◌, [], ◌∷◌, ◌++◌, length, take, OnOk, OnErr};
-    ghost use Rattle.lrpar_table_stacks.specs.Overlay.{OverlayFails, OverlayReduces, overlaid};
+    ghost use Rattle.std.specs.Prelude.{◌≡◌, ◌<◌, length, OnOk, OnErr};
+    ghost use Rattle.lrpar_table_stacks.specs.Overlay.{OverlayFails, OverlayReduces, ReplacesOver, overlaid};
 
     ghost states = { λ o. overlaid o };
 
@@ -126,8 +127,7 @@ impl<'a, StorageT: StorageIndex> StateStack<StorageT> for Overlay<'a, StorageT> 
 
     fn reduce(&mut self, by: Reduction<StorageT>) -> Result<(), AllocError>
         requires deep { by.symbols < length (overlaid self.old) }
-        ensures states { OnOk result (overlaid self.new
-            ≡ take (length (overlaid self.old) - by.symbols) (overlaid self.old) ++ StorageT.index by.next.0 ∷ []) }
+        ensures states { OnOk result (ReplacesOver StorageT.index by.symbols by.next self.old self.new) }
         ensures reduces { OnOk result (OverlayReduces self.old by.symbols self.new) }
         ensures unchanged { OnErr result (overlaid self.new ≡ overlaid self.old) }
         ensures fails { OnErr result (OverlayFails self.old by.symbols self.new) }
@@ -143,15 +143,15 @@ impl<'a, StorageT: StorageIndex> StateStack<StorageT> for Overlay<'a, StorageT> 
 }
 
 impl<'a, StorageT: StorageIndex> ShiftStack<StorageT> for Overlay<'a, StorageT> {
-    ghost use Rattle.std.specs.Prelude.{◌≡◌, [], ◌∷◌, ◌++◌, OnOk, OnErr};
-    ghost use Rattle.lrpar_table_stacks.specs.Overlay.{OverlayShifts, OverlayStays, overlaid};
+    ghost use Rattle.std.specs.Prelude.{◌≡◌, OnOk, OnErr};
+    ghost use Rattle.lrpar_table_stacks.specs.Overlay.{OverlayShifts, OverlayStays, PushesOver, overlaid};
 
     ghost shifts = { λ old new. OverlayShifts old new };
 
     ghost shift_fails = { λ old new. OverlayStays old new };
 
     fn shift(&mut self, next: StIdx<StorageT>) -> Result<(), AllocError>
-        ensures states { OnOk result (overlaid self.new ≡ overlaid self.old ++ StorageT.index next.0 ∷ []) }
+        ensures states { OnOk result (PushesOver StorageT.index next self.old self.new) }
         ensures shifts { OnOk result (OverlayShifts self.old self.new) }
         ensures unchanged { OnErr result (overlaid self.new ≡ overlaid self.old) }
         ensures fails { OnErr result (OverlayStays self.old self.new) }

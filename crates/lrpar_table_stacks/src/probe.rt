@@ -1,5 +1,5 @@
 //! A stack over a borrowed overlay, to try tokens there: internal.
-ghost use Rattle.std.specs.Prelude.{◌≡◌, ◌<◌, ◌-◌, [], ◌∷◌, ◌++◌, length, take, OnOk, OnErr};
+ghost use Rattle.std.specs.Prelude.{◌≡◌, ◌<◌, length, OnOk, OnErr};
 ghost use Rattle.lrpar_table_stacks.specs.Expected.{laid_over};
 ghost use Rattle.lrpar_table_stacks.specs.Overlay.{overlaid};
 
@@ -52,8 +52,8 @@ impl<'o, 'a, StorageT: StorageIndex> Probe<'o, 'a, StorageT> {
 }
 
 impl<'o, 'a, StorageT: StorageIndex> StateStack<StorageT> for Probe<'o, 'a, StorageT> {
-    ghost use Rattle.std.specs.Prelude.{◌≡◌, ◌<◌, ◌-◌, [], ◌∷◌, ◌++◌, length, take, OnOk, OnErr};
-    ghost use Rattle.lrpar_table_stacks.specs.Overlay.{OverlayFails, OverlayReduces, overlaid};
+    ghost use Rattle.std.specs.Prelude.{◌≡◌, ◌<◌, length, OnOk, OnErr};
+    ghost use Rattle.lrpar_table_stacks.specs.Overlay.{OverlayFails, OverlayReduces, ReplacesOver, overlaid};
 
     ghost states = { λ p. overlaid p };
 
@@ -87,8 +87,7 @@ impl<'o, 'a, StorageT: StorageIndex> StateStack<StorageT> for Probe<'o, 'a, Stor
 
     fn reduce(&mut self, by: Reduction<StorageT>) -> Result<(), AllocError>
         requires deep { by.symbols < length (overlaid self.old) }
-        ensures states { OnOk result (overlaid self.new
-            ≡ take (length (overlaid self.old) - by.symbols) (overlaid self.old) ++ StorageT.index by.next.0 ∷ []) }
+        ensures states { OnOk result (ReplacesOver StorageT.index by.symbols by.next self.old self.new) }
         ensures reduces { OnOk result (OverlayReduces self.old by.symbols self.new) }
         ensures unchanged { OnErr result (overlaid self.new ≡ overlaid self.old) }
         ensures fails { OnErr result (OverlayFails self.old by.symbols self.new) }

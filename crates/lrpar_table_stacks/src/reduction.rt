@@ -1,11 +1,8 @@
 //! One step under a lookahead, over any list of states: a stack, or the states of a chain.
-ghost use Rattle.std.specs.Prelude.{◌≡◌, ◌<◌, All, IfOk, OnErr, length};
-ghost use Rattle.lrpar_grammar.specs.Grammar.{prods_len, prod_len, rule_of, rules_len};
-ghost use Rattle.lrpar_table_stacks.specs.Reduction.{top_action};
-ghost use Rattle.lrpar_table_stacks.specs.StackReduction.{IsStepShortOfMemory};
-ghost use Rattle.lrpar_table_stacks.specs.ReductionStep.{CanReduce, FitsGrammar, IsReduction, IsRestOf, IsStackStep, IsStepOf};
-ghost use Rattle.lrpar_table_rows.specs.PlainRows.{plain_action};
-ghost use Rattle.lrpar_table_rows.specs.Table.{states_len};
+ghost use Rattle.std.specs.Prelude.{◌≡◌, ◌<◌, IfOk, OnErr, length};
+ghost use Rattle.lrpar_grammar.specs.Grammar.{prods_len, prod_len, rules_len};
+ghost use Rattle.lrpar_table_stacks.specs.ReductionStep.{AllowsReduction, CanReduce, FailsStep, FitsGrammar, HasTopAction, IsReductionMade, IsRestMade, MakesStep, TakesStep};
+ghost use Rattle.lrpar_table_stacks.specs.Stack.{AreStatesOf};
 
 use crate::state_stack::{Reduction, StateStack};
 use lrpar_grammar::grammar::YaccGrammar;
@@ -36,11 +33,11 @@ pub fn take_step<StorageT: StorageIndex, S: StateStack<StorageT>>(
     requires token { StorageT.index t.0 < table.now.tokens }
     requires suits { S.suits grm.now table.now states.old }
     requires some { 0 < length (S.states states.old) }
-    requires within { All (λ s. s < states_len table.now) (S.states states.old) }
-    ensures step { IfOk result (λ taken. IsStepOf grm.now table.now (StorageT.index t.0) (S.states states.old) taken.0 (S.states states.new)) }
-    ensures made { IfOk result (λ taken. IsStackStep S.states S.reduces grm.now table.now (StorageT.index t.0) states.old taken.0 states.new) }
-    ensures action { IfOk result (λ taken. plain_action StorageT.index taken.1 ≡ top_action table.now (StorageT.index t.0) (S.states states.old)) }
-    ensures short_of_memory { OnErr result (IsStepShortOfMemory S.states S.fails grm.now table.now (StorageT.index t.0) states.old states.new) }
+    requires within { AreStatesOf table.now (S.states states.old) }
+    ensures step { IfOk result (TakesStep StorageT.index S.states grm.now table.now t states.old states.new) }
+    ensures made { IfOk result (MakesStep StorageT.index S.states S.reduces grm.now table.now t states.old states.new) }
+    ensures action { IfOk result (HasTopAction StorageT.index table.now t (S.states states.old)) }
+    ensures short_of_memory { OnErr result (FailsStep StorageT.index S.states S.fails grm.now table.now t states.old states.new) }
 {
     match table.action(states.top(), t) {
         Action::Reduce(prod) => {
@@ -60,11 +57,10 @@ fn reduce_by<StorageT: StorageIndex, S: StateStack<StorageT>>(
 ) -> Result<Step, AllocError>
     requires rules { table.now.rules ≡ rules_len grm.now }
     requires prod { StorageT.index prod.0 < prods_len grm.now }
-    requires can { CanReduce grm.now table.now (StorageT.index prod.0) (S.states states.old)
-        → S.can_reduce states.old (StorageT.index prod.0) (rule_of grm.now (StorageT.index prod.0)) (prod_len grm.now (StorageT.index prod.0)) }
-    requires within { All (λ s. s < states_len table.now) (S.states states.old) }
-    ensures reduction { IfOk result (λ step. IsReduction grm.now table.now (StorageT.index prod.0) (S.states states.old) step (S.states states.new)) }
-    ensures rest { IfOk result (λ step. IsRestOf S.reduces grm.now (StorageT.index prod.0) states.old step states.new) }
+    requires can { AllowsReduction StorageT.index S.states S.can_reduce grm.now table.now prod states.old }
+    requires within { AreStatesOf table.now (S.states states.old) }
+    ensures reduction { IfOk result (IsReductionMade StorageT.index S.states grm.now table.now prod states.old states.new) }
+    ensures rest { IfOk result (IsRestMade StorageT.index S.reduces grm.now prod states.old states.new) }
     ensures due { OnErr result (CanReduce grm.now table.now (StorageT.index prod.0) (S.states states.old)) }
     ensures fails { OnErr result (S.fails states.old (prod_len grm.now (StorageT.index prod.0)) states.new) }
     ensures unchanged { OnErr result (S.states states.new ≡ S.states states.old) }

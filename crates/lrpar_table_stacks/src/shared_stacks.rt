@@ -1,7 +1,7 @@
 //! Stacks of states that share their lower states.
-ghost use Rattle.std.specs.Prelude.{◌≡◌, ◌<◌, ◌≤◌, ◌+◌, ◌-◌, ◌^◌, ◌∷◌, ◌++◌, [], ℕ, IfOk, OnErr, OnOk, length, take, Some};
-ghost use Rattle.lrpar_table_stacks.specs.Stack.{states_of, top_of};
-ghost use Rattle.lrpar_table_stacks.specs.SharedStacks.{AreApart, Extends, current_stack, stack_at};
+ghost use Rattle.std.specs.Prelude.{◌≡◌, ◌<◌, ◌≤◌, ◌^◌, IfOk, OnErr, OnOk, length};
+ghost use Rattle.lrpar_table_stacks.specs.Stack.{IsTopOf, states_of};
+ghost use Rattle.lrpar_table_stacks.specs.SharedStacks.{AreApart, Extends, IsBelow, PushesOnto, current_stack, stack_at};
 
 use crate::state_stack::{Reduction, ShiftStack, StateStack};
 use indexmap::IndexSet;
@@ -87,7 +87,7 @@ impl<StorageT: StorageIndex> SharedStacks<StorageT> {
     // Puts a state onto the stack with this number. The result is the current stack from then on.
     fn push(&mut self, below: usize, state: StIdx<StorageT>) -> Result<(), AllocError>
         requires { below < length self.old.stacks }
-        ensures pushed { OnOk result (current_stack self.new ≡ stack_at self.old.stacks below ++ StorageT.index state.0 ∷ []) }
+        ensures pushed { OnOk result (PushesOnto StorageT.index below state self.old self.new) }
         ensures extends { Extends self.old self.new }
         ensures stays { OnErr result (self.new ≡ self.old) }
     {
@@ -119,7 +119,7 @@ impl<StorageT: StorageIndex> SharedStacks<StorageT> {
     fn top_state(&self, number: usize) -> StIdx<StorageT>
         requires within { number < length self.now.stacks }
         requires some { 0 < length (stack_at self.now.stacks number) }
-        ensures { top_of (stack_at self.now.stacks number) ≡ Some (StorageT.index result.0) }
+        ensures { IsTopOf StorageT.index (stack_at self.now.stacks number) result }
     {
         let top = self.tops.as_slice()[number - 1];
         StIdx(StorageT::from_index(top.state).unwrap())
@@ -130,8 +130,7 @@ impl<StorageT: StorageIndex> SharedStacks<StorageT> {
         requires within { number < length self.now.stacks }
         requires deep { count ≤ length (stack_at self.now.stacks number) }
         ensures within { result < length self.now.stacks }
-        ensures left { stack_at self.now.stacks result
-            ≡ take (length (stack_at self.now.stacks number) - count) (stack_at self.now.stacks number) }
+        ensures left { IsBelow self.now.stacks number count result }
     {
         let tops = self.tops.as_slice();
         let mut below = number;
@@ -143,8 +142,8 @@ impl<StorageT: StorageIndex> SharedStacks<StorageT> {
 }
 
 impl<StorageT: StorageIndex> StateStack<StorageT> for SharedStacks<StorageT> {
-    ghost use Rattle.std.specs.Prelude.{◌≡◌, ◌<◌, ◌-◌, [], ◌∷◌, ◌++◌, length, take, OnOk, OnErr};
-    ghost use Rattle.lrpar_table_stacks.specs.SharedStacks.{Extends, current_stack};
+    ghost use Rattle.std.specs.Prelude.{◌≡◌, ◌<◌, length, OnOk, OnErr};
+    ghost use Rattle.lrpar_table_stacks.specs.SharedStacks.{Extends, ReplacesCurrent, current_stack};
 
     ghost states = { λ s. current_stack s };
 
@@ -175,8 +174,7 @@ impl<StorageT: StorageIndex> StateStack<StorageT> for SharedStacks<StorageT> {
 
     fn reduce(&mut self, by: Reduction<StorageT>) -> Result<(), AllocError>
         requires deep { by.symbols < length (current_stack self.old) }
-        ensures states { OnOk result (current_stack self.new
-            ≡ take (length (current_stack self.old) - by.symbols) (current_stack self.old) ++ StorageT.index by.next.0 ∷ []) }
+        ensures states { OnOk result (ReplacesCurrent StorageT.index by.symbols by.next self.old self.new) }
         ensures reduces { OnOk result (Extends self.old self.new) }
         ensures unchanged { OnErr result (current_stack self.new ≡ current_stack self.old) }
         ensures fails { OnErr result (self.new ≡ self.old) }
@@ -187,15 +185,15 @@ impl<StorageT: StorageIndex> StateStack<StorageT> for SharedStacks<StorageT> {
 }
 
 impl<StorageT: StorageIndex> ShiftStack<StorageT> for SharedStacks<StorageT> {
-    ghost use Rattle.std.specs.Prelude.{◌≡◌, [], ◌∷◌, ◌++◌, OnOk, OnErr};
-    ghost use Rattle.lrpar_table_stacks.specs.SharedStacks.{Extends, current_stack};
+    ghost use Rattle.std.specs.Prelude.{◌≡◌, OnOk, OnErr};
+    ghost use Rattle.lrpar_table_stacks.specs.SharedStacks.{Extends, PushesCurrent, current_stack};
 
     ghost shifts = { λ old new. Extends old new };
 
     ghost shift_fails = { λ old new. new ≡ old };
 
     fn shift(&mut self, next: StIdx<StorageT>) -> Result<(), AllocError>
-        ensures states { OnOk result (current_stack self.new ≡ current_stack self.old ++ StorageT.index next.0 ∷ []) }
+        ensures states { OnOk result (PushesCurrent StorageT.index next self.old self.new) }
         ensures shifts { OnOk result (Extends self.old self.new) }
         ensures unchanged { OnErr result (current_stack self.new ≡ current_stack self.old) }
         ensures fails { OnErr result (self.new ≡ self.old) }

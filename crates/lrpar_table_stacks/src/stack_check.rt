@@ -1,8 +1,8 @@
 //! Whether a list of states is a stack of a table.
-ghost use Rattle.std.specs.Prelude.{◌≡◌, ◌<◌, ◌↔◌, ℕ, Contains, IsTrue, Some, map};
+ghost use Rattle.std.specs.Prelude.{◌≡◌, ◌<◌, ◌↔◌, Contains, IsTrue, map};
 ghost use Rattle.lrpar_table_rows.specs.PlainRows.{plain_action};
-ghost use Rattle.lrpar_table_stacks.specs.Stack.{AreJoined, IsJoined, IsStack, states_of};
-ghost use Rattle.lrpar_table_rows.specs.Table.{ShiftTo, IsClosed, action_of, goto_of, states_len};
+ghost use Rattle.lrpar_table_stacks.specs.Stack.{AreJoined, HasGotoTo, HasShiftTo, IsJoined, IsStack, states_of};
+ghost use Rattle.lrpar_table_rows.specs.Table.{ShiftTo, IsClosed, states_len};
 
 use lrpar_grammar::span::{StIdx, StorageIndex};
 use lrpar_table_rows::table::{Action, StateTable};
@@ -64,7 +64,7 @@ fn shifts_to<StorageT: StorageIndex>(
     next: usize,
 ) -> bool
     requires { StorageT.index s.0 < states_len table.now }
-    ensures { IsTrue result ↔ ((t : ℕ) × (t < table.now.tokens) × (action_of table.now (StorageT.index s.0) t ≡ ShiftTo next)) }
+    ensures { IsTrue result ↔ HasShiftTo table.now (StorageT.index s.0) next }
 {
     let (_, actions) = table.actions_of(s);
     has_shift(actions, next)
@@ -99,7 +99,7 @@ fn goes_to<StorageT: StorageIndex>(
     next: usize,
 ) -> bool
     requires { StorageT.index s.0 < states_len table.now }
-    ensures { IsTrue result ↔ ((r : ℕ) × (r < table.now.rules) × (goto_of table.now (StorageT.index s.0) r ≡ Some next)) }
+    ensures { IsTrue result ↔ HasGotoTo table.now (StorageT.index s.0) next }
 {
     let (_, states) = table.gotos_of(s);
     has_state(states, next)

@@ -1,9 +1,9 @@
 //! The operations of a stack of states for reductions and shifts, with which one function serves all kinds of stacks: internal,
 //! and public for a stack of a crate above that has more than its states.
-ghost use Rattle.std.specs.Prelude.{◌≡◌, ◌<◌, ◌≤◌, ◌-◌, ℕ, List, [], ◌∷◌, ◌++◌, length, slice_get, take, Some, OnOk, OnErr, vec_capacity};
+ghost use Rattle.std.specs.Prelude.{◌≡◌, ◌<◌, ◌≤◌, ℕ, List, [], ◌∷◌, ◌++◌, length, take, OnOk, OnErr};
 ghost use Rattle.lrpar_grammar.specs.Grammar.{Grammar, prod_len, rule_of};
 ghost use Rattle.lrpar_table_stacks.specs.Reduction.{Reduces};
-ghost use Rattle.lrpar_table_stacks.specs.Stack.{states_of, top_of};
+ghost use Rattle.lrpar_table_stacks.specs.Stack.{IsFilled, IsStateAt, IsTopOf, KeepsRoom, KeepsStates, Pushes, PushesState, Replaces, ReplacesStates, states_of};
 ghost use Rattle.lrpar_table_stacks.specs.StackReduction.{StackReduces};
 ghost use Rattle.lrpar_table_rows.specs.Table.{Table};
 
@@ -58,20 +58,19 @@ pub trait StateStack<StorageT: StorageIndex> {
     /// The top state.
     fn top(&self) -> StIdx<StorageT>
         requires { 0 < length (states self.now) }
-        ensures { top_of (states self.now) ≡ Some (StorageT.index result.0) };
+        ensures { IsTopOf StorageT.index (states self.now) result };
 
     /// The state at this height, from 0 on.
     fn state_at(&self, at: usize) -> StIdx<StorageT>
         requires { at < length (states self.now) }
-        ensures { slice_get (states self.now) at ≡ Some (StorageT.index result.0) };
+        ensures { IsStateAt StorageT.index (states self.now) at result };
 
     /// Drops the top states, one for each symbol of the reduction, and pushes the state of its goto. After an `Err` the
     /// states are as before.
     fn reduce(&mut self, by: Reduction<StorageT>) -> Result<(), AllocError>
         requires can { can_reduce self.old (StorageT.index by.prod.0) (StorageT.index by.rule.0) by.symbols }
         requires deep { by.symbols < length (states self.old) }
-        ensures states { OnOk result (states self.new
-            ≡ take (length (states self.old) - by.symbols) (states self.old) ++ StorageT.index by.next.0 ∷ []) }
+        ensures states { OnOk result (Replaces StorageT.index by.symbols by.next (states self.old) (states self.new)) }
         ensures reduces { OnOk result (reduces self.old (StorageT.index by.prod.0) (StorageT.index by.rule.0) by.symbols self.new) }
         ensures unchanged { OnErr result (states self.new ≡ states self.old) }
         ensures fails { OnErr result (fails self.old by.symbols self.new) };
@@ -95,7 +94,7 @@ pub trait ShiftStack<StorageT: StorageIndex>: StateStack<StorageT> {
 
     /// Pushes the state. After an `Err` the states are as before.
     fn shift(&mut self, next: StIdx<StorageT>) -> Result<(), AllocError>
-        ensures states { OnOk result (Self.states self.new ≡ Self.states self.old ++ StorageT.index next.0 ∷ []) }
+        ensures states { OnOk result (Pushes StorageT.index next (Self.states self.old) (Self.states self.new)) }
         ensures shifts { OnOk result (shifts self.old self.new) }
         ensures unchanged { OnErr result (Self.states self.new ≡ Self.states self.old) }
         ensures fails { OnErr result (shift_fails self.old self.new) };
@@ -109,9 +108,9 @@ impl<StorageT: StorageIndex> StateStack<StorageT> for Vec<StIdx<StorageT>> {
 
     ghost can_reduce = { λ _ _ _ _. Unit {0} };
 
-    ghost reduces = { λ old _ _ _ new. vec_capacity old ≤ vec_capacity new };
+    ghost reduces = { λ old _ _ _ new. KeepsRoom old new };
 
-    ghost fails = { λ old symbols new. (symbols ≡ 0) × (vec_capacity old ≤ vec_capacity new) × (vec_capacity new ≤ length new.items) };
+    ghost fails = { λ old symbols new. (symbols ≡ 0) × KeepsRoom old new × IsFilled new };
 
     ghost due_can = { λ g table t stack p after suit due. tt };
 
@@ -131,28 +130,25 @@ impl<StorageT: StorageIndex> StateStack<StorageT> for Vec<StIdx<StorageT>> {
 
     fn reduce(&mut self, by: Reduction<StorageT>) -> Result<(), AllocError>
         requires deep { by.symbols < length (states_of StorageT.index self.old.items) }
-        ensures states { OnOk result (states_of StorageT.index self.new.items
-            ≡ take (length (states_of StorageT.index self.old.items) - by.symbols) (states_of StorageT.index self.old.items)
-            ++ StorageT.index by.next.0 ∷ []) }
-        ensures reduces { OnOk result (vec_capacity self.old ≤ vec_capacity self.new) }
-        ensures unchanged { OnErr result (states_of StorageT.index self.new.items ≡ states_of StorageT.index self.old.items) }
-        ensures fails { OnErr result ((by.symbols ≡ 0) × (vec_capacity self.old ≤ vec_capacity self.new) × (vec_capacity self.new ≤ length self.new.items)) }
+        ensures states { OnOk result (ReplacesStates StorageT.index by.symbols by.next self.old self.new) }
+        ensures reduces { OnOk result (KeepsRoom self.old self.new) }
+        ensures unchanged { OnErr result (KeepsStates StorageT.index self.old self.new) }
+        ensures fails { OnErr result ((by.symbols ≡ 0) × KeepsRoom self.old self.new × IsFilled self.new) }
     {
         put_at(self, self.len() - by.symbols, by.next)
     }
 }
 
 impl<StorageT: StorageIndex> ShiftStack<StorageT> for Vec<StIdx<StorageT>> {
-    ghost shifts = { λ old new. vec_capacity old ≤ vec_capacity new };
+    ghost shifts = { λ old new. KeepsRoom old new };
 
-    ghost shift_fails = { λ old new. (vec_capacity old ≤ vec_capacity new) × (vec_capacity new ≤ length new.items) };
+    ghost shift_fails = { λ old new. KeepsRoom old new × IsFilled new };
 
     fn shift(&mut self, next: StIdx<StorageT>) -> Result<(), AllocError>
-        ensures states { OnOk result (states_of StorageT.index self.new.items
-            ≡ states_of StorageT.index self.old.items ++ StorageT.index next.0 ∷ []) }
-        ensures shifts { OnOk result (vec_capacity self.old ≤ vec_capacity self.new) }
-        ensures unchanged { OnErr result (states_of StorageT.index self.new.items ≡ states_of StorageT.index self.old.items) }
-        ensures fails { OnErr result ((vec_capacity self.old ≤ vec_capacity self.new) × (vec_capacity self.new ≤ length self.new.items)) }
+        ensures states { OnOk result (PushesState StorageT.index next self.old self.new) }
+        ensures shifts { OnOk result (KeepsRoom self.old self.new) }
+        ensures unchanged { OnErr result (KeepsStates StorageT.index self.old self.new) }
+        ensures fails { OnErr result (KeepsRoom self.old self.new × IsFilled self.new) }
     {
         push_on(self, next)
     }
@@ -166,9 +162,9 @@ pub(crate) fn put_at<StorageT: StorageIndex>(
 ) -> Result<(), AllocError>
     requires { left ≤ length states.old.items }
     ensures put { OnOk result (states.new.items ≡ take left states.old.items ++ next ∷ []) }
-    ensures room { vec_capacity states.old ≤ vec_capacity states.new }
+    ensures room { KeepsRoom states.old states.new }
     ensures unchanged { OnErr result (states.new.items ≡ states.old.items) }
-    ensures full { OnErr result ((left ≡ length states.old.items) × (vec_capacity states.new ≤ length states.new.items)) }
+    ensures full { OnErr result ((left ≡ length states.old.items) × IsFilled states.new) }
 {
     if left == states.len() {
         push_on(states, next)
@@ -185,9 +181,9 @@ pub(crate) fn push_on<StorageT: StorageIndex>(
     next: StIdx<StorageT>,
 ) -> Result<(), AllocError>
     ensures pushed { OnOk result (states.new.items ≡ states.old.items ++ next ∷ []) }
-    ensures room { vec_capacity states.old ≤ vec_capacity states.new }
+    ensures room { KeepsRoom states.old states.new }
     ensures unchanged { OnErr result (states.new.items ≡ states.old.items) }
-    ensures full { OnErr result (vec_capacity states.new ≤ length states.new.items) }
+    ensures full { OnErr result (IsFilled states.new) }
 {
     // After a failed `push` no contract says what the capacity is; after a failed `reserve` one does.
     states.reserve(1)?;
