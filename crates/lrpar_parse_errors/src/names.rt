@@ -1,6 +1,6 @@
 //! What is printed for tokens: by a function of the caller, or by a grammar.
 ghost use Rattle.std.specs.Prelude.{ℕ, List, Option, IfOk};
-ghost use Rattle.lrpar_parse_errors.specs.Printed.{AppendsName, IsPrintedName, printed_by};
+ghost use Rattle.lrpar_parse_errors.specs.Printed.{AppendsAnswer, AppendsName, IsPrintedName, printed_by};
 
 use lrpar_grammar::grammar::YaccGrammar;
 use lrpar_grammar::span::{StorageIndex, TIdx};
@@ -35,7 +35,7 @@ impl<'name, StorageT: StorageIndex, F: Fn(TIdx<StorageT>) -> Option<&'name str>>
 
     fn push_name(&self, out: &mut String, token: TIdx<StorageT>) -> Result<bool, AllocError>
         requires { F.IsAlwaysCallable self.now.0 }
-        ensures { IfOk result (AppendsName StorageT.index (printed_by StorageT.index (F.post self.now.0)) token out.old out.new) }
+        ensures { IfOk result (AppendsAnswer StorageT.index (F.post self.now.0) token out.old out.new) }
     {
         match (self.0)(token) {
             Some(name) => {

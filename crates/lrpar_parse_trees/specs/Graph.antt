@@ -13,10 +13,18 @@ use Rattle.lrpar_parse_trees.specs.Labels.{label_text}
 abbrev pub rule_line : ℕ → List ℕ → List ℕ
 rule_line number name = codes "  n" ++ decimal number ++ codes " [label=\"" ++ label_text name ++ codes "\"];\n"
 
+-- what comes before the label of a node
+abbrev pub label_front : ℕ → List ℕ
+label_front number = codes "  n" ++ decimal number ++ codes " [label=\""
+
+-- the name of a token on a line of its own, if it isn't the text
+abbrev pub name_label : List ℕ → List ℕ → List ℕ
+name_label name text = if bytes_eq name text then [] else label_text name ++ codes "\\n"
+
 -- the label of a lexeme: its token's name, if that isn't its text, on a line of its own, and its text; of one that a repair made, the
 -- name
 abbrev pub leaf_label : List ℕ → List ℕ → Bool → List ℕ
-leaf_label name text false = (if bytes_eq name text then [] else label_text name ++ codes "\\n") ++ label_text text
+leaf_label name text false = name_label name text ++ label_text text
 leaf_label name text true = label_text name
 
 -- how a lexeme is drawn: in a box, with a dashed line if a repair made it

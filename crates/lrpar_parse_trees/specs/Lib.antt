@@ -9,3 +9,6 @@ pub mod Fronts
 pub mod Labels
 pub mod Graph
 pub mod Lines
+pub mod Written
+pub mod Leaves
+pub mod StoredTrees

@@ -33,16 +33,24 @@ abbrev pub rule_front : Form → List ℕ → List ℕ
 rule_front Brackets name = bracket_rule name
 rule_front Json name = json_rule name
 
+-- the name of a token and a space, if it isn't the text
+abbrev pub name_before : List ℕ → List ℕ → List ℕ
+name_before name text = if bytes_eq name text then [] else name ++ codes " "
+
 -- a lexeme in the form with brackets: its token's name, if that isn't its text, and its text between double quotes; of one that a repair
 -- made, the name and `(inserted)`
 abbrev pub bracket_leaf : List ℕ → List ℕ → Bool → List ℕ
-bracket_leaf name text false = (if bytes_eq name text then [] else name ++ codes " ") ++ codes "\"" ++ escaped text ++ codes "\""
+bracket_leaf name text false = name_before name text ++ codes "\"" ++ escaped text ++ codes "\""
 bracket_leaf name text true = name ++ codes " (inserted)"
+
+-- that a repair made a lexeme, if one did
+abbrev pub json_inserted : Bool → List ℕ
+json_inserted faulty = if faulty then codes ",\"inserted\":true" else []
 
 -- the place of a lexeme, and whether a repair made it
 abbrev pub json_place : ℕ → ℕ → Bool → List ℕ
 json_place start end faulty =
-    codes "\",\"start\":" ++ decimal start ++ codes ",\"end\":" ++ decimal end ++ (if faulty then codes ",\"inserted\":true" else []) ++ codes "}"
+    codes "\",\"start\":" ++ decimal start ++ codes ",\"end\":" ++ decimal end ++ json_inserted faulty ++ codes "}"
 
 -- a lexeme as JSON: its token's name, its text, and its place
 abbrev pub json_leaf : List ℕ → List ℕ → ℕ → ℕ → Bool → List ℕ

@@ -25,3 +25,7 @@ shown_step lexeme number (Node-F.Nonterm ridx texts) = shown_rule (number ridx.0
 -- a tree
 abbrev pub shown : {X S : Type 0} → (X → Option (List ℕ)) → (S → Option (List ℕ)) → Node X S → Option (List ℕ)
 shown {X = X} {S = S} lexeme number = fold-Node X S (Option (List ℕ)) (shown_step lexeme number)
+
+-- trees with commas between them, and the end of the rule over them
+abbrev pub shown_trees : {X S : Type 0} → (X → Option (List ℕ)) → (S → Option (List ℕ)) → List (Node X S) → Option (List ℕ)
+shown_trees lexeme number trees = debug_items (shown lexeme number) [] trees ++? shown_end

@@ -1,6 +1,7 @@
 -- Trees of the program as lists of their nodes, in the order of a walk: from the root down and from left to right.
-use Rattle.std.specs.Prelude.{Bool, List, [], ◌∷◌, ◌++◌, length, map}
+use Rattle.std.specs.Prelude.{◌≡◌, Bool, List, [], ◌∷◌, ◌++◌, length, map}
 use Rattle.std.specs.Cmp.Lexicographic.{pointwise}
+use Rattle.lrpar_grammar_places.specs.declared.span.RIdx.{RIdx}
 use Rattle.lrpar_parse_trees.specs.declared.node.Node.{Node}
 use Rattle.lrpar_parse_trees.specs.declared.node.Node.TheOpen.{Node-F}
 use Rattle.lrpar_parse_trees.specs.declared.node.Node.TheViews.{out-Node}
@@ -40,6 +41,10 @@ children {X = X} {S = S} node = layer_children (out-Node X S node)
 -- the walk through several trees, one after another
 abbrev pub walks : {X S : Type 0} → List (Node X S) → List (Visit X S)
 walks nodes = joined (map walk nodes)
+
+-- the node is the rule's, over equal trees
+abbrev pub IsNodeOver : {X S : Type 0} → RIdx S → List (Node X S) → Node X S → Type 0
+IsNodeOver ridx nodes node = walk node ≡ Entered ridx.0 (length nodes) ∷ walks nodes
 
 -- two trees are equal if their walks visit equal nodes
 abbrev pub node_eq : {X S : Type 0} → (X → X → Bool) → (S → S → Bool) → Node X S → Node X S → Bool

@@ -1,12 +1,10 @@
 //! Trees as graphs for Graphviz.
-ghost use Rattle.std.specs.Prelude.{◌≡◌, ◌+◌, ◌++◌, [], if◌then◌else◌, IfOk, OnOk, bytes_eq, codes};
-ghost use Rattle.std.specs.Fmt.{decimal};
-ghost use Rattle.std.specs.Io.KnownBytes.{Appends};
-ghost use Rattle.std.specs.String.{string_bytes};
-ghost use Rattle.lrpar_parse_lexemes.specs.Lexemes.{facts_of};
-ghost use Rattle.lrpar_parse_trees.specs.Graph.{edge_line, graph_text, leaf_label, leaf_line, leaf_shape, rule_line};
-ghost use Rattle.lrpar_parse_trees.specs.Labels.{label_text};
-ghost use Rattle.lrpar_parse_trees.specs.Lines.{node_line, trees_lines};
+ghost use Rattle.std.specs.Prelude.{◌≡◌, ◌+◌, IfOk, OnOk};
+ghost use Rattle.lrpar_parse_errors.specs.Strings.{Appends};
+ghost use Rattle.lrpar_parse_trees.specs.Graph.{edge_line, label_front, leaf_shape, name_label, rule_line};
+ghost use Rattle.lrpar_parse_trees.specs.Leaves.{AppendsLabel, AppendsLeafLine};
+ghost use Rattle.lrpar_parse_trees.specs.StoredTrees.{WritesBelow, WritesGraph, WritesNode};
+ghost use Rattle.lrpar_parse_trees.specs.Written.{Writes};
 
 use crate::Node;
 use crate::labels::push_label;
@@ -31,8 +29,7 @@ pub fn write_graph<LexemeT: Lexeme<StorageT>, StorageT: StorageIndex, W: Write>(
     tree: &Node<LexemeT, StorageT>,
     out: &mut W,
 ) -> io::Result<()>
-    ensures { OnOk result (Appends (W.contents out.old) (W.contents out.new)
-        (graph_text (λ x. facts_of StorageT.index (LexemeT.parts x)) StorageT.index grm.now input.now tree.now)) }
+    ensures { OnOk result (WritesGraph StorageT.index LexemeT.parts grm.now input.now W.contents tree.now out.old out.new) }
 {
     let mut line = String::new(alloc);
     out.write_all(b"digraph tree {\n")?;
@@ -50,8 +47,7 @@ fn write_below<LexemeT: Lexeme<StorageT>, StorageT: StorageIndex, W: Write>(
     input: &str,
     nodes: &[Node<LexemeT, StorageT>],
 ) -> io::Result<()>
-    ensures { OnOk result (Appends (W.contents out.old) (W.contents out.new)
-        (trees_lines (λ x. facts_of StorageT.index (LexemeT.parts x)) StorageT.index grm.now input.now 0 1 nodes.now)) }
+    ensures { OnOk result (WritesBelow StorageT.index LexemeT.parts grm.now input.now W.contents nodes.now out.old out.new) }
 {
     let mut above = Vec::new(alloc);
     let mut left = nodes;
@@ -97,8 +93,7 @@ fn write_node<LexemeT: Lexeme<StorageT>, StorageT: StorageIndex, W: Write>(
     number: usize,
     node: &Node<LexemeT, StorageT>,
 ) -> io::Result<()>
-    ensures { OnOk result (Appends (W.contents out.old) (W.contents out.new)
-        (node_line (λ x. facts_of StorageT.index (LexemeT.parts x)) StorageT.index grm.now input.now number node.now)) }
+    ensures { OnOk result (WritesNode StorageT.index LexemeT.parts grm.now input.now W.contents number node.now out.old out.new) }
 {
     line.clear();
     match node {
@@ -116,7 +111,7 @@ fn write_node<LexemeT: Lexeme<StorageT>, StorageT: StorageIndex, W: Write>(
 
 // Adds the line of a node of a rule.
 fn push_rule(line: &mut String, number: usize, rule: &str) -> Result<(), AllocError>
-    ensures { OnOk result (string_bytes line.new ≡ string_bytes line.old ++ rule_line number rule.now) }
+    ensures { OnOk result (Appends line.old line.new (rule_line number rule.now)) }
 {
     push_front(line, number)?;
     push_label(line, rule)?;
@@ -125,7 +120,7 @@ fn push_rule(line: &mut String, number: usize, rule: &str) -> Result<(), AllocEr
 
 // Adds the line of a lexeme.
 fn push_leaf(line: &mut String, number: usize, leaf: Leaf<'_>) -> Result<(), AllocError>
-    ensures { OnOk result (string_bytes line.new ≡ string_bytes line.old ++ leaf_line number leaf.entry.name.now leaf.entry.text.now leaf.entry.is_faulty) }
+    ensures { OnOk result (AppendsLeafLine number leaf.entry line.old line.new) }
 {
     push_front(line, number)?;
     push_leaf_label(line, leaf)?;
@@ -146,14 +141,14 @@ fn leaf_shape(is_faulty: bool) -> &'static str
 
 // Adds the beginning of a node's line, up to its label.
 fn push_front(line: &mut String, number: usize) -> Result<(), AllocError>
-    ensures { OnOk result (string_bytes line.new ≡ string_bytes line.old ++ (codes "  n" ++ decimal number ++ codes " [label=\"")) }
+    ensures { OnOk result (Appends line.old line.new (label_front number)) }
 {
     write!(line, "  n{number} [label=\"")
 }
 
 // Adds the label of a lexeme.
 fn push_leaf_label(line: &mut String, leaf: Leaf<'_>) -> Result<(), AllocError>
-    ensures { OnOk result (string_bytes line.new ≡ string_bytes line.old ++ leaf_label leaf.entry.name.now leaf.entry.text.now leaf.entry.is_faulty) }
+    ensures { OnOk result (AppendsLabel leaf.entry line.old line.new) }
 {
     if leaf.is_faulty {
         return push_label(line, leaf.name);
@@ -164,7 +159,7 @@ fn push_leaf_label(line: &mut String, leaf: Leaf<'_>) -> Result<(), AllocError>
 
 // Adds the name of a token as a line of a label, if the name isn't the text.
 fn push_other_name(line: &mut String, name: &str, text: &str) -> Result<(), AllocError>
-    ensures { OnOk result (string_bytes line.new ≡ string_bytes line.old ++ (if bytes_eq name.now text.now then [] else label_text name.now ++ codes "\\n")) }
+    ensures { OnOk result (Appends line.old line.new (name_label name.now text.now)) }
 {
     if name == text {
         return Ok(());
@@ -180,7 +175,7 @@ fn write_edge<W: Write>(
     parent: usize,
     child: usize,
 ) -> io::Result<()>
-    ensures { OnOk result (Appends (W.contents out.old) (W.contents out.new) (edge_line parent child)) }
+    ensures { OnOk result (Writes W.contents out.old out.new (edge_line parent child)) }
 {
     line.clear();
     writeln!(line, "  n{parent} -> n{child};")?;

@@ -1,10 +1,9 @@
 //! Trees on one line: the text of a node encloses the texts of its trees.
-ghost use Rattle.std.specs.Prelude.{false, ◌≡◌, ◌++◌, [], if◌then◌else◌, OnOk, bytes_eq, codes};
-ghost use Rattle.std.specs.Io.KnownBytes.{Appends};
-ghost use Rattle.std.specs.String.{string_bytes};
-ghost use Rattle.lrpar_parse_lexemes.specs.Lexemes.{facts_of};
-ghost use Rattle.lrpar_parse_trees.specs.Nested.{bracket_leaf, bracket_rule, json_leaf, json_place, json_rule, leaf_text, nested_text, rule_front};
-ghost use Rattle.lrpar_parse_trees.specs.Fronts.{front_text, trees_text};
+ghost use Rattle.std.specs.Prelude.{false, OnOk};
+ghost use Rattle.lrpar_parse_errors.specs.Strings.{Appends};
+ghost use Rattle.lrpar_parse_trees.specs.Leaves.{AppendsBracketLeaf, AppendsJsonLeaf, AppendsJsonPlace, AppendsLeaf};
+ghost use Rattle.lrpar_parse_trees.specs.Nested.{bracket_leaf, bracket_rule, json_inserted, json_rule, name_before, rule_front};
+ghost use Rattle.lrpar_parse_trees.specs.StoredTrees.{WritesFront, WritesNested, WritesTrees};
 
 use crate::Node;
 use crate::escapes::push_escaped;
@@ -29,8 +28,7 @@ pub fn write_nested<LexemeT: Lexeme<StorageT>, StorageT: StorageIndex, W: Write>
     tree: &Node<LexemeT, StorageT>,
     out: &mut W,
 ) -> io::Result<()>
-    ensures { OnOk result (Appends (W.contents out.old) (W.contents out.new)
-        (nested_text form (λ x. facts_of StorageT.index (LexemeT.parts x)) StorageT.index grm.now input.now tree.now)) }
+    ensures { OnOk result (WritesNested StorageT.index LexemeT.parts grm.now input.now W.contents form tree.now out.old out.new) }
 {
     let mut piece = String::new(alloc);
     write_front(out, &mut piece, form, grm, input, tree)?;
@@ -51,8 +49,7 @@ fn write_trees<LexemeT: Lexeme<StorageT>, StorageT: StorageIndex, W: Write>(
     input: &str,
     nodes: &[Node<LexemeT, StorageT>],
 ) -> io::Result<()>
-    ensures { OnOk result (Appends (W.contents out.old) (W.contents out.new)
-        (trees_text form (λ x. facts_of StorageT.index (LexemeT.parts x)) StorageT.index grm.now input.now nodes.now)) }
+    ensures { OnOk result (WritesTrees StorageT.index LexemeT.parts grm.now input.now W.contents form nodes.now out.old out.new) }
 {
     let mut below = Vec::new(alloc);
     let mut left = nodes;
@@ -91,8 +88,7 @@ fn write_front<LexemeT: Lexeme<StorageT>, StorageT: StorageIndex, W: Write>(
     input: &str,
     node: &Node<LexemeT, StorageT>,
 ) -> io::Result<()>
-    ensures { OnOk result (Appends (W.contents out.old) (W.contents out.new)
-        (front_text form (λ x. facts_of StorageT.index (LexemeT.parts x)) StorageT.index grm.now input.now node.now)) }
+    ensures { OnOk result (WritesFront StorageT.index LexemeT.parts grm.now input.now W.contents form node.now out.old out.new) }
 {
     piece.clear();
     match node {
@@ -110,7 +106,7 @@ fn write_front<LexemeT: Lexeme<StorageT>, StorageT: StorageIndex, W: Write>(
 
 // Adds what comes before the trees of a rule.
 fn push_rule(piece: &mut String, form: Form, name: &str) -> Result<(), AllocError>
-    ensures { OnOk result (string_bytes piece.new ≡ string_bytes piece.old ++ rule_front form name.now) }
+    ensures { OnOk result (Appends piece.old piece.new (rule_front form name.now)) }
 {
     match form {
         Form::Brackets => push_bracket_rule(piece, name),
@@ -120,7 +116,7 @@ fn push_rule(piece: &mut String, form: Form, name: &str) -> Result<(), AllocErro
 
 // Adds a rule's name and a bracket.
 fn push_bracket_rule(piece: &mut String, name: &str) -> Result<(), AllocError>
-    ensures { OnOk result (string_bytes piece.new ≡ string_bytes piece.old ++ bracket_rule name.now) }
+    ensures { OnOk result (Appends piece.old piece.new (bracket_rule name.now)) }
 {
     piece.push_str(name)?;
     piece.push('[')
@@ -128,7 +124,7 @@ fn push_bracket_rule(piece: &mut String, name: &str) -> Result<(), AllocError>
 
 // Adds what comes before the trees of a rule in JSON, with its name.
 fn push_json_rule(piece: &mut String, name: &str) -> Result<(), AllocError>
-    ensures { OnOk result (string_bytes piece.new ≡ string_bytes piece.old ++ json_rule name.now) }
+    ensures { OnOk result (Appends piece.old piece.new (json_rule name.now)) }
 {
     piece.push_str("{\"rule\":\"")?;
     push_escaped(piece, name)?;
@@ -138,7 +134,7 @@ fn push_json_rule(piece: &mut String, name: &str) -> Result<(), AllocError>
 
 // Adds a lexeme.
 fn push_leaf(piece: &mut String, form: Form, leaf: Leaf<'_>) -> Result<(), AllocError>
-    ensures { OnOk result (string_bytes piece.new ≡ string_bytes piece.old ++ leaf_text form leaf.entry.name.now leaf.entry.text.now leaf.entry.start leaf.entry.end leaf.entry.is_faulty) }
+    ensures { OnOk result (AppendsLeaf form leaf.entry piece.old piece.new) }
 {
     match form {
         Form::Brackets => push_bracket_leaf(piece, leaf),
@@ -148,7 +144,7 @@ fn push_leaf(piece: &mut String, form: Form, leaf: Leaf<'_>) -> Result<(), Alloc
 
 // Adds a lexeme: its token's name, if that isn't its text, and its text between double quotes; or its name and that it was inserted.
 fn push_bracket_leaf(piece: &mut String, leaf: Leaf<'_>) -> Result<(), AllocError>
-    ensures { OnOk result (string_bytes piece.new ≡ string_bytes piece.old ++ bracket_leaf leaf.entry.name.now leaf.entry.text.now leaf.entry.is_faulty) }
+    ensures { OnOk result (AppendsBracketLeaf leaf.entry piece.old piece.new) }
 {
     if leaf.is_faulty {
         piece.push_str(leaf.name)?;
@@ -160,7 +156,7 @@ fn push_bracket_leaf(piece: &mut String, leaf: Leaf<'_>) -> Result<(), AllocErro
 
 // Adds the name of a token, if that isn't the text, and the text between double quotes.
 fn push_bracket_text(piece: &mut String, name: &str, text: &str) -> Result<(), AllocError>
-    ensures { OnOk result (string_bytes piece.new ≡ string_bytes piece.old ++ bracket_leaf name.now text.now false) }
+    ensures { OnOk result (Appends piece.old piece.new (bracket_leaf name.now text.now false)) }
 {
     push_other_name(piece, name, text)?;
     piece.push('"')?;
@@ -170,7 +166,7 @@ fn push_bracket_text(piece: &mut String, name: &str, text: &str) -> Result<(), A
 
 // Adds the name of a token and a space, if the name isn't the text.
 fn push_other_name(piece: &mut String, name: &str, text: &str) -> Result<(), AllocError>
-    ensures { OnOk result (string_bytes piece.new ≡ string_bytes piece.old ++ (if bytes_eq name.now text.now then [] else name.now ++ codes " ")) }
+    ensures { OnOk result (Appends piece.old piece.new (name_before name.now text.now)) }
 {
     if name == text {
         return Ok(());
@@ -181,7 +177,7 @@ fn push_other_name(piece: &mut String, name: &str, text: &str) -> Result<(), All
 
 // Adds a lexeme as JSON.
 fn push_json_leaf(piece: &mut String, leaf: Leaf<'_>) -> Result<(), AllocError>
-    ensures { OnOk result (string_bytes piece.new ≡ string_bytes piece.old ++ json_leaf leaf.entry.name.now leaf.entry.text.now leaf.entry.start leaf.entry.end leaf.entry.is_faulty) }
+    ensures { OnOk result (AppendsJsonLeaf leaf.entry piece.old piece.new) }
 {
     piece.push_str("{\"token\":\"")?;
     push_escaped(piece, leaf.name)?;
@@ -192,7 +188,7 @@ fn push_json_leaf(piece: &mut String, leaf: Leaf<'_>) -> Result<(), AllocError>
 
 // Adds the place of a lexeme as JSON, and whether a repair made it.
 fn push_json_place(piece: &mut String, leaf: Leaf<'_>) -> Result<(), AllocError>
-    ensures { OnOk result (string_bytes piece.new ≡ string_bytes piece.old ++ json_place leaf.entry.start leaf.entry.end leaf.entry.is_faulty) }
+    ensures { OnOk result (AppendsJsonPlace leaf.entry piece.old piece.new) }
 {
     let start = leaf.start;
     let end = leaf.end;
@@ -203,7 +199,7 @@ fn push_json_place(piece: &mut String, leaf: Leaf<'_>) -> Result<(), AllocError>
 
 // Adds that a repair made the lexeme, if one did.
 fn push_inserted(piece: &mut String, is_faulty: bool) -> Result<(), AllocError>
-    ensures { OnOk result (string_bytes piece.new ≡ string_bytes piece.old ++ (if is_faulty then codes ",\"inserted\":true" else [])) }
+    ensures { OnOk result (Appends piece.old piece.new (json_inserted is_faulty)) }
 {
     if is_faulty {
         piece.push_str(",\"inserted\":true")

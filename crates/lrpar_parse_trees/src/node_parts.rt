@@ -1,8 +1,8 @@
 //! The parts of a tree's node: the name and the text of a lexeme, the name of a rule, and the trees below.
-ghost use Rattle.std.specs.Prelude.{◌≡◌, IfSome, Some, slice_range};
+ghost use Rattle.std.specs.Prelude.{◌≡◌, IfSome};
 ghost use Rattle.lrpar_parse_trees.specs.TreeText.{nodes_below};
 ghost use Rattle.lrpar_parse_trees.specs.Fronts.{is_rule};
-ghost use Rattle.lrpar_grammar.specs.Grammar.{rule_name, token_name};
+ghost use Rattle.lrpar_parse_trees.specs.Leaves.{HasNameOf, HasPlaceOf, HasTextOf, IsFaultyAs, IsNameOf};
 
 use crate::Node;
 use lrpar_grammar::grammar::YaccGrammar;
@@ -27,10 +27,10 @@ pub(crate) fn leaf_of<'a, LexemeT: Lexeme<StorageT>, StorageT: StorageIndex>(
     input: &'a str,
     lexeme: &LexemeT,
 ) -> Option<Leaf<'a>>
-    ensures name { IfSome result (λ leaf. token_name grm.now (StorageT.index (LexemeT.parts lexeme.now).token) ≡ Some leaf.name.now) }
-    ensures text { IfSome result (λ leaf. leaf.text.now ≡ slice_range input.now (LexemeT.parts lexeme.now).span.start (LexemeT.parts lexeme.now).span.end) }
-    ensures place { IfSome result (λ leaf. (leaf.start ≡ (LexemeT.parts lexeme.now).span.start) × (leaf.end ≡ (LexemeT.parts lexeme.now).span.end)) }
-    ensures faulty { IfSome result (λ leaf. leaf.is_faulty ≡ (LexemeT.parts lexeme.now).faulty) }
+    ensures name { IfSome result (HasNameOf StorageT.index grm.now (LexemeT.parts lexeme.now)) }
+    ensures text { IfSome result (HasTextOf input.now (LexemeT.parts lexeme.now)) }
+    ensures place { IfSome result (HasPlaceOf (LexemeT.parts lexeme.now)) }
+    ensures faulty { IfSome result (IsFaultyAs (LexemeT.parts lexeme.now)) }
 {
     let token = TIdx(lexeme.tok_id());
     if usize::from(token) >= grm.tokens_len() {
@@ -53,7 +53,7 @@ pub(crate) fn rule_name<StorageT: StorageIndex>(
     grm: &YaccGrammar<StorageT>,
     rule: RIdx<StorageT>,
 ) -> Option<&str>
-    ensures { IfSome result (λ name. name.now ≡ rule_name grm.now (StorageT.index rule.0)) }
+    ensures { IfSome result (IsNameOf StorageT.index grm.now rule) }
 {
     if usize::from(rule) < grm.rules_len() {
         Some(grm.rule_name_str(rule))

@@ -1,9 +1,7 @@
 //! The text of a tree, with a line for each node, and the test whether a tree fits a grammar and an input.
-ghost use Rattle.std.specs.Prelude.{◌≡◌, ◌++◌, ◌↔◌, ℕ, IfOk, IsTrue, OnOk};
-ghost use Rattle.std.specs.List.{AllByRecursion};
-ghost use Rattle.std.specs.String.{string_bytes};
-ghost use Rattle.lrpar_parse_lexemes.specs.Lexemes.{facts_of};
-ghost use Rattle.lrpar_parse_trees.specs.TreeText.{MetFits, TreeFits, all_met, met_line, nodes_below, root_at, tree_text};
+ghost use Rattle.std.specs.Prelude.{◌≡◌, ◌↔◌, ℕ, IfOk, IsTrue, OnOk};
+ghost use Rattle.lrpar_parse_trees.specs.StoredTrees.{AppendsRoot, FitIn, FitsIn, IsTextOf, RootFits};
+ghost use Rattle.lrpar_parse_trees.specs.TreeText.{nodes_below};
 
 use crate::node::Node;
 use crate::node::bounded::{CALLS, have_fewer_nodes};
@@ -20,7 +18,7 @@ impl<LexemeT: Lexeme<StorageT>, StorageT: StorageIndex> Node<LexemeT, StorageT> 
     /// Takes time linear in the tree, and a list with an entry for each level. If it runs out of memory, it goes on without the
     /// list: its stack stays bounded, but a deep tree with many branches takes longer.
     pub fn fits(&self, grm: &YaccGrammar<StorageT>, input: &str) -> bool
-        ensures { IsTrue result ↔ TreeFits (λ x. facts_of StorageT.index (LexemeT.parts x)) StorageT.index grm.now input.now self.now }
+        ensures { IsTrue result ↔ FitsIn StorageT.index LexemeT.parts grm.now input.now self.now }
     {
         if !root_fits(grm, input, self) {
             return false;
@@ -43,9 +41,8 @@ impl<LexemeT: Lexeme<StorageT>, StorageT: StorageIndex> Node<LexemeT, StorageT> 
         grm: &YaccGrammar<StorageT>,
         input: &str,
     ) -> Result<String, AllocError>
-        requires fits { TreeFits (λ x. facts_of StorageT.index (LexemeT.parts x)) StorageT.index grm.now input.now self.now }
-        ensures text { IfOk result (λ text. string_bytes text
-            ≡ tree_text (λ x. facts_of StorageT.index (LexemeT.parts x)) StorageT.index grm.now input.now self.now) }
+        requires fits { FitsIn StorageT.index LexemeT.parts grm.now input.now self.now }
+        ensures text { IfOk result (IsTextOf StorageT.index LexemeT.parts grm.now input.now self.now) }
     {
         let mut out = String::new(alloc);
         push_line(&mut out, grm, input, 0, self)?;
@@ -75,8 +72,7 @@ fn all_fit<'a, LexemeT: Lexeme<StorageT>, StorageT: StorageIndex>(
     input: &str,
     mut nodes: &'a [Node<LexemeT, StorageT>],
 ) -> bool
-    ensures { IsTrue result ↔ AllByRecursion (MetFits (λ x. facts_of StorageT.index (LexemeT.parts x)) StorageT.index grm.now input.now)
-        (all_met 1 nodes.entry.now) }
+    ensures { IsTrue result ↔ FitIn StorageT.index LexemeT.parts grm.now input.now nodes.entry.now }
 {
     let mut left = Vec::new(alloc);
     loop {
@@ -112,8 +108,7 @@ fn fit_by_calls<'a, LexemeT: Lexeme<StorageT>, StorageT: StorageIndex>(
     mut nodes: &'a [Node<LexemeT, StorageT>],
     calls: usize,
 ) -> bool
-    ensures { IsTrue result ↔ AllByRecursion (MetFits (λ x. facts_of StorageT.index (LexemeT.parts x)) StorageT.index grm.now input.now)
-        (all_met 1 nodes.entry.now) }
+    ensures { IsTrue result ↔ FitIn StorageT.index LexemeT.parts grm.now input.now nodes.entry.now }
 {
     while let Some((node, rest)) = nodes.split_first() {
         if !root_fits(grm, input, node) {
@@ -153,7 +148,7 @@ pub(crate) fn root_fits<LexemeT: Lexeme<StorageT>, StorageT: StorageIndex>(
     input: &str,
     node: &Node<LexemeT, StorageT>,
 ) -> bool
-    ensures { (level : ℕ) → IsTrue result ↔ MetFits (λ x. facts_of StorageT.index (LexemeT.parts x)) StorageT.index grm.now input.now (root_at level node.now) }
+    ensures { (level : ℕ) → IsTrue result ↔ RootFits StorageT.index LexemeT.parts grm.now input.now level node.now }
 {
     match node {
         Node::Term { lexeme } => {
@@ -174,9 +169,8 @@ pub(crate) fn push_line<LexemeT: Lexeme<StorageT>, StorageT: StorageIndex>(
     level: usize,
     node: &Node<LexemeT, StorageT>,
 ) -> Result<(), AllocError>
-    requires { MetFits (λ x. facts_of StorageT.index (LexemeT.parts x)) StorageT.index grm.now input.now (root_at level node.now) }
-    ensures { OnOk result (string_bytes out.new ≡ string_bytes out.old
-        ++ met_line (λ x. facts_of StorageT.index (LexemeT.parts x)) StorageT.index grm.now input.now (root_at level node.now)) }
+    requires { RootFits StorageT.index LexemeT.parts grm.now input.now level node.now }
+    ensures { OnOk result (AppendsRoot StorageT.index LexemeT.parts grm.now input.now level node.now out.old out.new) }
 {
     push_spaces(out, level)?;
     push_node(out, grm, input, node)
@@ -189,9 +183,8 @@ pub(crate) fn push_node<LexemeT: Lexeme<StorageT>, StorageT: StorageIndex>(
     input: &str,
     node: &Node<LexemeT, StorageT>,
 ) -> Result<(), AllocError>
-    requires { MetFits (λ x. facts_of StorageT.index (LexemeT.parts x)) StorageT.index grm.now input.now (root_at 0 node.now) }
-    ensures { OnOk result (string_bytes out.new ≡ string_bytes out.old
-        ++ met_line (λ x. facts_of StorageT.index (LexemeT.parts x)) StorageT.index grm.now input.now (root_at 0 node.now)) }
+    requires { RootFits StorageT.index LexemeT.parts grm.now input.now 0 node.now }
+    ensures { OnOk result (AppendsRoot StorageT.index LexemeT.parts grm.now input.now 0 node.now out.old out.new) }
 {
     match node {
         Node::Term { lexeme } => {

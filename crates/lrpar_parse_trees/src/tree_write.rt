@@ -1,9 +1,7 @@
 //! The text of a tree, written line by line.
-ghost use Rattle.std.specs.Prelude.{◌≡◌, ◌+◌, OnOk, length, replicate, take};
-ghost use Rattle.std.specs.Io.KnownBytes.{Appends};
-ghost use Rattle.std.specs.String.{string_bytes};
-ghost use Rattle.lrpar_parse_lexemes.specs.Lexemes.{facts_of};
-ghost use Rattle.lrpar_parse_trees.specs.TreeText.{MetFits, TreeFits, met_line, root_at, tree_text};
+ghost use Rattle.std.specs.Prelude.{◌+◌, OnOk};
+ghost use Rattle.lrpar_parse_trees.specs.StoredTrees.{FitsIn, RootFitsAfter, WritesRoot, WritesTree};
+ghost use Rattle.lrpar_parse_trees.specs.Written.{BeginsWithSpaces, HasOnlySpaces, IsSpaces, KeepsSpaces};
 
 use crate::node::Node;
 use crate::tree_text::{children, push_node, root_fits};
@@ -27,9 +25,8 @@ impl<LexemeT: Lexeme<StorageT>, StorageT: StorageIndex> Node<LexemeT, StorageT> 
         input: &str,
         out: &mut W,
     ) -> io::Result<()>
-        ensures text { OnOk result (Appends (W.contents out.old) (W.contents out.new)
-            (tree_text (λ x. facts_of StorageT.index (LexemeT.parts x)) StorageT.index grm.now input.now self.now)) }
-        ensures fits { OnOk result (TreeFits (λ x. facts_of StorageT.index (LexemeT.parts x)) StorageT.index grm.now input.now self.now) }
+        ensures text { OnOk result (WritesTree StorageT.index LexemeT.parts grm.now input.now W.contents self.now out.old out.new) }
+        ensures fits { OnOk result (FitsIn StorageT.index LexemeT.parts grm.now input.now self.now) }
     {
         let mut line = String::new(alloc);
         write_line(out, &mut line, grm, input, self)?;
@@ -54,8 +51,8 @@ impl<LexemeT: Lexeme<StorageT>, StorageT: StorageIndex> Node<LexemeT, StorageT> 
 
 // Leaves this number of the spaces that a line begins with, and adds one.
 fn indent(line: &mut String, spaces: usize) -> Result<(), AllocError>
-    requires { take spaces (string_bytes line.old) ≡ replicate spaces 32 }
-    ensures { OnOk result (string_bytes line.new ≡ replicate (spaces + 1) 32) }
+    requires { BeginsWithSpaces spaces line.old }
+    ensures { OnOk result (IsSpaces (spaces + 1) line.new) }
 {
     line.truncate(spaces);
     line.push(' ')
@@ -69,12 +66,10 @@ fn write_line<LexemeT: Lexeme<StorageT>, StorageT: StorageIndex, W: Write>(
     input: &str,
     node: &Node<LexemeT, StorageT>,
 ) -> io::Result<()>
-    requires { string_bytes line.old ≡ replicate (length (string_bytes line.old)) 32 }
-    ensures text { OnOk result (Appends (W.contents out.old) (W.contents out.new)
-        (met_line (λ x. facts_of StorageT.index (LexemeT.parts x)) StorageT.index grm.now input.now (root_at (length (string_bytes line.old)) node.now))) }
-    ensures fits { OnOk result (MetFits (λ x. facts_of StorageT.index (LexemeT.parts x)) StorageT.index grm.now input.now
-        (root_at (length (string_bytes line.old)) node.now)) }
-    ensures indent { OnOk result (take (length (string_bytes line.old)) (string_bytes line.new) ≡ replicate (length (string_bytes line.old)) 32) }
+    requires { HasOnlySpaces line.old }
+    ensures text { OnOk result (WritesRoot StorageT.index LexemeT.parts grm.now input.now W.contents line.old node.now out.old out.new) }
+    ensures fits { OnOk result (RootFitsAfter StorageT.index LexemeT.parts grm.now input.now line.old node.now) }
+    ensures indent { OnOk result (KeepsSpaces line.old line.new) }
 {
     if !root_fits(grm, input, node) {
         return Err(io::Error::from(ErrorKind::InvalidInput));

@@ -1,7 +1,6 @@
 //! Clones of trees.
-ghost use Rattle.std.specs.Prelude.{◌≡◌, ◌∷◌, IfOk, length};
-ghost use Rattle.lrpar_parse_trees.specs.Visits.{Entered};
-ghost use Rattle.lrpar_parse_trees.specs.Walks.{walk, walks};
+ghost use Rattle.std.specs.Prelude.{◌≡◌, IfOk};
+ghost use Rattle.lrpar_parse_trees.specs.Walks.{IsNodeOver, walk};
 
 use crate::node::Node;
 use lrpar_grammar::span::RIdx;
@@ -34,7 +33,7 @@ fn copied<'a, LexemeT: Copy, StorageT: Copy>(
     mut ridx: RIdx<StorageT>,
     nodes: &'a [Node<LexemeT, StorageT>],
 ) -> Result<Node<LexemeT, StorageT>, AllocError>
-    ensures { IfOk result (λ node. walk node ≡ Entered ridx.0 (length nodes.entry.now) ∷ walks nodes.entry.now) }
+    ensures { IfOk result (IsNodeOver ridx nodes.entry.now) }
 {
     let mut below = Vec::new(alloc);
     let mut made = Vec::with_capacity(alloc, nodes.len())?;

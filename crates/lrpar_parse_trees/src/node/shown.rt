@@ -1,7 +1,6 @@
 //! The `Debug` text of trees.
-ghost use Rattle.std.specs.Prelude.{[]};
-ghost use Rattle.std.specs.Fmt.{◌++?◌, DisplaysOnOk, WritesOnOk, debug_items};
-ghost use Rattle.lrpar_parse_trees.specs.Shown.{shown, shown_end, shown_lexeme, shown_rule};
+ghost use Rattle.std.specs.Fmt.{DisplaysOnOk, WritesOnOk};
+ghost use Rattle.lrpar_parse_trees.specs.Shown.{shown, shown_lexeme, shown_rule, shown_trees};
 
 use crate::node::Node;
 use lrpar_grammar::span::RIdx;
@@ -58,8 +57,7 @@ fn write_nodes<'a, LexemeT: fmt::Debug, StorageT: fmt::Debug, W: fmt::Write>(
     f: &mut fmt::Formatter<W>,
     mut nodes: &'a [Node<LexemeT, StorageT>],
 ) -> fmt::Result
-    ensures { DisplaysOnOk W.write_str_gives f.old result
-        (debug_items (shown LexemeT.debug_output StorageT.debug_output) [] nodes.entry.now ++? shown_end) f.new }
+    ensures { DisplaysOnOk W.write_str_gives f.old result (shown_trees LexemeT.debug_output StorageT.debug_output nodes.entry.now) f.new }
 {
     let mut left = Vec::new(alloc);
     let mut mark = "";

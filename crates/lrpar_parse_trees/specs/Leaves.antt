@@ -1,0 +1,55 @@
+-- Lexemes and rules as trees print them.
+use denote.Ref.{Bor}
+use Rattle.std.specs.Prelude.{◌≡◌, ℕ, List, Some, String, slice_range}
+use Rattle.lrpar_grammar.specs.Grammar.{Grammar, rule_name, token_name}
+use Rattle.lrpar_grammar_places.specs.declared.span.RIdx.{RIdx}
+use Rattle.lrpar_parse_errors.specs.Strings.{Appends}
+use Rattle.lrpar_parse_lexemes.specs.Lexemes.{LexemeParts}
+use Rattle.lrpar_parse_trees.specs.Graph.{leaf_label, leaf_line}
+use Rattle.lrpar_parse_trees.specs.Nested.{bracket_leaf, json_leaf, json_place, leaf_text}
+use Rattle.lrpar_parse_trees.specs.declared.form.Form.{Form}
+use Rattle.lrpar_parse_trees.specs.declared.node_parts.Leaf.{Leaf}
+
+-- it has the name of the lexeme's token
+abbrev pub HasNameOf : {S : Type 0} → (S → ℕ) → Grammar → LexemeParts S → Leaf → Type 0
+HasNameOf index g x leaf = token_name g (index x.token) ≡ Some leaf.name.now
+
+-- it has the lexeme's part of the input
+abbrev pub HasTextOf : {S : Type 0} → List ℕ → LexemeParts S → Leaf → Type 0
+HasTextOf input x leaf = leaf.text.now ≡ slice_range input x.span.start x.span.end
+
+-- it starts and ends where the lexeme does
+abbrev pub HasPlaceOf : {S : Type 0} → LexemeParts S → Leaf → Type 0
+HasPlaceOf x leaf = (leaf.start ≡ x.span.start) × (leaf.end ≡ x.span.end)
+
+-- it is faulty where the lexeme is
+abbrev pub IsFaultyAs : {S : Type 0} → LexemeParts S → Leaf → Type 0
+IsFaultyAs x leaf = leaf.is_faulty ≡ x.faulty
+
+-- this is the name of the rule
+abbrev pub IsNameOf : {S : Type 0} → (S → ℕ) → Grammar → RIdx S → Bor (List ℕ) → Type 0
+IsNameOf index g rule name = name.now ≡ rule_name g (index rule.0)
+
+-- the lexeme was added, in the form
+abbrev pub AppendsLeaf : {A : Type 0} → Form → Leaf → String A → String A → Type 0
+AppendsLeaf form leaf old new = Appends old new (leaf_text form leaf.name.now leaf.text.now leaf.start leaf.end leaf.is_faulty)
+
+-- it was added in the form with brackets
+abbrev pub AppendsBracketLeaf : {A : Type 0} → Leaf → String A → String A → Type 0
+AppendsBracketLeaf leaf old new = Appends old new (bracket_leaf leaf.name.now leaf.text.now leaf.is_faulty)
+
+-- it was added as JSON
+abbrev pub AppendsJsonLeaf : {A : Type 0} → Leaf → String A → String A → Type 0
+AppendsJsonLeaf leaf old new = Appends old new (json_leaf leaf.name.now leaf.text.now leaf.start leaf.end leaf.is_faulty)
+
+-- its place was added as JSON, and whether a repair made it
+abbrev pub AppendsJsonPlace : {A : Type 0} → Leaf → String A → String A → Type 0
+AppendsJsonPlace leaf old new = Appends old new (json_place leaf.start leaf.end leaf.is_faulty)
+
+-- its label in a graph was added
+abbrev pub AppendsLabel : {A : Type 0} → Leaf → String A → String A → Type 0
+AppendsLabel leaf old new = Appends old new (leaf_label leaf.name.now leaf.text.now leaf.is_faulty)
+
+-- its line in a graph was added, as that of the node of this number
+abbrev pub AppendsLeafLine : {A : Type 0} → ℕ → Leaf → String A → String A → Type 0
+AppendsLeafLine number leaf old new = Appends old new (leaf_line number leaf.name.now leaf.text.now leaf.is_faulty)
