@@ -4,7 +4,7 @@ use Rattle.lrpar_lexer_lrlex.specs.declared.fault.LrlexFault.{LrlexFault}
 use Rattle.lrpar_lexer_lrlex.specs.declared.fault.LrlexFault.TheVariants.{Declaration, NoRules, RepeatedState, StateName}
 use Rattle.lrpar_lexer_lrlex.specs.declared.part.Part as code
 use Rattle.lrpar_lexer_lrlex.specs.declared.states.StateName as code_state
-use Rattle.lrpar_lexer_lrlex.specs.Faults.{◌>>=◌}
+use Rattle.lrpar_lexer_lrlex.specs.Faults.{◌>>=◌, Keeps}
 use Rattle.lrpar_lexer_lrlex.specs.Parts.{Part, after_cut, after_word, before_cut, is_comment, pieces_left, placed, span_of, trimmed}
 use Rattle.lrpar_lexer_lrlex.specs.States as states
 use Rattle.lrpar_lexer_lrlex.specs.States.{is_state_name, plain_names, state_named}
@@ -55,3 +55,17 @@ declarations lines = declared (record { name = codes "INITIAL"; exclusive = fals
 
 abbrev pub plain_declared : {Z : Type 0} → Vec code_state.StateName Z × Option code.Part → List states.StateName × List Part
 plain_declared (states, rest) = (plain_names states.items, pieces_left 10 (option_map (λ p. placed p) rest))
+
+module _ {T Z : Type 0} (old : Vec code_state.StateName Z) where
+  -- the states that a line declares were added, or this is its fault; the fault may also be `Memory`
+  abbrev pub AddsStates : code.Part → Vec code_state.StateName Z → Result T LrlexFault → Type 0
+  AddsStates line new result = Keeps (plain_names new.items) (declare (plain_names old.items) (placed line)) result
+
+  -- the same of the states with these names, which are exclusive or not
+  abbrev pub AddsAllStates : code.Part → code.Part → Bool → Vec code_state.StateName Z → Result T LrlexFault → Type 0
+  AddsAllStates line names exclusive new result =
+      Keeps (plain_names new.items) (declare_all (plain_names old.items) (placed line) (placed names) exclusive) result
+
+  -- the same of one state
+  abbrev pub AddsState : code.Part → Bool → Vec code_state.StateName Z → Result T LrlexFault → Type 0
+  AddsState name exclusive new result = Keeps (plain_names new.items) (declare_one (plain_names old.items) (placed name) exclusive) result

@@ -1,5 +1,5 @@
 -- The escapes of a pattern of lrlex.
-use Rattle.std.specs.Prelude.{ℕ, ◌==◌, ◌&&◌, Bool, true, false, not, List, [], ◌∷◌, ◌++◌, chars, encode_utf8_all, if◌then◌else◌}
+use Rattle.std.specs.Prelude.{◌≡◌, ℕ, ◌==◌, ◌&&◌, Bool, true, false, not, List, [], ◌∷◌, ◌++◌, String, chars, encode_utf8_all, if◌then◌else◌, string_bytes}
 use Rattle.std.specs.Char.{is_ascii, is_ascii_alphabetic}
 use Rattle.regex_syntax.specs.Reading.{◌∈◌}
 
@@ -24,3 +24,7 @@ without_needless is_escaped (c ∷ cs) = written is_escaped c ++ without_needles
 -- the same of a text
 abbrev pub unescaped : List ℕ → List ℕ
 unescaped text = encode_utf8_all (without_needless false (chars text))
+
+-- these characters were appended to the text
+abbrev pub AppendsChars : {A : Type 0} → List ℕ → String A → String A → Type 0
+AppendsChars chars old new = string_bytes new ≡ string_bytes old ++ encode_utf8_all chars

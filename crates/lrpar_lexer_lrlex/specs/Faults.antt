@@ -1,5 +1,5 @@
 -- Answers with a fault, unless memory ran out.
-use Rattle.std.specs.Prelude.{◌≡◌, ◌≢◌, Result, Ok, Err}
+use Rattle.std.specs.Prelude.{◌≡◌, ◌≢◌, Result, Ok, Err, MatchResult}
 use Rattle.lrpar_lexer_lrlex.specs.declared.fault.LrlexFault.{LrlexFault}
 use Rattle.lrpar_lexer_lrlex.specs.declared.fault.LrlexFault.TheVariants.{Memory}
 
@@ -18,3 +18,7 @@ Gives view is (Err fault) = fault ≢ Memory → is ≡ Err fault
 abbrev pub Keeps : {A B : Type 0} → B → Result B LrlexFault → Result A LrlexFault → Type 0
 Keeps left is (Ok x) = is ≡ Ok left
 Keeps left is (Err fault) = fault ≢ Memory → is ≡ Err fault
+
+-- the answer, as plain data, or the fault is this one
+abbrev pub GivesExactly : {A B : Type 0} → (A → B) → Result B LrlexFault → Result A LrlexFault → Type 0
+GivesExactly view is result = MatchResult result (λ x. is ≡ Ok (view x)) (λ fault. is ≡ Err fault)

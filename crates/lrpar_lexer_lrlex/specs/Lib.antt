@@ -12,4 +12,8 @@ pub mod Reading
 pub mod StateRules
 pub mod LexingIn
 pub mod LexingAllIn
+pub mod Stacks
+pub mod StoredRules
+pub mod StoredLexemes
+pub mod Lexers
 pub mod Laws

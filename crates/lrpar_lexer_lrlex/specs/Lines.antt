@@ -4,12 +4,14 @@ use Rattle.lrpar_grammar.specs.Grammar.{Grammar}
 use Rattle.lrpar_grammar_places.specs.declared.span.Span.{Span}
 use Rattle.lrpar_lexer_lrlex.specs.declared.fault.LrlexFault.{LrlexFault}
 use Rattle.lrpar_lexer_lrlex.specs.declared.line.Line as code
+use Rattle.lrpar_lexer_lrlex.specs.declared.part.Part as code_part
+use Rattle.lrpar_lexer_lrlex.specs.declared.states.StateName as code_state
 use Rattle.lrpar_lexer_lrlex.specs.Escapes.{unescaped}
-use Rattle.lrpar_lexer_lrlex.specs.Faults.{◌>>=◌}
+use Rattle.lrpar_lexer_lrlex.specs.Faults.{◌>>=◌, Gives}
 use Rattle.lrpar_lexer_lrlex.specs.LineParts.{line_parts}
 use Rattle.lrpar_lexer_lrlex.specs.Names.{states_of, target_of, token_of}
-use Rattle.lrpar_lexer_lrlex.specs.Parts.{Part, span_of}
-use Rattle.lrpar_lexer_lrlex.specs.States.{StateName, Target, plain_target}
+use Rattle.lrpar_lexer_lrlex.specs.Parts.{Part, placed, span_of}
+use Rattle.lrpar_lexer_lrlex.specs.States.{StateName, Target, plain_names, plain_target}
 
 -- what a line of a rule says: its pattern as `regex` gets it, and where the pattern is, the states in front, the target and the token
 pub record Line : Type 0 where
@@ -37,3 +39,7 @@ plain_line index line = record {
   target = option_map plain_target line.target;
   token = option_map (λ token. index token.0) line.token;
 }
+
+-- what the line says is given, or its fault; the fault may also be `Memory`
+abbrev pub GivesLine : {S : Type 0} → (S → ℕ) → Grammar → List code_state.StateName → code_part.Part → Result (code.Line S) LrlexFault → Type 0
+GivesLine index grammar states line result = Gives (plain_line index) (read_line grammar (plain_names states) (placed line)) result

@@ -1,5 +1,5 @@
 -- Parts of a text, with their places.
-use Rattle.std.specs.Prelude.{ℕ, ◌+◌, ◌-◌, ◌==◌, ◌||◌, ◌&&◌, Bool, List, [], ◌∷◌, length, take, drop, get_or, Option, Some, None, if◌then◌else◌, nat_lt, bytes_eq, codes, is_some}
+use Rattle.std.specs.Prelude.{ℕ, ◌+◌, ◌-◌, ◌==◌, ◌||◌, ◌&&◌, Bool, List, [], ◌∷◌, length, take, drop, get_or, Option, Some, None, if◌then◌else◌, nat_lt, bytes_eq, codes, is_some, option_map}
 use Rattle.std.specs.List.{after_first, after_last, before_first, before_last, position_or_len, prefix_len, slice_split}
 use Rattle.lrpar_grammar_places.specs.declared.span.Span.{Span}
 use Rattle.lrpar_lexer.specs.RuleLines.{without_end, without_front}
@@ -12,6 +12,10 @@ pub record Part : Type 0 where
 
 abbrev pub placed : code.Part → Part
 placed p = record { start = p.start; bytes = p.text.now }
+
+-- the same of a part, if there is one
+abbrev pub placed_if : Option code.Part → Option Part
+placed_if p = option_map (λ p. placed p) p
 
 -- all of a text
 abbrev pub whole : List ℕ → Part

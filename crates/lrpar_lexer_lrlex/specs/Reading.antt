@@ -1,22 +1,26 @@
 -- The rules that a `.l` file gives for a grammar.
-use Rattle.std.specs.Prelude.{◌≡◌, ◌≢◌, ◌⊎◌, ℕ, ◌==◌, ◌||◌, ◌&&◌, Bool, not, List, [], ◌∷◌, length, map, filter, ⊤, option_map, Ok, Err}
+use Rattle.std.specs.Prelude.{◌≡◌, ◌≢◌, ◌⊎◌, ℕ, ◌==◌, ◌||◌, ◌&&◌, Bool, not, List, [], ◌∷◌, length, map, filter, ⊤, Option, Vec, option_map, Ok, Err}
 use Rattle.regex.specs.Patterns.{Config}
 use Rattle.regex.specs.Failures.{IsRightKind}
 use Rattle.regex.specs.Sources.{IsRefusal}
+use Rattle.regex.specs.declared.error.Error.{Error}
 use Rattle.regex.specs.declared.error.Error.TheVariants.{Internal, OutOfMemory}
 use Rattle.lrpar_grammar.specs.Grammar.{Grammar}
+use Rattle.lrpar_grammar_places.specs.declared.span.Span.{Span}
 use Rattle.lrpar_lexer.specs.Rules.{HasPatternBy, token_of}
 use Rattle.lrpar_lexer.specs.declared.rule.LexRule.{LexRule}
 use Rattle.lrpar_lexer_lrlex.specs.declared.fault.LrlexFault.{LrlexFault}
-use Rattle.lrpar_lexer_lrlex.specs.declared.fault.LrlexFault.TheVariants.{Pattern}
+use Rattle.lrpar_lexer_lrlex.specs.declared.fault.LrlexFault.TheVariants.{Memory, Pattern}
 use Rattle.lrpar_lexer_lrlex.specs.declared.flags.TextFlags.{TextFlags}
+use Rattle.lrpar_lexer_lrlex.specs.declared.part.Part as code
 use Rattle.lrpar_lexer_lrlex.specs.declared.rules.LrlexRules.{LrlexRules}
+use Rattle.lrpar_lexer_lrlex.specs.declared.states.StateName as code_state
 use Rattle.lrpar_lexer_lrlex.specs.declared.states.Starts.{Starts}
 use Rattle.lrpar_lexer_lrlex.specs.Declarations.{declarations}
 use Rattle.lrpar_lexer_lrlex.specs.Flags.{header}
 use Rattle.lrpar_lexer_lrlex.specs.Lines.{Line, read_line}
-use Rattle.lrpar_lexer_lrlex.specs.Parts.{Part, is_comment, pieces, trimmed, whole}
-use Rattle.lrpar_lexer_lrlex.specs.States.{StateName, plain_target}
+use Rattle.lrpar_lexer_lrlex.specs.Parts.{Part, is_comment, pieces, pieces_left, placed, placed_if, trimmed, whole}
+use Rattle.lrpar_lexer_lrlex.specs.States.{StateName, plain_names, plain_target}
 
 -- the line has a rule: it isn't empty, and no comment
 abbrev pub counts : TextFlags → Part → Bool
@@ -81,3 +85,37 @@ pub data HasFirstFault {S : Type 0} (index : S → ℕ) (grammar : Grammar) (tex
   in_rules : (flags : TextFlags) (rest : Part) (states : List StateName) (lines : List Part) → header (whole text) ≡ Ok (flags, rest)
       → declarations (pieces 10 rest) ≡ Ok (states, lines) → IsFirstFault index grammar flags states (rule_lines flags lines) fault
       → HasFirstFault index grammar text fault
+
+-- the lines that have rules, of what is left of the text
+abbrev pub rule_lines_in : TextFlags → Option code.Part → List Part
+rule_lines_in flags left = rule_lines flags (pieces_left 10 (placed_if left))
+
+module _ {S : Type 0} (index : S → ℕ) (grammar : Grammar) (states : List code_state.StateName) (flags : TextFlags) where
+  -- the rules, with their states and targets, are those of the lines that are left
+  abbrev pub AreRulesIn : {A B : Type 0} → Option code.Part → Vec (LexRule S) A × Vec Starts B → Type 0
+  AreRulesIn left found =
+      AreRulesOf index grammar flags (plain_names states) (rule_lines_in flags left) found.0.items found.1.items
+
+  -- the first of these lines that gives no rule has this fault; or it is `Memory`
+  abbrev pub IsFirstFaultIn : Option code.Part → LrlexFault → Type 0
+  IsFirstFaultIn left fault = fault ≢ Memory → IsFirstFault index grammar flags (plain_names states) (rule_lines_in flags left) fault
+
+  -- the rule, with its states and its target, is the one of the line
+  abbrev pub IsRuleIn : code.Part → LexRule S × Starts → Type 0
+  IsRuleIn line found = IsRuleOf index grammar flags (plain_names states) (placed line) found.0 found.1
+
+-- the line gives no rule, with this fault; or it is `Memory`
+abbrev pub IsFaultIn : Grammar → List code_state.StateName → TextFlags → code.Part → LrlexFault → Type 0
+IsFaultIn grammar states flags line fault = fault ≢ Memory → HasFault grammar flags (plain_names states) (placed line) fault
+
+-- there are as many states and targets as rules
+abbrev pub ArePaired : {S A B : Type 0} → Vec (LexRule S) A × Vec Starts B → Type 0
+ArePaired found = length found.1.items ≡ length found.0.items
+
+-- `regex` refuses the pattern at this place, with this error; or the fault is `Memory`
+abbrev pub IsRefusedAt : Span → Error → LrlexFault → Type 0
+IsRefusedAt place error fault = fault ≢ Memory → (fault ≡ Pattern place error) × (error ≢ OutOfMemory)
+
+-- the fault is the first of the text; or it is `Memory`
+abbrev pub IsFaultOf : {S : Type 0} → (S → ℕ) → Grammar → List ℕ → LrlexFault → Type 0
+IsFaultOf index grammar text fault = fault ≢ Memory → HasFirstFault index grammar text fault

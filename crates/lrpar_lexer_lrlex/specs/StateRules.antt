@@ -1,5 +1,5 @@
 -- Rules with start states, and those that are active in a state.
-use Rattle.std.specs.Prelude.{ℕ, ◌+◌, ◌-◌, ◌==◌, Bool, false, not, List, [], ◌∷◌, ◌++◌, length, map, take, get_or, Option, Some, None, option_map, if◌then◌else◌}
+use Rattle.std.specs.Prelude.{◌≡◌, ℕ, ◌+◌, ◌-◌, ◌==◌, Bool, false, not, List, [], ◌∷◌, ◌++◌, length, map, take, get_or, Option, Some, None, Vec, option_map, if◌then◌else◌}
 use Rattle.std.specs.List.{list_any}
 use Rattle.lrpar_lexer.specs.Rules as plain
 use Rattle.lrpar_lexer.specs.Rules.{Rule}
@@ -56,3 +56,12 @@ moved (Some (push state)) top below = Some (state, below ++ top ∷ [])
 moved (Some (alone state)) top below = Some (state, [])
 moved (Some pop) top below =
     if length below == 0 then None else Some (get_or below (length below - 1) 0, take (length below - 1) below)
+
+-- these are the numbers of the rules with these states in front that are active in a state, in order
+abbrev pub AreActiveOf : {A : Type 0} → List Bool → List code.Starts → ℕ → Vec ℕ A → Type 0
+AreActiveOf exclusive starts state numbers =
+    numbers.items ≡ active_from 0 (get_or exclusive state false) state (map plain_starts starts)
+
+-- the number of the rule was appended, if the rule is active
+abbrev pub AppendsIf : {A : Type 0} → Bool → ℕ → Vec ℕ A → Vec ℕ A → Type 0
+AppendsIf is_active rule old new = new.items ≡ old.items ++ (if is_active then rule ∷ [] else [])

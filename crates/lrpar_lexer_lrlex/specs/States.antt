@@ -1,5 +1,5 @@
 -- Start states.
-use Rattle.std.specs.Prelude.{ℕ, ◌==◌, ◌||◌, ◌&&◌, Bool, false, List, [], ◌∷◌, map, Option, bytes_eq, position}
+use Rattle.std.specs.Prelude.{◌≡◌, ℕ, ◌==◌, ◌||◌, ◌&&◌, Bool, false, List, [], ◌∷◌, map, Option, Vec, bytes_eq, position}
 use Rattle.std.specs.List.{list_all}
 use Rattle.std.specs.Char.{is_ascii_alphabetic, is_ascii_alphanumeric}
 use Rattle.lrpar_lexer_lrlex.specs.declared.states.StateName as code
@@ -36,3 +36,7 @@ abbrev pub plain_target : code_target.Target → Target
 plain_target (code_target.TheVariants.Push state) = push state
 plain_target code_target.TheVariants.Pop = pop
 plain_target (code_target.TheVariants.Set state) = alone state
+
+-- for each state whether it is exclusive
+abbrev pub AreExclusive : {A : Type 0} → List code.StateName → Vec Bool A → Type 0
+AreExclusive states exclusive = exclusive.items ≡ map (λ s. s.exclusive) (plain_names states)

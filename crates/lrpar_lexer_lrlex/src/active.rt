@@ -1,7 +1,7 @@
 //! The rules that are active in a state.
-ghost use Rattle.std.specs.Prelude.{◌≡◌, ◌∷◌, ◌++◌, [], false, if◌then◌else◌, IfOk, OnOk, get_or, map};
+ghost use Rattle.std.specs.Prelude.{◌≡◌, false, IfOk, OnOk, get_or};
 ghost use Rattle.lrpar_lexer_lrlex.specs.StateRules as spec;
-ghost use Rattle.lrpar_lexer_lrlex.specs.StateRules.{plain_starts};
+ghost use Rattle.lrpar_lexer_lrlex.specs.StateRules.{AppendsIf, AreActiveOf, plain_starts};
 
 use crate::states::Starts;
 use std::alloc::{AllocError, Global};
@@ -13,7 +13,7 @@ pub(crate) fn active_in(
     starts: &[Starts],
     state: usize,
 ) -> Result<Vec<usize>, AllocError>
-    ensures { IfOk result (λ active. active.items ≡ spec.active_from 0 (get_or exclusive.now state false) state (map plain_starts starts.now)) }
+    ensures { IfOk result (AreActiveOf exclusive.now starts.now state) }
 {
     let exclusive = is_exclusive(exclusive, state);
     let mut active = Vec::new(alloc);
@@ -31,7 +31,7 @@ pub(crate) fn active_in(
 
 // Adds the number of a rule, if it is active.
 fn push_active(active: &mut Vec<usize>, rule: usize, is_active: bool) -> Result<(), AllocError>
-    ensures { OnOk result (active.new.items ≡ active.old.items ++ (if is_active then rule ∷ [] else [])) }
+    ensures { OnOk result (AppendsIf is_active rule active.old active.new) }
 {
     if !is_active {
         return Ok(());

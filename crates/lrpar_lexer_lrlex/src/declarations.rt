@@ -1,10 +1,9 @@
 //! The part of a `.l` file before its rules.
-ghost use Rattle.std.specs.Prelude.{◌≡◌, ◌≢◌, Ok, Err, MatchResult, IfOk, IfErr, OnOk};
-ghost use Rattle.lrpar_lexer_lrlex.specs.Parts.{placed, pieces, pieces_left};
-ghost use Rattle.lrpar_lexer_lrlex.specs.Faults.{Gives, Keeps};
+ghost use Rattle.std.specs.Prelude.{◌≡◌};
+ghost use Rattle.lrpar_lexer_lrlex.specs.Parts.{pieces, placed};
+ghost use Rattle.lrpar_lexer_lrlex.specs.Faults.{Gives};
 ghost use Rattle.lrpar_lexer_lrlex.specs.Declarations as spec;
-ghost use Rattle.lrpar_lexer_lrlex.specs.Declarations.{plain_declared};
-ghost use Rattle.lrpar_lexer_lrlex.specs.States.{plain_names};
+ghost use Rattle.lrpar_lexer_lrlex.specs.Declarations.{AddsAllStates, AddsState, AddsStates, plain_declared};
 
 use crate::fault::LrlexFault;
 use crate::part::Part;
@@ -45,7 +44,7 @@ fn is_rules_sign(line: Part) -> bool
 
 // Adds the states that a line declares. A line with nothing declares none, nor does a comment.
 fn declare<'t>(states: &mut Vec<StateName<'t>>, line: Part<'t>) -> Result<(), LrlexFault>
-    ensures { Keeps (plain_names states.new.items) (spec.declare (plain_names states.old.items) (placed line.entry)) result }
+    ensures { AddsStates states.old line.entry states.new result }
 {
     if line.text.is_empty() || line.is_comment() {
         return Ok(());
@@ -66,7 +65,7 @@ fn declare_all<'t>(
     names: Part<'t>,
     exclusive: bool,
 ) -> Result<(), LrlexFault>
-    ensures { Keeps (plain_names states.new.items) (spec.declare_all (plain_names states.old.items) (placed line.entry) (placed names.entry) exclusive) result }
+    ensures { AddsAllStates states.old line.entry names.entry exclusive states.new result }
 {
     let (before, mut left) = names.cut(' ');
     if !before.text.is_empty() || left.is_none() {
@@ -86,7 +85,7 @@ fn declare_one<'t>(
     name: Part<'t>,
     exclusive: bool,
 ) -> Result<(), LrlexFault>
-    ensures { Keeps (plain_names states.new.items) (spec.declare_one (plain_names states.old.items) (placed name.entry) exclusive) result }
+    ensures { AddsState states.old name.entry exclusive states.new result }
 {
     if name.text.is_empty() {
         return Ok(());

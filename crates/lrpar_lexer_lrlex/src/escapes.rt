@@ -1,6 +1,7 @@
 //! The escapes of a pattern of lrlex.
-ghost use Rattle.std.specs.Prelude.{◌≡◌, ◌++◌, ◌==◌, ◌&&◌, [], not, true, IfOk, OnOk, encode_utf8_all, string_bytes};
+ghost use Rattle.std.specs.Prelude.{◌≡◌, ◌==◌, ◌&&◌, [], not, true, IfOk, OnOk, string_bytes};
 ghost use Rattle.lrpar_lexer_lrlex.specs.Escapes as spec;
+ghost use Rattle.lrpar_lexer_lrlex.specs.Escapes.{AppendsChars};
 
 use std::alloc::{AllocError, Global};
 
@@ -28,7 +29,7 @@ fn escapes_next(is_escaped: bool, c: char) -> bool
 // Adds what is written for a character. If a backslash is before it, that isn't written yet.
 #[tactic(auto, using(crate::proofs::EscapeLemmas::written_char, crate::proofs::EscapeLemmas::written_escaped, crate::proofs::EscapeLemmas::written_nothing))]
 fn push_char(text: &mut String, is_escaped: bool, c: char) -> Result<(), AllocError>
-    ensures { OnOk result (string_bytes text.new ≡ string_bytes text.old ++ encode_utf8_all (spec.written is_escaped c)) }
+    ensures { OnOk result (AppendsChars (spec.written is_escaped c) text.old text.new) }
 {
     if escapes_next(is_escaped, c) {
         return Ok(());
@@ -43,7 +44,7 @@ fn push_char(text: &mut String, is_escaped: bool, c: char) -> Result<(), AllocEr
 // Adds a character after a backslash.
 #[tactic(auto, using(crate::proofs::EscapeLemmas::written_both, crate::proofs::EscapeLemmas::written_itself))]
 fn push_escaped(text: &mut String, c: char) -> Result<(), AllocError>
-    ensures { OnOk result (string_bytes text.new ≡ string_bytes text.old ++ encode_utf8_all (spec.written true c)) }
+    ensures { OnOk result (AppendsChars (spec.written true c) text.old text.new) }
 {
     if !has_meaning(c) {
         text.push(c)?;
@@ -57,7 +58,7 @@ fn push_escaped(text: &mut String, c: char) -> Result<(), AllocError>
 // Adds a backslash at the end, if there is one.
 #[tactic(auto, using(crate::proofs::EscapeLemmas::written_end, crate::proofs::EscapeLemmas::written_no_end))]
 fn push_end(text: &mut String, is_escaped: bool) -> Result<(), AllocError>
-    ensures { OnOk result (string_bytes text.new ≡ string_bytes text.old ++ encode_utf8_all (spec.without_needless is_escaped [])) }
+    ensures { OnOk result (AppendsChars (spec.without_needless is_escaped []) text.old text.new) }
 {
     if !is_escaped {
         return Ok(());

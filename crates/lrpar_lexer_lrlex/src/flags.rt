@@ -1,5 +1,6 @@
 //! The flags of a `.l` file.
-ghost use Rattle.std.specs.Prelude.{◌≡◌, Ok, Err, MatchResult, MatchOption, IfOk, IfErr, None, Some};
+ghost use Rattle.std.specs.Prelude.{◌≡◌};
+ghost use Rattle.lrpar_lexer_lrlex.specs.Faults.{GivesExactly};
 ghost use Rattle.lrpar_lexer_lrlex.specs.Parts.{placed};
 ghost use Rattle.lrpar_lexer_lrlex.specs.Flags as spec;
 ghost use Rattle.lrpar_lexer_lrlex.specs.Flags.{plain_header};
@@ -61,7 +62,7 @@ impl TextFlags {
 
 // The flags of a text, and what comes after them.
 pub(crate) fn header(text: Part) -> Result<(TextFlags, Part), LrlexFault>
-    ensures { MatchResult result (λ header. spec.header (placed text.entry) ≡ Ok (plain_header header)) (λ fault. spec.header (placed text.entry) ≡ Err fault) }
+    ensures { GivesExactly plain_header (spec.header (placed text.entry)) result }
 {
     let begin = text.trimmed();
     let Some(after) = begin.after_word("%grmtools") else {
@@ -78,7 +79,7 @@ pub(crate) fn header(text: Part) -> Result<(TextFlags, Part), LrlexFault>
 
 // The flags that a text between braces sets.
 fn flags_of(inside: Part) -> Result<TextFlags, LrlexFault>
-    ensures { MatchResult result (λ flags. spec.flags_of (placed inside.entry) ≡ Ok flags) (λ fault. spec.flags_of (placed inside.entry) ≡ Err fault) }
+    ensures { GivesExactly (λ flags. flags) (spec.flags_of (placed inside.entry)) result }
 {
     let mut flags = TextFlags::unset();
     let mut left = Some(inside);
@@ -92,7 +93,7 @@ fn flags_of(inside: Part) -> Result<TextFlags, LrlexFault>
 
 // The flags after one more is set.
 fn set(flags: TextFlags, flag: Part) -> Result<TextFlags, LrlexFault>
-    ensures { MatchResult result (λ set. spec.set flags (placed flag.entry) ≡ Ok set) (λ fault. spec.set flags (placed flag.entry) ≡ Err fault) }
+    ensures { GivesExactly (λ set. set) (spec.set flags (placed flag.entry)) result }
 {
     if flag.text.is_empty() {
         return Ok(flags);

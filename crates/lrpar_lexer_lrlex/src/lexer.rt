@@ -1,11 +1,8 @@
 //! The lexer of a text by rules with start states.
-ghost use Rattle.std.specs.Prelude.{◌≡◌, [], IfOk, None, Some, option_map, slice_range};
+ghost use Rattle.std.specs.Prelude.{◌≡◌, IfOk, None, Some};
 ghost use Rattle.std.specs.Str.{IsCharBoundary};
 ghost use Rattle.lrpar_grammar_places.specs.Lines.{column_of, line_of, line_table};
-ghost use Rattle.lrpar_grammar_places.specs.Span.{IsPartOf};
-ghost use Rattle.lrpar_lexer.specs.Answers.{plain_answers};
-ghost use Rattle.lrpar_lexer_lrlex.specs.LexingAllIn.{LexesByStates};
-ghost use Rattle.lrpar_lexer_lrlex.specs.StateRules.{plain_state_rules};
+ghost use Rattle.lrpar_lexer.specs.TextParts.{IsEmptyOutside, IsPartAt};
 
 use crate::lexing::answers;
 use crate::lexing_all::all_answers;
@@ -33,6 +30,8 @@ pub struct StateLexer<'rules, 'input, StorageT = u32> {
 }
 
 impl<'rules, 'input, StorageT: StorageIndex> StateLexer<'rules, 'input, StorageT> {
+    ghost use Rattle.lrpar_lexer_lrlex.specs.Lexers.{HasLexemesOf};
+
     /// The lexer of this text by these rules. Takes time linear in the text, and memory for each of its lines.
     pub fn new(
         alloc: Global,
@@ -67,9 +66,8 @@ impl<'rules, 'input, StorageT: StorageIndex> StateLexer<'rules, 'input, StorageT
 
     /// The lexeme's part of the input. It is empty if the lexeme doesn't start and end in the input, each between two characters.
     pub fn text(&self, lexeme: &Token<StorageT>) -> &'input str
-        ensures part { IsPartOf self.now.input.now lexeme.now.span
-            → result.now ≡ slice_range self.now.input.now lexeme.now.span.start lexeme.now.span.end }
-        ensures outside { ¬ (IsPartOf self.now.input.now lexeme.now.span) → result.now ≡ [] }
+        ensures part { IsPartAt self.now.input.now lexeme.now.span result.now }
+        ensures outside { IsEmptyOutside self.now.input.now lexeme.now.span result.now }
     {
         part_of(self.input, lexeme.span())
     }
@@ -77,9 +75,7 @@ impl<'rules, 'input, StorageT: StorageIndex> StateLexer<'rules, 'input, StorageT
     /// A lexer over the lexemes and errors that this one gives. They are found here, and only once, so that a parse, `expected` and a
     /// report about one text can share them. Takes memory for the list, and for each line of the text.
     pub fn lexed(&self, alloc: Global) -> Result<ListLexer<'input, StorageT>, AllocError>
-        ensures answers { IfOk result (λ lexer. LexesByStates (plain_state_rules StorageT.index self.now.rules.now)
-            (option_map (λ token. StorageT.index token.0) self.now.unmatched) self.now.input.now
-            (plain_answers StorageT.index lexer.answers.items)) }
+        ensures answers { IfOk result (HasLexemesOf StorageT.index self.now) }
         ensures input { IfOk result (λ lexer. lexer.input.now ≡ self.now.input.now) }
     {
         ListLexer::over(alloc, self.input, self.iter(alloc)?)
@@ -99,12 +95,9 @@ impl<'rules, 'input, StorageT: StorageIndex> StateLexer<'rules, 'input, StorageT
 
 impl<'rules, 'input, StorageT: StorageIndex> Lexer<TokenTypes<StorageT>>
     for StateLexer<'rules, 'input, StorageT> {
-    ghost use Rattle.lrpar_lexer.specs.Answers.{plain_answers};
-    ghost use Rattle.lrpar_lexer_lrlex.specs.LexingAllIn.{LexesByStates};
-    ghost use Rattle.lrpar_lexer_lrlex.specs.StateRules.{plain_state_rules};
+    ghost use Rattle.lrpar_lexer_lrlex.specs.Lexers.{LexesInput};
 
-    ghost allows = { λ lexer given. LexesByStates (plain_state_rules StorageT.index lexer.rules.now)
-        (option_map (λ token. StorageT.index token.0) lexer.unmatched) lexer.input.now (plain_answers StorageT.index given) };
+    ghost allows = { λ lexer given. LexesInput StorageT.index lexer given };
 
     fn iter(&self, alloc: Global) -> Result<Vec<Result<Token<StorageT>, NoToken>>, AllocError> {
         match self.unmatched {

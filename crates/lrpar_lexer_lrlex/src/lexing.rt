@@ -1,14 +1,10 @@
 //! The lexemes and errors of a text by rules with start states.
-ghost use Rattle.std.specs.Prelude.{◌≡◌, ◌<◌, ◌≤◌, ◌+◌, [], IfOk, IfSome, MatchOption, None, Some, drop, length, map, option_map, slice_get};
+ghost use Rattle.std.specs.Prelude.{◌≡◌, ◌<◌, ◌≤◌, ◌+◌, IfOk, IfSome, Some, length, slice_get};
 ghost use Rattle.std.specs.Str.{IsCharBoundary};
-ghost use Rattle.lrpar_lexer.specs.Answers.{plain_answers};
-ghost use Rattle.lrpar_lexer.specs.Matchers.{programs_of};
-ghost use Rattle.lrpar_lexer.specs.Matching.{NoneMatches};
-ghost use Rattle.lrpar_lexer.specs.Rules.{anchored_of};
-ghost use Rattle.lrpar_lexer_lrlex.specs.LexingIn.{LexesIn, ReadsIn, nothing_below, patterns_in};
-ghost use Rattle.lrpar_lexer_lrlex.specs.StateRules as spec;
-ghost use Rattle.lrpar_lexer_lrlex.specs.StateRules.{plain_state_rules, target_at, token_at};
-ghost use Rattle.lrpar_lexer_lrlex.specs.States.{plain_target};
+ghost use Rattle.lrpar_lexer.specs.Matchers.{AreMatchersOf, programs_of};
+ghost use Rattle.lrpar_lexer_lrlex.specs.LexingIn.{nothing_below};
+ghost use Rattle.lrpar_lexer_lrlex.specs.StoredLexemes.{AreLexemesIn, FindsActive};
+ghost use Rattle.lrpar_lexer_lrlex.specs.StoredRules.{AreActive, AreActiveWithout, AreReady, HasTargetAt, HasTokenAt};
 
 use crate::active::active_in;
 use crate::rules::LrlexRules;
@@ -24,7 +20,7 @@ pub(crate) fn answers<StorageT: StorageIndex>(
     rules: &LrlexRules<StorageT>,
     text: &str,
 ) -> Result<Vec<Result<Token<StorageT>, NoToken>>, AllocError>
-    ensures { IfOk result (λ answers. LexesIn (plain_state_rules StorageT.index rules.now) text.now 0 0 [] (plain_answers StorageT.index answers.items)) }
+    ensures { IfOk result (AreLexemesIn StorageT.index rules.now text.now) }
 {
     let mut matchers = matchers_of(alloc, rules)?;
     let mut stack = Stack::new(alloc);
@@ -55,7 +51,7 @@ pub(crate) fn matchers_of<StorageT: StorageIndex>(
     alloc: Global,
     rules: &LrlexRules<StorageT>,
 ) -> Result<Matchers<'_>, AllocError>
-    ensures { IfOk result (λ matchers. programs_of matchers ≡ map anchored_of rules.now.rules.items) }
+    ensures { IfOk result (AreMatchersOf rules.now.rules.items) }
 {
     Matchers::new(alloc, &rules.rules)
 }
@@ -66,7 +62,7 @@ pub(crate) fn active_rules<StorageT: StorageIndex>(
     rules: &LrlexRules<StorageT>,
     state: usize,
 ) -> Result<Vec<usize>, AllocError>
-    ensures { IfOk result (λ active. active.items ≡ spec.active (plain_state_rules StorageT.index rules.now) state) }
+    ensures { IfOk result (AreActive StorageT.index rules.now state) }
 {
     active_in(alloc, &rules.exclusive, &rules.starts, state)
 }
@@ -85,7 +81,7 @@ pub(crate) fn target_of<StorageT: StorageIndex>(
     rule: usize,
 ) -> Option<Target>
     requires { rule < length rules.now.starts.items }
-    ensures { option_map plain_target result ≡ target_at (plain_state_rules StorageT.index rules.now) rule }
+    ensures { HasTargetAt StorageT.index rules.now rule result }
 {
     rules.starts[rule].target
 }
@@ -96,7 +92,7 @@ pub(crate) fn token_of<StorageT: StorageIndex>(
     rule: usize,
 ) -> Option<TIdx<StorageT>>
     requires { rule < length rules.now.starts.items }
-    ensures { option_map (λ token. StorageT.index token.0) result ≡ token_at (plain_state_rules StorageT.index rules.now) rule }
+    ensures { HasTokenAt StorageT.index rules.now rule result }
 {
     rules.rules[rule].token()
 }
@@ -110,12 +106,10 @@ pub(crate) fn read_at<StorageT: StorageIndex>(
     text: &str,
     at: usize,
 ) -> Option<(usize, usize)>
-    requires programs { programs_of matchers.old ≡ map anchored_of rules.now.rules.items }
-    requires active { active.now ≡ spec.active (plain_state_rules StorageT.index rules.now) state }
+    requires ready { AreReady StorageT.index rules.now state matchers.old active.now }
     requires within { at < length text.now }
     requires boundary { IsCharBoundary text.now at }
-    ensures found { MatchOption result (NoneMatches (patterns_in (plain_state_rules StorageT.index rules.now) state) (drop at text.now))
-        (λ found. ReadsIn (plain_state_rules StorageT.index rules.now) text.now state at found.0 found.1) }
+    ensures found { FindsActive StorageT.index rules.now state text.now at result }
     ensures known { IfSome result (λ found. found.0 < length rules.now.starts.items) }
     ensures some { IfSome result (λ found. 0 < found.1) }
     ensures boundary { IfSome result (λ found. IsCharBoundary text.now (at + found.1)) }
@@ -141,8 +135,8 @@ pub(crate) fn active_after<StorageT: StorageIndex>(
     top: usize,
     target: Option<Target>,
 ) -> Result<Vec<usize>, AllocError>
-    requires same { option_map plain_target target ≡ None → active.items ≡ spec.active (plain_state_rules StorageT.index rules.now) top }
-    ensures { IfOk result (λ active. active.items ≡ spec.active (plain_state_rules StorageT.index rules.now) top) }
+    requires same { AreActiveWithout StorageT.index rules.now target top active }
+    ensures { IfOk result (AreActive StorageT.index rules.now top) }
 {
     if target.is_none() {
         return Ok(active);

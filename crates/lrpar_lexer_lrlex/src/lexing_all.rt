@@ -1,13 +1,10 @@
 //! The lexemes of a text by rules with start states, if unmatched characters are lexemes, too.
-ghost use Rattle.std.specs.Prelude.{◌≡◌, ◌+◌, ◌<◌, [], IfOk, None, length, map, option_map};
+ghost use Rattle.std.specs.Prelude.{◌≡◌, ◌+◌, ◌<◌, IfOk, length};
 ghost use Rattle.std.specs.Str.{IsCharBoundary};
-ghost use Rattle.lrpar_lexer.specs.Answers.{plain_answers};
 ghost use Rattle.lrpar_lexer.specs.Matchers.{programs_of};
-ghost use Rattle.lrpar_lexer.specs.Rules.{anchored_of};
-ghost use Rattle.lrpar_lexer_lrlex.specs.LexingAllIn.{IsNextIn, LexesAllIn};
-ghost use Rattle.lrpar_lexer_lrlex.specs.StateRules as spec;
-ghost use Rattle.lrpar_lexer_lrlex.specs.StateRules.{plain_state_rules};
-ghost use Rattle.lrpar_lexer_lrlex.specs.States.{plain_target};
+ghost use Rattle.lrpar_lexer_lrlex.specs.Stacks.{KeepsTopWithout};
+ghost use Rattle.lrpar_lexer_lrlex.specs.StoredLexemes.{AreAllLexemesIn, ComesIn};
+ghost use Rattle.lrpar_lexer_lrlex.specs.StoredRules.{AreReady};
 
 use crate::lexing::{active_after, active_rules, matchers_of, read_at, target_of, token_of};
 use crate::rules::LrlexRules;
@@ -25,8 +22,7 @@ pub(crate) fn all_answers<StorageT: StorageIndex>(
     unmatched: TIdx<StorageT>,
     text: &str,
 ) -> Result<Vec<Result<Token<StorageT>, NoToken>>, AllocError>
-    ensures { IfOk result (λ answers. LexesAllIn (plain_state_rules StorageT.index rules.now) (StorageT.index unmatched.0) text.now 0 0 []
-        (plain_answers StorageT.index answers.items)) }
+    ensures { IfOk result (AreAllLexemesIn StorageT.index rules.now unmatched text.now) }
 {
     let mut matchers = matchers_of(alloc, rules)?;
     let mut stack = Stack::new(alloc);
@@ -61,15 +57,13 @@ fn next_lexeme<StorageT: StorageIndex>(
     text: &str,
     at: usize,
 ) -> Result<(Option<TIdx<StorageT>>, usize, Option<Target>), AllocError>
-    requires programs { programs_of matchers.old ≡ map anchored_of rules.now.rules.items }
-    requires active { active.now ≡ spec.active (plain_state_rules StorageT.index rules.now) stack.old.top }
+    requires ready { AreReady StorageT.index rules.now stack.old.top matchers.old active.now }
     requires within { at < length text.now }
     requires boundary { IsCharBoundary text.now at }
-    ensures next { IfOk result (λ next. IsNextIn (plain_state_rules StorageT.index rules.now) (StorageT.index unmatched.0) text.now at
-        stack.old.top stack.old.below.items (option_map (λ token. StorageT.index token.0) next.0) next.1 stack.new.top stack.new.below.items) }
+    ensures next { IfOk result (ComesIn StorageT.index rules.now unmatched text.now at stack.old stack.new) }
     ensures some { IfOk result (λ next. 0 < next.1) }
     ensures boundary { IfOk result (λ next. IsCharBoundary text.now (at + next.1)) }
-    ensures stays { IfOk result (λ next. option_map plain_target next.2 ≡ None → stack.new.top ≡ stack.old.top) }
+    ensures stays { IfOk result (λ next. KeepsTopWithout next.2 stack.old stack.new) }
     ensures same { programs_of matchers.new ≡ programs_of matchers.old }
 {
     let Some((rule, len)) = read_at(matchers, rules, stack.top, active, text, at) else {

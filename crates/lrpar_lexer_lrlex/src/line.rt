@@ -1,10 +1,5 @@
 //! A line of a rule: what it says.
-ghost use Rattle.std.specs.Prelude.{◌≡◌};
-ghost use Rattle.lrpar_lexer_lrlex.specs.Faults.{Gives};
-ghost use Rattle.lrpar_lexer_lrlex.specs.Lines as spec;
-ghost use Rattle.lrpar_lexer_lrlex.specs.Lines.{plain_line};
-ghost use Rattle.lrpar_lexer_lrlex.specs.Parts.{placed};
-ghost use Rattle.lrpar_lexer_lrlex.specs.States.{plain_names};
+ghost use Rattle.lrpar_lexer_lrlex.specs.Lines.{GivesLine};
 
 use crate::escapes::unescaped;
 use crate::fault::LrlexFault;
@@ -35,7 +30,7 @@ pub(crate) fn read_line<StorageT: StorageIndex>(
     states: &[StateName],
     line: Part,
 ) -> Result<Line<StorageT>, LrlexFault>
-    ensures { Gives (plain_line StorageT.index) (spec.read_line grm.now (plain_names states.now) (placed line.entry)) result }
+    ensures { GivesLine StorageT.index grm.now states.now line.entry result }
 {
     let parts = match line_parts(line) {
         Ok(parts) => parts,

@@ -1,9 +1,9 @@
 //! The names of a line of a rule, and what they mean.
-ghost use Rattle.std.specs.Prelude.{◌≡◌, Ok, Err, MatchResult, Some, None, IfOk, IfErr, option_map};
+ghost use Rattle.std.specs.Prelude.{◌≡◌};
 ghost use Rattle.lrpar_lexer_lrlex.specs.Parts.{placed};
-ghost use Rattle.lrpar_lexer_lrlex.specs.Faults.{Gives};
 ghost use Rattle.lrpar_lexer_lrlex.specs.Names as spec;
-ghost use Rattle.lrpar_lexer_lrlex.specs.States.{plain_names, plain_target};
+ghost use Rattle.lrpar_lexer_lrlex.specs.Names.{GivesStates, GivesTarget, GivesToken};
+ghost use Rattle.lrpar_lexer_lrlex.specs.States.{plain_names};
 
 use crate::fault::LrlexFault;
 use crate::part::Part;
@@ -18,7 +18,7 @@ pub(crate) fn states_of(
     states: &[StateName],
     names: Option<Part>,
 ) -> Result<Vec<usize>, LrlexFault>
-    ensures { Gives (λ numbers. numbers.items) (spec.states_of (plain_names states.now) (option_map (λ p. placed p) names.entry)) result }
+    ensures { GivesStates states.now names.entry result }
 {
     let mut numbers = Vec::new(alloc);
     let mut left = names;
@@ -45,9 +45,7 @@ pub(crate) fn target_of(
     states: &[StateName],
     target: Option<Part>,
 ) -> Result<Option<Target>, LrlexFault>
-    ensures { MatchResult result
-        (λ found. spec.target_of (plain_names states.now) (option_map (λ p. placed p) target.entry) ≡ Ok (option_map plain_target found))
-        (λ fault. spec.target_of (plain_names states.now) (option_map (λ p. placed p) target.entry) ≡ Err fault) }
+    ensures { GivesTarget states.now target.entry result }
 {
     let Some(inside) = target else {
         return Ok(None);
@@ -68,9 +66,7 @@ pub(crate) fn token_of<StorageT: StorageIndex>(
     grm: &YaccGrammar<StorageT>,
     name: Option<Part>,
 ) -> Result<Option<TIdx<StorageT>>, LrlexFault>
-    ensures { MatchResult result
-        (λ token. spec.token_of grm.now (option_map (λ p. placed p) name.entry) ≡ Ok (option_map (λ token. StorageT.index token.0) token))
-        (λ fault. spec.token_of grm.now (option_map (λ p. placed p) name.entry) ≡ Err fault) }
+    ensures { GivesToken StorageT.index grm.now name.entry result }
 {
     let Some(name) = name else {
         return Ok(None);

@@ -1,5 +1,5 @@
 //! Parts of a text, with their places.
-ghost use Rattle.std.specs.Prelude.{◌≡◌, ◌+◌, ◌^◌, ◌<◌, length, option_map};
+ghost use Rattle.std.specs.Prelude.{◌≡◌, ◌+◌, ◌^◌, ◌<◌, length};
 
 use lrpar_grammar_places::span::Span;
 
@@ -15,7 +15,7 @@ pub(crate) struct Part<'t> {
 }
 
 impl<'t> Part<'t> {
-    ghost use Rattle.lrpar_lexer_lrlex.specs.Parts.{after_byte, after_cut, after_word, before_cut, before_last_byte, before_word, is_comment, placed, last_word, span_of, trimmed, whole};
+    ghost use Rattle.lrpar_lexer_lrlex.specs.Parts.{after_byte, after_cut, after_word, before_cut, before_last_byte, before_word, is_comment, last_word, placed, placed_if, span_of, trimmed, whole};
 
     // All of a text.
     pub(crate) fn whole(text: &'t str) -> Part<'t>
@@ -46,7 +46,7 @@ impl<'t> Part<'t> {
     pub(crate) fn cut(self, byte: char) -> (Part<'t>, Option<Part<'t>>)
         requires { byte < 128 }
         ensures before { placed result.0 ≡ before_cut byte (placed self.entry) }
-        ensures after { option_map (λ p. placed p) result.1 ≡ after_cut byte (placed self.entry) }
+        ensures after { placed_if result.1 ≡ after_cut byte (placed self.entry) }
     {
         let Some((text, rest)) = self.text.split_once(byte) else {
             return (self, None);
@@ -62,7 +62,7 @@ impl<'t> Part<'t> {
     // The part without its first character, if that is this one.
     pub(crate) fn after_byte(self, byte: char) -> Option<Part<'t>>
         requires { byte < 128 }
-        ensures { option_map (λ p. placed p) result ≡ after_byte byte (placed self.entry) }
+        ensures { placed_if result ≡ after_byte byte (placed self.entry) }
     {
         let text = self.text.strip_prefix(byte)?;
         Some(Part {
@@ -73,7 +73,7 @@ impl<'t> Part<'t> {
 
     // The part without that word, if it begins with it.
     pub(crate) fn after_word(self, word: &str) -> Option<Part<'t>>
-        ensures { option_map (λ p. placed p) result ≡ after_word word.now (placed self.entry) }
+        ensures { placed_if result ≡ after_word word.now (placed self.entry) }
     {
         let text = self.text.strip_prefix(word)?;
         Some(Part {
@@ -92,7 +92,7 @@ impl<'t> Part<'t> {
     // The part without its last character, if that is this one.
     pub(crate) fn before_last(self, byte: char) -> Option<Part<'t>>
         requires { byte < 128 }
-        ensures { option_map (λ p. placed p) result ≡ before_last_byte byte (placed self.entry) }
+        ensures { placed_if result ≡ before_last_byte byte (placed self.entry) }
     {
         let text = self.text.strip_suffix(byte)?;
         Some(Part {

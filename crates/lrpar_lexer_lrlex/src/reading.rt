@@ -1,10 +1,8 @@
 //! The rules of a `.l` file.
-ghost use Rattle.std.specs.Prelude.{◌≡◌, ◌≢◌, Ok, Err, IfOk, IfErr, length, map, option_map};
-ghost use Rattle.regex.specs.declared.error.Error.TheVariants.{OutOfMemory};
-ghost use Rattle.lrpar_lexer_lrlex.specs.declared.fault.LrlexFault.TheVariants.{Memory};
-ghost use Rattle.lrpar_lexer_lrlex.specs.Parts.{pieces_left, placed};
-ghost use Rattle.lrpar_lexer_lrlex.specs.Reading.{AreRulesOf, HasFault, HasFirstFault, IsFirstFault, IsReadFrom, IsRuleOf, counts, rule_lines};
-ghost use Rattle.lrpar_lexer_lrlex.specs.States.{plain_names};
+ghost use Rattle.std.specs.Prelude.{◌≡◌, IfOk, IfErr};
+ghost use Rattle.lrpar_lexer_lrlex.specs.Parts.{placed};
+ghost use Rattle.lrpar_lexer_lrlex.specs.Reading.{ArePaired, AreRulesIn, IsFaultIn, IsFaultOf, IsFirstFaultIn, IsReadFrom, IsRefusedAt, IsRuleIn, counts};
+ghost use Rattle.lrpar_lexer_lrlex.specs.States.{AreExclusive};
 
 use crate::declarations::declarations;
 use crate::fault::LrlexFault;
@@ -45,7 +43,7 @@ pub fn rules_of_lrlex<StorageT: StorageIndex>(
     text: &str,
 ) -> Result<LrlexRules<StorageT>, LrlexFault>
     ensures rules { IfOk result (IsReadFrom StorageT.index grm.now text.now) }
-    ensures fault { IfErr result (λ fault. fault ≢ Memory → HasFirstFault StorageT.index grm.now text.now fault) }
+    ensures fault { IfErr result (IsFaultOf StorageT.index grm.now text.now) }
 {
     let (flags, rest) = match header(Part::whole(text)) {
         Ok(header) => header,
@@ -66,7 +64,7 @@ pub fn rules_of_lrlex<StorageT: StorageIndex>(
 
 // For each state whether it is exclusive.
 fn exclusive_of(alloc: Global, states: &[StateName]) -> Result<Vec<bool>, AllocError>
-    ensures { IfOk result (λ exclusive. exclusive.items ≡ map (λ s. s.exclusive) (plain_names states.now)) }
+    ensures { IfOk result (AreExclusive states.now) }
 {
     let mut exclusive = Vec::new(alloc);
     'states: for state in states {
@@ -83,11 +81,9 @@ fn rules_in<StorageT: StorageIndex>(
     flags: &TextFlags,
     lines: Option<Part>,
 ) -> Result<(Vec<LexRule<StorageT>>, Vec<Starts>), LrlexFault>
-    ensures rules { IfOk result (λ found. AreRulesOf StorageT.index grm.now flags.now (plain_names states.now)
-        (rule_lines flags.now (pieces_left 10 (option_map (λ p. placed p) lines.entry))) found.0.items found.1.items) }
-    ensures paired { IfOk result (λ found. length found.1.items ≡ length found.0.items) }
-    ensures fault { IfErr result (λ fault. fault ≢ Memory → IsFirstFault StorageT.index grm.now flags.now (plain_names states.now)
-        (rule_lines flags.now (pieces_left 10 (option_map (λ p. placed p) lines.entry))) fault) }
+    ensures rules { IfOk result (AreRulesIn StorageT.index grm.now states.now flags.now lines.entry) }
+    ensures paired { IfOk result ArePaired }
+    ensures fault { IfErr result (IsFirstFaultIn StorageT.index grm.now states.now flags.now lines.entry) }
 {
     let mut rules = Vec::new(alloc);
     let mut starts = Vec::new(alloc);
@@ -120,8 +116,8 @@ fn rule_of<StorageT: StorageIndex>(
     flags: &TextFlags,
     line: Part,
 ) -> Result<(LexRule<StorageT>, Starts), LrlexFault>
-    ensures rule { IfOk result (λ found. IsRuleOf StorageT.index grm.now flags.now (plain_names states.now) (placed line.entry) found.0 found.1) }
-    ensures fault { IfErr result (λ fault. fault ≢ Memory → HasFault grm.now flags.now (plain_names states.now) (placed line.entry) fault) }
+    ensures rule { IfOk result (IsRuleIn StorageT.index grm.now states.now flags.now line.entry) }
+    ensures fault { IfErr result (IsFaultIn grm.now states.now flags.now line.entry) }
 {
     let Line {
         pattern,
@@ -138,7 +134,7 @@ fn rule_of<StorageT: StorageIndex>(
 
 // The fault of a pattern at this place that is refused.
 fn refusal(place: Span, error: &regex::Error) -> LrlexFault
-    ensures { result ≢ Memory → (result ≡ LrlexFault.Pattern place error.now) × (error.now ≢ OutOfMemory) }
+    ensures { IsRefusedAt place error.now result }
 {
     match error {
         regex::Error::OutOfMemory => LrlexFault::Memory,

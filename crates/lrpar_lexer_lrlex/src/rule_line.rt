@@ -1,6 +1,7 @@
 //! A line of a rule: its parts.
-ghost use Rattle.std.specs.Prelude.{◌≡◌, ◌<◌, Ok, Err, MatchResult, option_map};
-ghost use Rattle.lrpar_lexer_lrlex.specs.Parts.{placed};
+ghost use Rattle.std.specs.Prelude.{◌<◌};
+ghost use Rattle.lrpar_lexer_lrlex.specs.Faults.{GivesExactly};
+ghost use Rattle.lrpar_lexer_lrlex.specs.Parts.{placed, placed_if};
 ghost use Rattle.lrpar_lexer_lrlex.specs.LineParts as spec;
 ghost use Rattle.lrpar_lexer_lrlex.specs.LineParts.{plain_angled, plain_parts};
 
@@ -21,7 +22,7 @@ pub(crate) struct LineParts<'t> {
 
 // The parts of a line.
 pub(crate) fn line_parts(line: Part) -> Result<LineParts, LrlexFault>
-    ensures { MatchResult result (λ parts. spec.line_parts (placed line.entry) ≡ Ok (plain_parts parts)) (λ fault. spec.line_parts (placed line.entry) ≡ Err fault) }
+    ensures { GivesExactly plain_parts (spec.line_parts (placed line.entry)) result }
 {
     let (front, word) = line.last_word();
     let (states, pattern) = match angled(front) {
@@ -48,7 +49,7 @@ pub(crate) fn line_parts(line: Part) -> Result<LineParts, LrlexFault>
 
 // What is between `<` and `>` at the start of a part, if it begins with `<`, and what comes after that.
 fn angled(part: Part) -> Result<(Option<Part>, Part), LrlexFault>
-    ensures { MatchResult result (λ parts. spec.angled (placed part.entry) ≡ Ok (plain_angled parts)) (λ fault. spec.angled (placed part.entry) ≡ Err fault) }
+    ensures { GivesExactly plain_angled (spec.angled (placed part.entry)) result }
 {
     let Some(inner) = part.after_byte('<') else {
         return Ok((None, part));
@@ -61,7 +62,7 @@ fn angled(part: Part) -> Result<(Option<Part>, Part), LrlexFault>
 
 // The name that an ending has, without quotes; none if it is a semicolon.
 fn name(ending: Part) -> Result<Option<Part>, LrlexFault>
-    ensures { MatchResult result (λ name. spec.name (placed ending.entry) ≡ Ok (option_map (λ p. placed p) name)) (λ fault. spec.name (placed ending.entry) ≡ Err fault) }
+    ensures { GivesExactly placed_if (spec.name (placed ending.entry)) result }
 {
     if ending.text == ";" {
         return Ok(None);
@@ -85,8 +86,7 @@ fn closed<'t>(
     quote: char,
 ) -> Result<Option<Part<'t>>, LrlexFault>
     requires { quote < 128 }
-    ensures { MatchResult result (λ name. spec.closed quote (placed ending.entry) (placed inner.entry) ≡ Ok (option_map (λ p. placed p) name))
-        (λ fault. spec.closed quote (placed ending.entry) (placed inner.entry) ≡ Err fault) }
+    ensures { GivesExactly placed_if (spec.closed quote (placed ending.entry) (placed inner.entry)) result }
 {
     match inner.before_last(quote) {
         Some(name) => Ok(Some(name)),

@@ -1,7 +1,5 @@
 //! Stacks of states.
-ghost use Rattle.std.specs.Prelude.{◌≡◌, [], false, if◌then◌else◌, IfOk, None, Some, option_map};
-ghost use Rattle.lrpar_lexer_lrlex.specs.StateRules.{moved};
-ghost use Rattle.lrpar_lexer_lrlex.specs.States.{plain_target};
+ghost use Rattle.std.specs.Prelude.{◌≡◌, [], IfOk};
 
 use crate::states::Target;
 use std::alloc::{AllocError, Global};
@@ -14,6 +12,8 @@ pub(crate) struct Stack {
 }
 
 impl Stack {
+    ghost use Rattle.lrpar_lexer_lrlex.specs.Stacks.{IsMoved, StaysIfNot};
+
     // The stack of state 0 alone.
     pub(crate) fn new(alloc: Global) -> Stack
         ensures top { result.top ≡ 0 }
@@ -27,9 +27,8 @@ impl Stack {
 
     // What a match with this target makes of the stack. No if it pops the last state, which stays then.
     pub(crate) fn go_on(&mut self, target: Option<Target>) -> Result<bool, AllocError>
-        ensures moved { IfOk result (λ went. moved (option_map plain_target target) self.old.top self.old.below.items
-            ≡ (if went then Some (self.new.top, self.new.below.items) else None)) }
-        ensures stays { IfOk result (λ went. went ≡ false → (self.new.top ≡ self.old.top) × (self.new.below.items ≡ self.old.below.items)) }
+        ensures moved { IfOk result (IsMoved target self.old self.new) }
+        ensures stays { IfOk result (StaysIfNot self.old self.new) }
     {
         match target {
             None => Ok(true),

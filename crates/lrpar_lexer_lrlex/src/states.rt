@@ -1,5 +1,5 @@
 //! Start states, and what rules say of them.
-ghost use Rattle.std.specs.Prelude.{◌≡◌, option_map};
+ghost use Rattle.std.specs.Prelude.{◌≡◌};
 ghost use Rattle.lrpar_lexer_lrlex.specs.States as spec;
 ghost use Rattle.std.specs.List.{list_all};
 ghost use Rattle.lrpar_lexer_lrlex.specs.States.{is_in_name, plain_names};

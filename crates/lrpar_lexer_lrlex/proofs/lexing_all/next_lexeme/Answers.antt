@@ -16,7 +16,7 @@ returns-in_default g c =
     let top = c.args.stack.now.top in
     let run : IsUnmatched (patterns_in rules top) text c.args.at c.unmatched_len-run.result =
     run_in index c.args.rules.now top (programs_of c.read_at.new.matchers) c.args.active.now text c.args.at c.unmatched_len-run.result
-    (c.read_at.ensures.same ∙ c.requires.programs) c.requires.active c.in_default.ensures.found c.unmatched_len-run.ensures.unmatched in
+    (c.read_at.ensures.same ∙ c.requires.ready.programs) c.requires.ready.active c.in_default.ensures.found c.unmatched_len-run.ensures.unmatched in
     record {
       next = skips c.unmatched_len-run.result run;
       some = run.some;
