@@ -31,11 +31,11 @@ pub record IsExpandedAt {S : Type 0} (index : S → ℕ) (g : Grammar) (all : Li
   pub low : place < length all
   pub is : (d : Expansion S) → IsExpanded index g kernel (slice_index_or all place d).successors
 
--- those of a kernel as the code stores it are at the place
+-- the closure of this kernel, and the kernels to which it goes, are at the place
 abbrev pub IsKeptAt : {S : Type 0} → (S → ℕ) → Grammar → Expansions S → List (CoreItems S) → ℕ → Type 0
 IsKeptAt index g expansions kernel place = IsExpandedAt index g expansions.all.items (map (core_set index) kernel) place
 
--- those of a kernel are at the place, if each item set is that of its kernel
+-- if each item set is that of its kernel, the one of this kernel is at the place
 abbrev pub IsPlaceOf : {S : Type 0} → (S → ℕ) → Expansions S → List (CoreItems S) → ℕ → Type 0
 IsPlaceOf index expansions kernel place = (g : Grammar) → All (IsExpansionOf index g) expansions.all.items → IsKeptAt index g expansions kernel place
 

@@ -18,33 +18,33 @@ use Rattle.lrpar_table_merge.specs.declared.held.HeldFault.TheVariants.{Misfit}
 use Rattle.lrpar_table_merge.specs.declared.held.Transitions.{Transitions}
 
 module _ {S : Type 0} (index : S → ℕ) where
-  -- of some grammar, the kernels are those of its states so far, and the other one is a kernel
+  -- of some grammar, each of the lists is a kernel as soon as it has an item, and the other list is a kernel
   abbrev pub ShareGrammar : {A : Type 0} → List (Vec (CoreItems S) A) → List (CoreItems S) → Type 0
   ShareGrammar kernels next = (g : Grammar) × AreKernelsIfFilled index g kernels × IsKernelOf index g next
 
-  -- the same; but the other one may have no cores
+  -- of some grammar, each of the lists is a kernel as soon as it has an item, and the other list if it has any core
   abbrev pub ShareGrammarIfAny : {A : Type 0} → List (Vec (CoreItems S) A) → List (CoreItems S) → Type 0
   ShareGrammarIfAny kernels next = (g : Grammar) × AreKernelsIfFilled index g kernels × IsNoneOrKernel g (map (core_set index) next)
 
-  -- the same of several others
+  -- of some grammar, each of the lists is a kernel as soon as it has an item, and each of the others if it has any core
   abbrev pub ShareGrammarAll : {A : Type 0} → List (Vec (CoreItems S) A) → List (Vec (CoreItems S) A) → Type 0
   ShareGrammarAll kernels nexts = (g : Grammar) × AreKernelsIfFilled index g kernels × AreNoneOrKernels g (kernel_rows index nexts)
 
-  -- kernels of a grammar's states still are, if the other one is a kernel
+  -- lists that are kernels as soon as they have an item still are so, if the other list is a kernel
   abbrev pub StayKernels : {A : Type 0} → List (Vec (CoreItems S) A) → List (CoreItems S) → List (Vec (CoreItems S) A) → Type 0
   StayKernels old next new = (g : Grammar) → AreKernelsIfFilled index g old → IsKernelOf index g next → AreKernelsIfFilled index g new
 
-  -- the same; but the other one may have no cores
+  -- lists that are kernels as soon as they have an item still are so, if the other list is a kernel or has no cores
   abbrev pub StayKernelsIfAny : {A : Type 0} → List (Vec (CoreItems S) A) → List (CoreItems S) → List (Vec (CoreItems S) A) → Type 0
   StayKernelsIfAny old next new =
       (g : Grammar) → AreKernelsIfFilled index g old → IsNoneOrKernel g (map (core_set index) next) → AreKernelsIfFilled index g new
 
-  -- the same of several others
+  -- lists that are kernels as soon as they have an item still are so, if each of the others is a kernel or has no cores
   abbrev pub StayKernelsAll : {A : Type 0} → List (Vec (CoreItems S) A) → List (Vec (CoreItems S) A) → List (Vec (CoreItems S) A) → Type 0
   StayKernelsAll old nexts new =
       (g : Grammar) → AreKernelsIfFilled index g old → AreNoneOrKernels g (kernel_rows index nexts) → AreKernelsIfFilled index g new
 
-  -- the items of the other kernel were added to those of the state, which has the same LR(0) cores
+  -- the items of a kernel were added to those of the state, which has the same LR(0) cores
   abbrev pub PassesTo : {A : Type 0} → ℕ → List (CoreItems S) → List (Vec (CoreItems S) A) → List (Vec (CoreItems S) A) → Type 0
   PassesTo state next old new = IsPassedTo (kernel_rows index old) state (map (core_set index) next) (kernel_rows index new)
 
@@ -52,23 +52,23 @@ module _ {S : Type 0} (index : S → ℕ) where
   abbrev pub LackFewerIf : {A : Type 0} → List (Vec (CoreItems S) A) → List (Vec (CoreItems S) A) → Bool → Type 0
   LackFewerIf old new grown = OnTrue grown (all_missing (kernel_rows index new) < all_missing (kernel_rows index old))
 
-  -- if none has grown, all are as before
+  -- if no kernel has grown, all are as before
   abbrev pub AreSameUnless : {A : Type 0} → List (Vec (CoreItems S) A) → List (Vec (CoreItems S) A) → Bool → Type 0
   AreSameUnless old new grown = OnFalse grown (kernel_rows index new ≡ kernel_rows index old)
 
-  -- the fault is a misfit: the other kernel can't be passed on along the step
+  -- the fault is a misfit: the kernel can't be passed on along the step
   abbrev pub IsMisfitAlong : {A : Type 0} → List (Vec (CoreItems S) A) → Option ℕ → List (CoreItems S) → HeldFault → Type 0
   IsMisfitAlong kernels step next fault = (fault ≡ Misfit) × IsMisfit (kernel_rows index kernels) step (map (core_set index) next)
 
-  -- one of the others has cores, and can't be passed on along its step
+  -- one of the kernels of a row has cores, and can't be passed on along its step
   abbrev pub HasMisfit : {A : Type 0} → List (Vec (CoreItems S) A) → List (Option ℕ) → List (Vec (CoreItems S) A) → Type 0
   HasMisfit kernels row nexts = HasMisfitIn (kernel_rows index kernels) row (kernel_rows index nexts)
 
-  -- the items of the other kernel were added to those of the state to which the step goes, and nothing else was added
+  -- the items of a kernel were added to those of the state to which the step goes, and nothing else was added
   abbrev pub PassesAlong : {A : Type 0} → Option ℕ → List (CoreItems S) → List (Vec (CoreItems S) A) → List (Vec (CoreItems S) A) → Type 0
   PassesAlong step next old new = IsPassedAlong step (map (core_set index) next) (kernel_rows index old) (kernel_rows index new)
 
-  -- the items of each of the others were added to those of the state to which its symbol leads, and nothing else was added
+  -- the items of each kernel of a row were added to those of the state to which its symbol leads, and nothing else was added
   abbrev pub PassesRow : {A : Type 0} → List (Option ℕ) → List (Vec (CoreItems S) A) → List (Vec (CoreItems S) A) → List (Vec (CoreItems S) A) → Type 0
   PassesRow row nexts old new = ArePassedAlong row (kernel_rows index nexts) (length nexts) (kernel_rows index old) (kernel_rows index new)
 
@@ -80,12 +80,12 @@ module _ {S : Type 0} (index : S → ℕ) where
   abbrev pub TellsGrowth : {A : Type 0} → List (Vec (CoreItems S) A) → List Bool → List (Vec (CoreItems S) A) → List Bool → Bool → Type 0
   TellsGrowth old waited new waits grown = HasGrown (kernel_rows index old) waited (kernel_rows index new) waits grown
 
-  -- the kernels have exactly the items that their states hold by the transitions, but for closure
+  -- each list is a kernel as soon as it has an item, and its closure has exactly the items that the state holds
   pub record AreKernelsHeld {A : Type 0} (g : Grammar) (all : List Transitions) (kernels : List (Vec (CoreItems S) A)) : Type 0 where
     pub filled : AreKernelsIfFilled index g kernels
     pub held : (s : ℕ) → AreSame (IsInClosure g (IsAmong (kernel_at (kernel_rows index kernels) s))) (IsHeld g (GoesBy (all_transitions all)) s)
 
-  -- the kernels got exactly the items that their states hold, and what these have after their dots leads on
+  -- the kernels kept their LR(0) cores and got what their states hold, and a transition leads on by each symbol after a dot
   pub record HavePropagated {A : Type 0} (g : Grammar) (all : List Transitions) (old new : List (Vec (CoreItems S) A)) : Type 0 where
     pub alike : StayAlike index old new
     pub held : AreKernelsHeld g all new
@@ -100,7 +100,7 @@ module _ {S : Type 0} (index : S → ℕ) where
     pub alike : StayAlike index old new
     pub propagated : IsUnderWay g all new waits
 
-  -- it went on as the state was passed on; and whether kernels have grown
+  -- propagation went on as the state was passed on; and whether kernels have grown
   pub record HasPassedOn {A : Type 0} (g : Grammar) (all : List Transitions) (state : ℕ) (old : List (Vec (CoreItems S) A)) (waited : List Bool)
       (new : List (Vec (CoreItems S) A)) (waits : List Bool) (grown : Bool) : Type 0 where
     pub goes_on : HasGoneOn g all old new waits
@@ -135,6 +135,6 @@ module _ {S : Type 0} (index : S → ℕ) where
   IsStuckFaultAt g all kernels state fault =
       fault ≡ Misfit → (symbol : GrammarSymbol) × IsStuckAt g (all_transitions all) (kernel_rows index kernels) state symbol
 
-  -- if the fault is a misfit, it is one of these
+  -- if the fault is a misfit, the start item isn't the kernel of state 0, or a state can't be passed on by a symbol
   abbrev pub IsPropagationFault : {A : Type 0} → Grammar → List Transitions → List (Vec (CoreItems S) A) → HeldFault → Type 0
   IsPropagationFault g all kernels fault = IsFaultOfHeld g (all_transitions all) (kernel_rows index kernels) fault
