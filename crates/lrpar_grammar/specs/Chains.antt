@@ -1,5 +1,5 @@
 -- Productions with the same numbers: the first of them, and the next one of each.
-use Rattle.std.specs.Prelude.{◌≡◌, ◌<◌, ◌≤◌, ◌+◌, ℕ, List, drop, length, slice_index_or, take, Option, Some, None}
+use Rattle.std.specs.Prelude.{◌≡◌, ◌<◌, ◌≤◌, ◌+◌, ℕ, List, drop, length, slice_index_or, take, Option, Some, None, Vec}
 use Rattle.std.specs.BTreeMap.{BTreeMap, get_by}
 use Rattle.std.specs.Borrow.{Bor}
 use Rattle.std.specs.Cmp.Lexicographic.{slice_cmp}
@@ -34,3 +34,7 @@ AreFirstFrom prods i first = (q : List ℕ) → IsFirstFrom prods q i (found fir
 abbrev pub AreNextFrom : List (List ℕ) → ℕ → List (Option ℕ) → Type 0
 AreNextFrom prods i next =
     (p : ℕ) → i ≤ p → p < length prods → IsNth prods (numbers_at prods p) (count_of (numbers_at prods p) (take p prods) + 1) (slice_index_or next p None)
+
+-- each number below `len` is at its place
+abbrev pub AreOwnNumbers : {A : Type 0} → ℕ → Vec (Option ℕ) A → Type 0
+AreOwnNumbers len numbers = (p : ℕ) → p < len → slice_index_or numbers.items p None ≡ Some p

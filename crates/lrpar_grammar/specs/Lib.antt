@@ -3,6 +3,7 @@ pub mod Tree
 pub mod Sentence
 pub mod Rewriting
 pub mod Symbols
+pub mod Stored
 pub mod Kept
 pub mod Sum
 pub mod SpansFit

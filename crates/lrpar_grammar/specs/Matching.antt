@@ -52,3 +52,7 @@ pub record IsFirstWithout (places : List (Option ℕ)) (p : ℕ) : Type 0 where
   pub within : p < length places
   pub none : slice_index_or places p None ≡ None
   pub first : HavePlaces places p
+
+-- each production of the matching has a place
+abbrev pub HasAllPlaces : Matching → Type 0
+HasAllPlaces m = HavePlaces m.places.items (length m.places.items)

@@ -1,6 +1,7 @@
 -- Productions as texts: which text spells which production, and lists in which each production is spelled once.
-use Rattle.std.specs.Prelude.{◌≡◌, ◌<◌, ◌+◌, ◌&&◌, ℕ, Bool, true, false, List, [], ◌∷◌, ◌++◌, drop, length, map, take, bytes_eq, count_by, if◌then◌else◌, slice_index_or, Option, Some, None, option_map, option_and_then}
+use Rattle.std.specs.Prelude.{◌≡◌, ◌<◌, ◌+◌, ◌&&◌, ℕ, Bool, true, false, List, [], ◌∷◌, ◌++◌, drop, length, map, take, bytes_eq, count_by, if◌then◌else◌, slice_index_or, Option, Some, None, option_map, option_and_then, Vec}
 use Rattle.std.specs.List.{range_with_len}
+use Rattle.lrpar_grammar_places.specs.declared.span.PIdx.{PIdx}
 use Rattle.lrpar_grammar_words.specs.declared.words.WordKind.{WordKind}
 use Rattle.lrpar_grammar_words.specs.declared.words.WordKind.TheVariants.{Name, Quoted, Colon}
 use Rattle.lrpar_grammar_words.specs.Words.{PlacedWord, ReadsAs}
@@ -116,3 +117,11 @@ pub record IsListing (g : Grammar) (texts : List (List ℕ)) (places : List (Opt
   pub len : length places ≡ start_prod g
   pub each_prod : (p : ℕ) → p < start_prod g → GoesTo (listed_prods g) spelled places p
   pub each_text : (t : ℕ) → t < length texts → IsTaken (listed_prods g) places t
+
+-- these are the numbers of the production
+abbrev pub AreProdNumbers : {S A : Type 0} → (S → ℕ) → Grammar → PIdx S → Vec ℕ A → Type 0
+AreProdNumbers index g prod numbers = numbers.items ≡ numbers_of g (index prod.0)
+
+-- these are the productions other than the start production, as numbers of symbols
+abbrev pub AreListedProds : {A : Type 0} → Grammar → List (Vec ℕ A) → Type 0
+AreListedProds g prods = map (λ numbers. numbers.items) prods ≡ listed_prods g

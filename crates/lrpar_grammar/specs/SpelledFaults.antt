@@ -1,10 +1,11 @@
 -- Why a list of texts isn't a list of a grammar's productions.
-use Rattle.std.specs.Prelude.{◌≡◌, ◌<◌, ◌≤◌, ℕ, List, [], length, slice_index_or, string_bytes, take}
+use Rattle.std.specs.Prelude.{◌≡◌, ◌≢◌, ◌<◌, ◌≤◌, ℕ, List, [], Option, length, slice_index_or, string_bytes, take}
 use Rattle.lrpar_grammar_reader.specs.Grammar.{Grammar}
 use Rattle.lrpar_grammar.specs.declared.grammar.spelled_fault.SpelledFault.{SpelledFault}
 use Rattle.lrpar_grammar.specs.declared.grammar.spelled_fault.SpelledFault.TheVariants.{Unknown, Repeated, Missing, Memory}
 use Rattle.lrpar_grammar.specs.ProdText.{prod_text}
-use Rattle.lrpar_grammar.specs.Spelled.{HasProduction, HasText, NamedSymbols, SpellEach, SpellsNumbers, count_of, listed_prods, named_symbols, numbers_at}
+use Rattle.lrpar_grammar.specs.SpelledParts.{IsListingInParts}
+use Rattle.lrpar_grammar.specs.Spelled.{HasProduction, HasText, IsListing, NamedSymbols, SpellEach, SpellsNumbers, count_of, listed_prods, named_symbols, numbers_at}
 
 -- each of the texts is of a production
 pub record GoWell (n : NamedSymbols) (prods texts : List (List ℕ)) : Type 0 where
@@ -65,3 +66,11 @@ abbrev pub IsMissingOf : Grammar → ℕ → SpelledFault → Type 0
 IsMissingOf g p (Missing text) = string_bytes text ≡ prod_text g p
 IsMissingOf g p Memory = Unit {0}
 IsMissingOf g p _ = ⊥
+
+-- unless an allocation failed, the texts list the productions in no way
+abbrev pub AreUnlisted : Grammar → List (List ℕ) → SpelledFault → Type 0
+AreUnlisted g texts fault = fault ≢ Memory → (places : List (Option ℕ)) → IsListing g texts places → ⊥
+
+-- the same for texts that come in parts
+abbrev pub AreUnlistedInParts : Grammar → List (List (List ℕ)) → SpelledFault → Type 0
+AreUnlistedInParts g parts fault = fault ≢ Memory → (places : List (Option (ℕ × ℕ))) → IsListingInParts g parts places → ⊥

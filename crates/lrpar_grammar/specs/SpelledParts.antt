@@ -1,6 +1,7 @@
 -- Lists of productions that come in parts.
-use Rattle.std.specs.Prelude.{◌≡◌, ◌<◌, ◌+◌, ℕ, List, [], length, slice_get, slice_index_or, take, Option, Some, None}
-use Rattle.std.specs.List.{AllZip, flat_map}
+use Rattle.std.specs.Prelude.{◌≡◌, ◌<◌, ◌+◌, ℕ, List, [], ◌++◌, Vec, length, map, slice_get, slice_index_or, take, Option, Some, None}
+use Rattle.std.specs.Borrow.{Bor}
+use Rattle.std.specs.List.{AllZip, flat_map, range_with_len}
 use Rattle.lrpar_grammar_reader.specs.Grammar.{Grammar}
 use Rattle.lrpar_grammar.specs.Spelled.{IsListing}
 
@@ -37,3 +38,11 @@ pub record ArePlaces (parts : List (List (List ℕ))) (places : List (ℕ × ℕ
 abbrev pub place_in_parts : List (ℕ × ℕ) → Option ℕ → Option (ℕ × ℕ)
 place_in_parts places None = None
 place_in_parts places (Some whole) = slice_get places whole
+
+-- parts of a list of texts by their bytes
+abbrev pub parts_in : List (Bor (List (Bor (List ℕ)))) → List (List (List ℕ))
+parts_in parts = map (λ texts. map (λ text. text.now) texts.now) parts
+
+-- the places of a part with this number and this length were appended
+abbrev pub AppendsPlaces : {A : Type 0} → Vec (ℕ × ℕ) A → Vec (ℕ × ℕ) A → ℕ → ℕ → Type 0
+AppendsPlaces old new part len = new.items ≡ old.items ++ map (λ place. (part, place)) (range_with_len 0 len)

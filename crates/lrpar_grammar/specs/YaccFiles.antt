@@ -1,5 +1,5 @@
 -- The grammar of a `.y` file: that of its erasure; and the faults of the file.
-use Rattle.std.specs.Prelude.{◌≡◌, ◌++◌, not, nat_lt, ℕ, List, map, Option, Some, None, option_map, bytes_eq, if◌then◌else◌}
+use Rattle.std.specs.Prelude.{◌≡◌, ◌++◌, not, nat_lt, ℕ, List, Vec, map, Option, Some, None, option_map, bytes_eq, if◌then◌else◌}
 use Rattle.std.specs.List.{find, flat_map, list_any}
 use Rattle.std.specs.Option.{is_some}
 use Rattle.std.specs.BTreeMap.{BTreeMap, get_by}
@@ -7,16 +7,21 @@ use Rattle.std.specs.Borrow.{Bor}
 use Rattle.std.specs.Cmp.Lexicographic.{slice_cmp}
 use Rattle.std.specs.Ordering.{nat_cmp}
 use Rattle.lrpar_grammar_places.specs.Span.{Extent}
-use Rattle.lrpar_grammar_words.specs.Words.{PlacedWord}
+use Rattle.lrpar_grammar_words.specs.declared.words.Word.{Word}
+use Rattle.lrpar_grammar_words.specs.Words.{PlacedWord, placed}
 use Rattle.lrpar_grammar.specs.declared.grammar.yacc.YaccFileFault.{YaccFileFault}
 use Rattle.lrpar_grammar.specs.declared.grammar.yacc.YaccFileFault.TheVariants.{Declared, Text, UnknownToken, Memory}
+use Rattle.lrpar_grammar_yacc.specs.declared.declarations.Declarations.{Declarations}
+use Rattle.lrpar_grammar_yacc.specs.declared.declarations.Level.{Level}
+use Rattle.lrpar_grammar_yacc.specs.declared.declarations.Prec.{Prec}
 use Rattle.lrpar_grammar_yacc.specs.declared.parts.YaccKind.{YaccKind}
-use Rattle.lrpar_grammar_yacc.specs.Declares.{TextDeclarations, TextLevel, declarations}
+use Rattle.lrpar_grammar_yacc.specs.Declares.{TextDeclarations, TextLevel, declarations, declarations_of, level_of, prec_of}
 use Rattle.lrpar_grammar_yacc.specs.Erasure.{erasure}
 use Rattle.lrpar_grammar_yacc.specs.Faults.{first_fault, IsFaultOf as IsDeclaredFault}
 use Rattle.lrpar_grammar_reader.specs.declared.parts.GrammarFault.{GrammarFault}
 use Rattle.lrpar_grammar_reader.specs.Grammar.{Grammar}
 use Rattle.lrpar_grammar_reader.specs.Spells.{IsFaultOf, Spells}
+use Rattle.lrpar_grammar.specs.Stored.{texts_in}
 
 -- the names of all tokens
 abbrev pub token_names : Grammar → List (List ℕ)
@@ -77,3 +82,31 @@ IsFileFault limit kind text Memory = Unit {0}
 -- the map has these names
 abbrev pub AreNames : BTreeMap (Bor (List ℕ)) (Unit {0}) → List (List ℕ) → Type 0
 AreNames known names = (q : List ℕ) → is_some (get_by (λ k. slice_cmp nat_cmp q k.now) known) ≡ list_any (bytes_eq q) names
+
+-- this is the first name that the declarations have and the grammar doesn't know, if there is one
+abbrev pub IsUnknownToken : Grammar → Declarations → Option Extent → Type 0
+IsUnknownToken g declared found = found ≡ unknown_token g (declarations_of declared)
+
+-- these are the names of all tokens
+abbrev pub AreTokenNames : {A : Type 0} → Grammar → Vec (Bor (List ℕ)) A → Type 0
+AreTokenNames g names = texts_in names.items ≡ token_names g
+
+-- the names of the levels were appended
+abbrev pub AppendsLevels : {A : Type 0} → Vec (Bor (List ℕ)) A → Vec (Bor (List ℕ)) A → List Level → Type 0
+AppendsLevels old new levels = texts_in new.items ≡ texts_in old.items ++ level_names (map level_of levels)
+
+-- the names of the words were appended
+abbrev pub AppendsNames : {A : Type 0} → Vec (Bor (List ℕ)) A → Vec (Bor (List ℕ)) A → List Word → Type 0
+AppendsNames old new words = texts_in new.items ≡ texts_in old.items ++ map (λ w. w.name) (map placed words)
+
+-- these are the names that the productions have their precedence from
+abbrev pub ArePrecWords : {A : Type 0} → List Prec → Vec Word A → Type 0
+ArePrecWords precs words = map placed words.items ≡ map (λ x. x.name) (map prec_of precs)
+
+-- the map has these names
+abbrev pub HasNames : List (Bor (List ℕ)) → BTreeMap (Bor (List ℕ)) (Unit {0}) → Type 0
+HasNames names known = AreNames known (texts_in names)
+
+-- if the map has some names, this is the first word whose name isn't among them, if there is one
+abbrev pub FindsUnknownName : BTreeMap (Bor (List ℕ)) (Unit {0}) → List Word → Option Extent → Type 0
+FindsUnknownName known words found = (names : List (List ℕ)) → AreNames known names → found ≡ unknown_among names (map placed words)

@@ -1,7 +1,7 @@
 //! Sets of tokens.
-ghost use Rattle.std.specs.Prelude.{◌≡◌, ◌<◌, ◌≤◌, ◌↔◌, ◌||◌, ◌&&◌, ◌==◌, ℕ, IfOk, IsTrue, false, length, nat_lt};
+ghost use Rattle.std.specs.Prelude.{◌≡◌, ◌<◌, ◌≤◌, ◌↔◌, ℕ, IfOk, IsTrue, length};
 ghost use Rattle.std.specs.Bool.{OnFalse, OnTrue};
-ghost use Rattle.lrpar_grammar.specs.Tokens.{has, missing};
+ghost use Rattle.lrpar_grammar.specs.Tokens.{CoversAll, IsEmptySet, PutsToken, UnitesBelow, has, missing};
 
 use std::alloc::{AllocError, Global};
 
@@ -15,7 +15,7 @@ impl TokenSet {
     /// The empty set, with room for the tokens below `len`.
     pub fn new(alloc: Global, len: usize) -> Result<Self, AllocError>
         ensures room { IfOk result (λ set. length set.bits.items ≡ len) }
-        ensures none { IfOk result (λ set. (t : ℕ) → has set.bits.items t ≡ false) }
+        ensures none { IfOk result (λ set. IsEmptySet set.bits.items) }
     {
         let bits = vec![in alloc; false; len]?;
         Ok(TokenSet { bits })
@@ -50,7 +50,7 @@ impl TokenSet {
     pub fn insert(&mut self, token: usize)
         requires { token < length self.old.bits.items }
         ensures room { length self.new.bits.items ≡ length self.old.bits.items }
-        ensures tokens { (t : ℕ) → has self.new.bits.items t ≡ (has self.old.bits.items t || t == token) }
+        ensures tokens { PutsToken self.old.bits.items self.new.bits.items token }
     {
         self.bits[token] = true;
     }
@@ -60,7 +60,7 @@ impl TokenSet {
         requires room { end ≤ length self.old.bits.items }
         requires other { end ≤ length other.now.bits.items }
         ensures room { length self.new.bits.items ≡ length self.old.bits.items }
-        ensures tokens { (t : ℕ) → has self.new.bits.items t ≡ (has self.old.bits.items t || (nat_lt t end && has other.now.bits.items t)) }
+        ensures tokens { UnitesBelow self.old.bits.items self.new.bits.items other.now.bits.items end }
         ensures grown { OnTrue result (missing self.new.bits.items < missing self.old.bits.items) }
         ensures same { OnFalse result (self.new.bits.items ≡ self.old.bits.items) }
     {
@@ -80,7 +80,7 @@ impl TokenSet {
     /// Whether all tokens of the other set are in this one.
     pub fn covers(&self, other: &TokenSet) -> bool
         requires { length other.now.bits.items ≤ length self.now.bits.items }
-        ensures { IsTrue result ↔ ((t : ℕ) → IsTrue (has other.now.bits.items t) → IsTrue (has self.now.bits.items t)) }
+        ensures { IsTrue result ↔ CoversAll self.now.bits.items other.now.bits.items }
     {
         let bits = self.bits.as_slice();
         let others = other.bits.as_slice();
@@ -95,7 +95,7 @@ impl TokenSet {
     /// Removes all tokens from the set.
     pub fn clear(&mut self)
         ensures room { length self.new.bits.items ≡ length self.old.bits.items }
-        ensures none { (t : ℕ) → has self.new.bits.items t ≡ false }
+        ensures none { IsEmptySet self.new.bits.items }
     {
         for bit in self.bits.iter_mut() {
             *bit = false;

@@ -1,6 +1,5 @@
 //! A report: what is wrong with a text, and at which places.
-ghost use Rattle.std.specs.Prelude.{◌≡◌, ◌∷◌, ◌++◌, [], IfOk, map};
-ghost use Rattle.std.specs.String.{string_bytes};
+ghost use Rattle.std.specs.Prelude.{◌≡◌, ◌∷◌, ◌++◌, [], IfOk};
 
 use crate::levels::Level;
 use lrpar_grammar_places::span::Span;
@@ -48,12 +47,14 @@ pub struct Report {
 }
 
 impl Report {
+    ghost use Rattle.lrpar_report_lines.specs.Labels.{HasMessage, HasNoLabels, HasNoNotes, label_spans, label_texts, note_texts};
+
     /// The report with this message, without labels and notes. `Err`: out of memory.
     pub fn new(alloc: Global, level: Level, message: &str) -> Result<Self, AllocError>
         ensures level { IfOk result (λ report. report.level ≡ level) }
-        ensures message { IfOk result (λ report. string_bytes report.message ≡ message.now) }
-        ensures labels { IfOk result (λ report. report.labels.items ≡ []) }
-        ensures notes { IfOk result (λ report. report.notes.items ≡ []) }
+        ensures message { IfOk result (HasMessage message.now) }
+        ensures labels { IfOk result HasNoLabels }
+        ensures notes { IfOk result HasNoNotes }
     {
         Ok(Report {
             level,
@@ -66,9 +67,9 @@ impl Report {
     /// The report of an error, without labels and notes. `Err`: out of memory.
     pub fn error(alloc: Global, message: &str) -> Result<Self, AllocError>
         ensures level { IfOk result (λ report. report.level ≡ Level.Error) }
-        ensures message { IfOk result (λ report. string_bytes report.message ≡ message.now) }
-        ensures labels { IfOk result (λ report. report.labels.items ≡ []) }
-        ensures notes { IfOk result (λ report. report.notes.items ≡ []) }
+        ensures message { IfOk result (HasMessage message.now) }
+        ensures labels { IfOk result HasNoLabels }
+        ensures notes { IfOk result HasNoNotes }
     {
         Report::new(alloc, Level::Error, message)
     }
@@ -76,9 +77,9 @@ impl Report {
     /// The report of a warning, without labels and notes. `Err`: out of memory.
     pub fn warning(alloc: Global, message: &str) -> Result<Self, AllocError>
         ensures level { IfOk result (λ report. report.level ≡ Level.Warning) }
-        ensures message { IfOk result (λ report. string_bytes report.message ≡ message.now) }
-        ensures labels { IfOk result (λ report. report.labels.items ≡ []) }
-        ensures notes { IfOk result (λ report. report.notes.items ≡ []) }
+        ensures message { IfOk result (HasMessage message.now) }
+        ensures labels { IfOk result HasNoLabels }
+        ensures notes { IfOk result HasNoNotes }
     {
         Report::new(alloc, Level::Warning, message)
     }
@@ -87,9 +88,8 @@ impl Report {
     pub fn label(mut self, span: Span, text: &str) -> Result<Self, AllocError>
         ensures level { IfOk result (λ report. report.level ≡ self.level) }
         ensures message { IfOk result (λ report. report.message ≡ self.message) }
-        ensures spans { IfOk result (λ report. map (λ label. label.span) report.labels.items ≡ map (λ label. label.span) self.labels.items ++ span ∷ []) }
-        ensures texts { IfOk result (λ report. map (λ label. string_bytes label.text) report.labels.items
-            ≡ map (λ label. string_bytes label.text) self.labels.items ++ text.now ∷ []) }
+        ensures spans { IfOk result (λ report. label_spans report ≡ label_spans self ++ span ∷ []) }
+        ensures texts { IfOk result (λ report. label_texts report ≡ label_texts self ++ text.now ∷ []) }
         ensures notes { IfOk result (λ report. report.notes ≡ self.notes) }
     {
         let text = String::from_str(*self.labels.allocator(), text)?;
@@ -102,7 +102,7 @@ impl Report {
         ensures level { IfOk result (λ report. report.level ≡ self.level) }
         ensures message { IfOk result (λ report. report.message ≡ self.message) }
         ensures labels { IfOk result (λ report. report.labels ≡ self.labels) }
-        ensures notes { IfOk result (λ report. map string_bytes report.notes.items ≡ map string_bytes self.notes.items ++ text.now ∷ []) }
+        ensures notes { IfOk result (λ report. note_texts report ≡ note_texts self ++ text.now ∷ []) }
     {
         let text = String::from_str(*self.notes.allocator(), text)?;
         self.notes.push(text)?;

@@ -1,8 +1,8 @@
 //! Whether places lie in a text.
 ghost use Rattle.std.specs.Prelude.{◌↔◌, All, IsTrue};
 ghost use Rattle.lrpar_grammar_places.specs.Span.{IsPartOf};
-ghost use Rattle.lrpar_grammar_reader.specs.SpansFit.{AreSpansInOrder, IsPartOfLine, ProductionFits};
-ghost use Rattle.lrpar_grammar.specs.Kept.{split_prod_of};
+ghost use Rattle.lrpar_grammar_reader.specs.SpansFit.{AreSpansInOrder, IsPartOfLine};
+ghost use Rattle.lrpar_grammar.specs.Kept.{ProdFits, ProdsFit};
 
 use super::prods::SplitProd;
 use lrpar_grammar_places::span::{Span, StorageIndex};
@@ -34,7 +34,7 @@ pub(super) fn tokens_fit(tokens: &[TokenPart], src: &str) -> bool
 
 // Whether the places of all productions fit the text.
 pub(super) fn prods_fit<StorageT: StorageIndex>(prods: &[SplitProd<StorageT>], src: &str) -> bool
-    ensures { IsTrue result ↔ All (λ prod. ProductionFits src.now (split_prod_of StorageT.index prod)) prods.now }
+    ensures { IsTrue result ↔ ProdsFit StorageT.index src.now prods.now }
 {
     for prod in prods {
         if !prod_fits(prod, src) {
@@ -46,7 +46,7 @@ pub(super) fn prods_fit<StorageT: StorageIndex>(prods: &[SplitProd<StorageT>], s
 
 // Whether the places of a production fit the text.
 fn prod_fits<StorageT: StorageIndex>(prod: &SplitProd<StorageT>, src: &str) -> bool
-    ensures { IsTrue result ↔ ProductionFits src.now (split_prod_of StorageT.index prod.now) }
+    ensures { IsTrue result ↔ ProdFits StorageT.index src.now prod.now }
 {
     is_part(prod.span, src)
         && (!prod.symbols.is_empty() || is_part_of_line(prod.span, src))

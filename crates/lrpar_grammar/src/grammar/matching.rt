@@ -1,6 +1,7 @@
 //! Productions and the texts of a list, each text at its production.
-ghost use Rattle.std.specs.Prelude.{◌≡◌, ◌<◌, [], ◌∷◌, ◌++◌, None, Some, ℕ, IfErr, IfNone, IfOk, IfSome, OnOk, length, map, slice_index_or};
-ghost use Rattle.lrpar_grammar.specs.Chains.{AreFirstFrom, AreNextFrom};
+ghost use Rattle.std.specs.Prelude.{◌≡◌, [], ◌∷◌, ◌++◌, IfErr, IfNone, IfOk, IfSome, OnOk, length};
+ghost use Rattle.lrpar_grammar.specs.Chains.{AreFirstFrom, AreNextFrom, AreOwnNumbers};
+ghost use Rattle.lrpar_grammar.specs.Stored.{rows_in};
 ghost use Rattle.lrpar_grammar.specs.declared.grammar.matching.Misfit.TheVariants.{Memory};
 
 use std::alloc::{AllocError, AllocFailed, Global};
@@ -60,12 +61,12 @@ impl<T: Drop> From<AllocFailed<T>> for Misfit {
 }
 
 impl<'a> Matching<'a> {
-    ghost use Rattle.lrpar_grammar.specs.Matching.{HavePlaces, IsFirstWithout, IsMatched, IsMisfit, prods_of, texts_of};
+    ghost use Rattle.lrpar_grammar.specs.Matching.{HasAllPlaces, IsFirstWithout, IsMatched, IsMisfit, prods_of, texts_of};
 
     // The productions, and no texts. Takes logarithmic time for each production.
     pub(super) fn new(alloc: Global, prods: &'a [Vec<usize>]) -> Result<Self, AllocError>
         ensures matched { IfOk result IsMatched }
-        ensures prods { IfOk result (λ matching. prods_of matching ≡ map (λ x. x.items) prods.now) }
+        ensures prods { IfOk result (λ matching. prods_of matching ≡ rows_in prods.now) }
         ensures texts { IfOk result (λ matching. texts_of matching ≡ []) }
     {
         let (first, next) = chains(alloc, prods)?;
@@ -105,7 +106,7 @@ impl<'a> Matching<'a> {
 
     // The first production without a text.
     pub(super) fn first_without_text(&self) -> Option<usize>
-        ensures all { IfNone result (HavePlaces (self.now).places.items (length (self.now).places.items)) }
+        ensures all { IfNone result (HasAllPlaces self.now) }
         ensures first { IfSome result (IsFirstWithout (self.now).places.items) }
     {
         for (prod, place) in self.places.iter().enumerate() {
@@ -141,9 +142,9 @@ fn chains<'a>(
     alloc: Global,
     prods: &'a [Vec<usize>],
 ) -> Result<(BTreeMap<&'a [usize], usize>, Vec<Option<usize>>), AllocError>
-    ensures first { IfOk result (λ pair. AreFirstFrom (map (λ x. x.items) prods.now) 0 pair.0) }
+    ensures first { IfOk result (λ pair. AreFirstFrom (rows_in prods.now) 0 pair.0) }
     ensures len { IfOk result (λ pair. length pair.1.items ≡ length prods.now) }
-    ensures next { IfOk result (λ pair. AreNextFrom (map (λ x. x.items) prods.now) 0 pair.1.items) }
+    ensures next { IfOk result (λ pair. AreNextFrom (rows_in prods.now) 0 pair.1.items) }
 {
     let mut first = BTreeMap::new(alloc);
     let mut next = vec![in alloc; None; prods.len()]?;
@@ -156,7 +157,7 @@ fn chains<'a>(
 // The numbers below `len`, each at its place.
 fn own_numbers(alloc: Global, len: usize) -> Result<Vec<Option<usize>>, AllocError>
     ensures len { IfOk result (λ free. length free.items ≡ len) }
-    ensures own { IfOk result (λ free. (p : ℕ) → p < len → slice_index_or free.items p None ≡ Some p) }
+    ensures own { IfOk result (AreOwnNumbers len) }
 {
     let mut numbers = Vec::with_capacity(alloc, len)?;
     for number in 0..len {

@@ -1,14 +1,15 @@
 //! The texts of productions.
-ghost use Rattle.std.specs.Prelude.{◌≡◌, ◌<◌, ◌++◌, IfOk, OnOk, string_bytes};
+ghost use Rattle.std.specs.Prelude.{◌≡◌, ◌<◌, IfOk, OnOk, string_bytes};
 ghost use Rattle.lrpar_grammar_reader.specs.Symbols.{symbol_of};
 ghost use Rattle.lrpar_grammar.specs.ProdText.{prod_text, quote_for, quoted_name, symbol_text};
+ghost use Rattle.lrpar_grammar.specs.Stored.{Appends, IsListedIn};
 
 use super::value::YaccGrammar;
 use lrpar_grammar_places::span::{PIdx, StorageIndex, Symbol};
 use std::alloc::{AllocError, Global};
 
 impl<StorageT: StorageIndex> YaccGrammar<StorageT> {
-    ghost use Rattle.lrpar_grammar_reader.specs.Grammar.{IsListedSymbol, end_token, prods_len, rules_len};
+    ghost use Rattle.lrpar_grammar_reader.specs.Grammar.{prods_len};
 
     /// The text of a production, as `Expr: Expr 'OR' And`: its rule, a colon, and its symbols. A token is in single quotes or, if its
     /// name has one, in double quotes. `prods_spelled` takes such texts. Takes time and memory linear in the text.
@@ -27,8 +28,8 @@ impl<StorageT: StorageIndex> YaccGrammar<StorageT> {
 
     // Appends a rule's name, or a token's name in quotes.
     fn push_symbol(&self, text: &mut String, symbol: Symbol<StorageT>) -> Result<(), AllocError>
-        requires { IsListedSymbol (rules_len self.now) (end_token self.now) (symbol_of StorageT.index symbol) }
-        ensures { OnOk result (string_bytes text.new ≡ string_bytes text.old ++ symbol_text self.now (symbol_of StorageT.index symbol)) }
+        requires { IsListedIn StorageT.index self.now symbol }
+        ensures { OnOk result (Appends text.old text.new (symbol_text self.now (symbol_of StorageT.index symbol))) }
     {
         match symbol {
             Symbol::Rule(ridx) => text.push_str(self.rule_name_str(ridx)),
@@ -42,7 +43,7 @@ impl<StorageT: StorageIndex> YaccGrammar<StorageT> {
 
 // Appends the name in quotes.
 fn push_quoted(text: &mut String, name: &str) -> Result<(), AllocError>
-    ensures { OnOk result (string_bytes text.new ≡ string_bytes text.old ++ quoted_name name.now) }
+    ensures { OnOk result (Appends text.old text.new (quoted_name name.now)) }
 {
     let quote = quote_for(name);
     text.push(quote)?;

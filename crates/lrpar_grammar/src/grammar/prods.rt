@@ -1,8 +1,6 @@
 //! The productions as a grammar keeps them.
-ghost use Rattle.std.specs.Prelude.{◌≡◌, ◌<◌, ◌≤◌, [], ◌∷◌, ◌++◌, All, IfOk, length, map};
-ghost use Rattle.lrpar_grammar_reader.specs.Grammar.{added_prod};
-ghost use Rattle.lrpar_grammar_reader.specs.Parts.{prod_of};
-ghost use Rattle.lrpar_grammar.specs.Kept.{AreRowsOf, split_prod_of};
+ghost use Rattle.std.specs.Prelude.{◌<◌, ◌≤◌, IfOk, length};
+ghost use Rattle.lrpar_grammar.specs.Kept.{AreSplit, HasEmptyRows, HasRowsOf, HaveRulesBelow, IsAddedProd, IsSplit};
 
 use lrpar_grammar_places::span::{PIdx, RIdx, Span, StorageIndex, Symbol};
 use lrpar_grammar_reader::parts::ProdPart;
@@ -24,8 +22,7 @@ pub(super) fn split_prods<StorageT: StorageIndex>(
     start: RIdx<StorageT>,
 ) -> Result<Vec<SplitProd<StorageT>>, AllocError>
     requires { 0 < StorageT.limit }
-    ensures { IfOk result (λ prods. map (split_prod_of StorageT.index) prods.items
-        ≡ map (prod_of StorageT.index) parts.now ++ added_prod (StorageT.index start.0) ∷ []) }
+    ensures { IfOk result (AreSplit StorageT.index parts.now start) }
 {
     let mut prods = Vec::new(alloc);
     for part in parts {
@@ -40,7 +37,7 @@ fn split_prod<StorageT: StorageIndex>(
     alloc: Global,
     part: &ProdPart<StorageT>,
 ) -> Result<SplitProd<StorageT>, AllocError>
-    ensures { IfOk result (λ prod. split_prod_of StorageT.index prod ≡ prod_of StorageT.index part.now) }
+    ensures { IfOk result (IsSplit StorageT.index part.now) }
 {
     let mut symbols = Vec::with_capacity(alloc, part.symbols.len())?;
     let mut symbol_spans = Vec::with_capacity(alloc, part.symbols.len())?;
@@ -62,7 +59,7 @@ fn added<StorageT: StorageIndex>(
     start: RIdx<StorageT>,
 ) -> Result<SplitProd<StorageT>, AllocError>
     requires { 0 < StorageT.limit }
-    ensures { IfOk result (λ prod. split_prod_of StorageT.index prod ≡ added_prod (StorageT.index start.0)) }
+    ensures { IfOk result (IsAddedProd StorageT.index start) }
 {
     let nowhere = Span::new(0, 0);
     let mut symbols = Vec::with_capacity(alloc, 1)?;
@@ -84,8 +81,8 @@ pub(super) fn prods_by_rule<StorageT: StorageIndex>(
     prods: &[SplitProd<StorageT>],
 ) -> Result<Vec<Vec<PIdx<StorageT>>>, AllocError>
     requires numbered { length prods.now ≤ StorageT.limit }
-    requires within { All (λ p. p.rule < rules) (map (split_prod_of StorageT.index) prods.now) }
-    ensures { IfOk result (λ rows. AreRowsOf StorageT.index rules (map (split_prod_of StorageT.index) prods.now) rows.items) }
+    requires within { HaveRulesBelow StorageT.index rules prods.now }
+    ensures { IfOk result (HasRowsOf StorageT.index rules prods.now) }
 {
     let mut rows = empty_rows(alloc, rules)?;
     for (number, prod) in prods.iter().enumerate() {
@@ -100,7 +97,7 @@ fn empty_rows<StorageT: StorageIndex>(
     alloc: Global,
     rules: usize,
 ) -> Result<Vec<Vec<PIdx<StorageT>>>, AllocError>
-    ensures { IfOk result (λ rows. AreRowsOf StorageT.index rules [] rows.items) }
+    ensures { IfOk result (HasEmptyRows StorageT.index rules) }
 {
     let mut rows = Vec::with_capacity(alloc, rules)?;
     for _ in 0..rules {

@@ -1,10 +1,10 @@
 //! The productions of a grammar, as a caller lists them by their texts.
-ghost use Rattle.std.specs.Prelude.{◌≡◌, ◌≢◌, ◌<◌, ◌≤◌, [], ℕ, List, None, Option, IfErr, IfOk, OnOk, map, slice_index_or};
-ghost use Rattle.lrpar_grammar.specs.declared.grammar.spelled_fault.SpelledFault.TheVariants.{Memory};
+ghost use Rattle.std.specs.Prelude.{◌≡◌, ◌<◌, ◌≤◌, [], None, IfErr, IfOk, OnOk, slice_index_or};
 ghost use Rattle.lrpar_grammar_reader.specs.Symbols.{symbol_of};
 ghost use Rattle.lrpar_grammar.specs.Matching.{IsMatched, prods_of, texts_of};
-ghost use Rattle.lrpar_grammar.specs.Spelled.{IsListing, SpellEach, listed_prods, numbers_of, symbol_number};
-ghost use Rattle.lrpar_grammar.specs.SpelledFaults.{IsMissingOf, IsSpelledFault, IsTextFault};
+ghost use Rattle.lrpar_grammar.specs.Spelled.{AreListedProds, AreProdNumbers, IsListing, SpellEach, symbol_number};
+ghost use Rattle.lrpar_grammar.specs.SpelledFaults.{AreUnlisted, IsMissingOf, IsSpelledFault, IsTextFault};
+ghost use Rattle.lrpar_grammar.specs.Stored.{texts_in};
 
 use super::matching::{Matching, Misfit};
 use super::spelled_fault::SpelledFault;
@@ -78,11 +78,11 @@ impl<StorageT: StorageIndex> YaccGrammar<StorageT> {
         alloc: Global,
         texts: &[&str],
     ) -> Result<Spelled<StorageT>, SpelledFault>
-        ensures listed { IfOk result (IsListing self.now (map (λ text. text.now) texts.now)) }
+        ensures listed { IfOk result (IsListing self.now (texts_in texts.now)) }
 
         // An error is the first fault of the list or, wherever an allocation failed, `Memory`. A list with a fault is none.
-        ensures faulty { IfErr result (IsSpelledFault self.now (map (λ text. text.now) texts.now)) }
-        ensures unlisted { IfErr result (λ fault. fault ≢ Memory → (places : List (Option ℕ)) → IsListing self.now (map (λ text. text.now) texts.now) places → ⊥) }
+        ensures faulty { IfErr result (IsSpelledFault self.now (texts_in texts.now)) }
+        ensures unlisted { IfErr result (AreUnlisted self.now (texts_in texts.now)) }
     {
         let prods = self.listed_prods(alloc)?;
         let places = self.text_places(alloc, &prods, texts)?;
@@ -99,10 +99,10 @@ impl<StorageT: StorageIndex> YaccGrammar<StorageT> {
         prods: &[Vec<usize>],
         texts: &[&str],
     ) -> Result<Vec<Option<usize>>, SpelledFault>
-        requires prods { map (λ numbers. numbers.items) prods.now ≡ listed_prods self.now }
+        requires prods { AreListedProds self.now prods.now }
         requires fits { start_prod self.now < StorageT.limit }
-        ensures listed { IfOk result (λ places. IsListing self.now (map (λ text. text.now) texts.now) places.items) }
-        ensures faulty { IfErr result (IsSpelledFault self.now (map (λ text. text.now) texts.now)) }
+        ensures listed { IfOk result (λ places. IsListing self.now (texts_in texts.now) places.items) }
+        ensures faulty { IfErr result (IsSpelledFault self.now (texts_in texts.now)) }
     {
         let names = SymbolNames::new(alloc, self)?;
         let mut matching = Matching::new(alloc, prods)?;
@@ -128,7 +128,7 @@ impl<StorageT: StorageIndex> YaccGrammar<StorageT> {
 
     // The productions other than the start production, as numbers of symbols.
     fn listed_prods(&self, alloc: Global) -> Result<Vec<Vec<usize>>, AllocError>
-        ensures prods { IfOk result (λ prods. map (λ numbers. numbers.items) prods.items ≡ listed_prods self.now) }
+        ensures prods { IfOk result (λ prods. AreListedProds self.now prods.items) }
         ensures fits { start_prod self.now < StorageT.limit }
     {
         let end = self.start_prod().0.to_index();
@@ -143,7 +143,7 @@ impl<StorageT: StorageIndex> YaccGrammar<StorageT> {
     // A production as numbers of symbols: its rule, and then its right side.
     fn numbers(&self, alloc: Global, pidx: PIdx<StorageT>) -> Result<Vec<usize>, AllocError>
         requires { StorageT.index pidx.0 < prods_len self.now }
-        ensures { IfOk result (λ numbers. numbers.items ≡ numbers_of self.now (StorageT.index pidx.0)) }
+        ensures { IfOk result (AreProdNumbers StorageT.index self.now pidx) }
     {
         let rules = self.rules_len();
         let mut numbers = Vec::new(alloc);
@@ -177,8 +177,8 @@ fn take_texts(
     requires none { texts_of matching.old ≡ [] }
     ensures matched { OnOk result (IsMatched matching.new) }
     ensures prods { OnOk result (prods_of matching.new ≡ prods_of matching.old) }
-    ensures spell { OnOk result (SpellEach names.now (map (λ text. text.now) texts.now) (texts_of matching.new)) }
-    ensures fault { IfErr result (IsTextFault names.now (prods_of matching.old) (map (λ text. text.now) texts.now)) }
+    ensures spell { OnOk result (SpellEach names.now (texts_in texts.now) (texts_of matching.new)) }
+    ensures fault { IfErr result (IsTextFault names.now (prods_of matching.old) (texts_in texts.now)) }
 {
     for (place, text) in texts.iter().enumerate() {
         let Some(numbers) = names.numbers_of(alloc, text)? else {

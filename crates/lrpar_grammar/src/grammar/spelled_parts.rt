@@ -1,9 +1,7 @@
 //! The productions of a grammar, as a caller lists them by their texts in several parts.
-ghost use Rattle.std.specs.Prelude.{◌≡◌, ◌≢◌, ◌++◌, ℕ, List, None, Option, IfErr, IfOk, OnOk, length, map, slice_index_or};
-ghost use Rattle.std.specs.List.{range_with_len};
-ghost use Rattle.lrpar_grammar.specs.declared.grammar.spelled_fault.SpelledFault.TheVariants.{Memory};
-ghost use Rattle.lrpar_grammar.specs.SpelledFaults.{IsSpelledFault};
-ghost use Rattle.lrpar_grammar.specs.SpelledParts.{ArePlaces, IsListingInParts, joined};
+ghost use Rattle.std.specs.Prelude.{◌≡◌, None, IfErr, IfOk, OnOk, slice_index_or};
+ghost use Rattle.lrpar_grammar.specs.SpelledFaults.{AreUnlistedInParts, IsSpelledFault};
+ghost use Rattle.lrpar_grammar.specs.SpelledParts.{AppendsPlaces, ArePlaces, IsListingInParts, joined, parts_in};
 
 use super::spelled::Spelled;
 use super::spelled_fault::SpelledFault;
@@ -73,12 +71,11 @@ impl<StorageT: StorageIndex> YaccGrammar<StorageT> {
         alloc: Global,
         parts: &[&[&str]],
     ) -> Result<SpelledParts<StorageT>, SpelledFault>
-        ensures listed { IfOk result (IsListingInParts self.now (map (λ texts. map (λ text. text.now) texts.now) parts.now)) }
+        ensures listed { IfOk result (IsListingInParts self.now (parts_in parts.now)) }
 
         // An error is the first fault of the whole list or, wherever an allocation failed, `Memory`. A list with a fault is none.
-        ensures faulty { IfErr result (IsSpelledFault self.now (joined (map (λ texts. map (λ text. text.now) texts.now) parts.now))) }
-        ensures unlisted { IfErr result (λ fault. fault ≢ Memory → (places : List (Option (ℕ × ℕ)))
-            → IsListingInParts self.now (map (λ texts. map (λ text. text.now) texts.now) parts.now) places → ⊥) }
+        ensures faulty { IfErr result (IsSpelledFault self.now (joined (parts_in parts.now))) }
+        ensures unlisted { IfErr result (AreUnlistedInParts self.now (parts_in parts.now)) }
     {
         let places = places_of(alloc, parts)?;
         let texts = parts.concat(alloc)?;
@@ -89,7 +86,7 @@ impl<StorageT: StorageIndex> YaccGrammar<StorageT> {
 
 // For each text of the parts the number of its part, and its place in this part.
 fn places_of(alloc: Global, parts: &[&[&str]]) -> Result<Vec<(usize, usize)>, AllocError>
-    ensures { IfOk result (λ places. ArePlaces (map (λ texts. map (λ text. text.now) texts.now) parts.now) places.items) }
+    ensures { IfOk result (λ places. ArePlaces (parts_in parts.now) places.items) }
 {
     let mut places = Vec::new(alloc);
     for (part, texts) in parts.iter().enumerate() {
@@ -104,7 +101,7 @@ fn push_places(
     part: usize,
     len: usize,
 ) -> Result<(), AllocFailed<(usize, usize)>>
-    ensures { OnOk result (places.new.items ≡ places.old.items ++ map (λ place. (part, place)) (range_with_len 0 len)) }
+    ensures { OnOk result (AppendsPlaces places.old places.new part len) }
 {
     for place in 0..len {
         places.push((part, place))?;

@@ -1,8 +1,8 @@
 //! The numbers of symbols by their names, and of the productions that texts spell.
-ghost use Rattle.std.specs.Prelude.{◌≡◌, ◌≤◌, ◌∷◌, IfOk, drop, length, map, option_map};
-ghost use Rattle.lrpar_grammar_words.specs.Words.{placed};
+ghost use Rattle.std.specs.Prelude.{◌≡◌, ◌≤◌, IfOk, length};
 ghost use Rattle.lrpar_grammar.specs.Spelled.{is_colon, is_name, named_symbols};
-ghost use Rattle.lrpar_grammar.specs.SymbolNames.{AreFirst, AreNumbersOf};
+ghost use Rattle.lrpar_grammar.specs.Stored.{row_in};
+ghost use Rattle.lrpar_grammar.specs.SymbolNames.{AreNamedBy, AreNumbersOf, AreRuleNames, AreSpelledBy, AreSymbolNames, HasFirstFrom, number_of_word};
 
 use super::value::YaccGrammar;
 use lrpar_grammar_places::span::{RIdx, StorageIndex};
@@ -51,8 +51,6 @@ impl<'a> Model for SymbolNames<'a> {
 }
 
 impl<'a> SymbolNames<'a> {
-    ghost use Rattle.lrpar_grammar.specs.Spelled.{number_named, numbers_named, numbers_spelled};
-
     // The names of a grammar's rules and tokens. Takes logarithmic time for each.
     pub(super) fn new<StorageT: StorageIndex>(
         alloc: Global,
@@ -78,7 +76,7 @@ impl<'a> SymbolNames<'a> {
         alloc: Global,
         text: &str,
     ) -> Result<Option<Vec<usize>>, AllocError>
-        ensures { IfOk result (λ found. AreNumbersOf self.now text.now (option_map (λ numbers. numbers.items) found)) }
+        ensures { IfOk result (λ found. AreNumbersOf self.now text.now (row_in found)) }
     {
         match read_words(alloc, text)? {
             Some(words) => self.numbers_spelled(alloc, &words),
@@ -92,7 +90,7 @@ impl<'a> SymbolNames<'a> {
         alloc: Global,
         words: &[Word],
     ) -> Result<Option<Vec<usize>>, AllocError>
-        ensures { IfOk result (λ found. option_map (λ numbers. numbers.items) found ≡ numbers_spelled self.now (map placed words.now)) }
+        ensures { IfOk result (AreSpelledBy self.now words.now) }
     {
         match words {
             [rule, colon, symbols @ ..] if is_name(rule.kind) && is_colon(colon.kind) => {
@@ -109,7 +107,7 @@ impl<'a> SymbolNames<'a> {
         rule: &Word,
         symbols: &[Word],
     ) -> Result<Option<Vec<usize>>, AllocError>
-        ensures { IfOk result (λ found. option_map (λ numbers. numbers.items) found ≡ numbers_named self.now (placed rule.now ∷ map placed symbols.now)) }
+        ensures { IfOk result (AreNamedBy self.now rule.now symbols.now) }
     {
         let Some(number) = self.number_named(rule) else {
             return Ok(None);
@@ -127,7 +125,7 @@ impl<'a> SymbolNames<'a> {
 
     // The number of the symbol that the word names.
     fn number_named(&self, word: &Word) -> Option<usize>
-        ensures { result ≡ number_named self.now (placed word.now).kind (placed word.now).name }
+        ensures { result ≡ number_of_word self.now word.now }
     {
         match word.kind {
             WordKind::Name => self.symbols.get(word.name).copied(),
@@ -156,7 +154,7 @@ fn symbol_names<'a, StorageT: StorageIndex>(
     alloc: Global,
     grm: &'a YaccGrammar<StorageT>,
 ) -> Result<Vec<&'a str>, AllocError>
-    ensures { IfOk result (λ names. map (λ x. x.now) names.items ≡ (named_symbols grm.now).names) }
+    ensures { IfOk result (AreSymbolNames grm.now) }
 {
     let mut names = rule_names(alloc, grm)?;
     let tokens = grm.tokens_map(alloc)?;
@@ -171,7 +169,7 @@ fn rule_names<'a, StorageT: StorageIndex>(
     alloc: Global,
     grm: &'a YaccGrammar<StorageT>,
 ) -> Result<Vec<&'a str>, AllocError>
-    ensures { IfOk result (λ names. map (λ x. x.now) names.items ≡ map (λ rule. rule.name) (grm.now).rules) }
+    ensures { IfOk result (AreRuleNames grm.now) }
 {
     let mut names = Vec::with_capacity(alloc, grm.rules_len())?;
     for number in 0..grm.rules_len() {
@@ -188,7 +186,7 @@ fn first_numbers<'a>(
     from: usize,
 ) -> Result<BTreeMap<&'a str, usize>, AllocError>
     requires { from ≤ length names.now }
-    ensures { IfOk result (λ numbers. AreFirst numbers from (drop from (map (λ x. x.now) names.now))) }
+    ensures { IfOk result (HasFirstFrom from names.now) }
 {
     let mut numbers = BTreeMap::new(alloc);
     for number in (from..names.len()).rev() {

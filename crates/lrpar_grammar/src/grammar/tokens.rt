@@ -1,7 +1,6 @@
 //! Tokens by name.
-ghost use Rattle.std.specs.Prelude.{◌≡◌, ◌≤◌, IfOk, length, map, position, string_bytes};
-ghost use Rattle.std.specs.List.{range_with_len};
-ghost use Rattle.std.specs.Str.{bytes_eq};
+ghost use Rattle.std.specs.Prelude.{◌≡◌, ◌≤◌, IfOk, length};
+ghost use Rattle.lrpar_grammar.specs.Stored.{HaveNamesOf, HaveNumbersOf, first_named};
 
 use lrpar_grammar_places::span::{StorageIndex, TIdx};
 use lrpar_grammar_reader::parts::TokenPart;
@@ -9,7 +8,7 @@ use std::alloc::{AllocError, Global};
 
 // The place of the first token with that name.
 pub(super) fn first_named(tokens: &[TokenPart], name: &str) -> Option<usize>
-    ensures { result ≡ position (λ token. bytes_eq (string_bytes token.name) name.now) tokens.now }
+    ensures { result ≡ first_named name.now tokens.now }
 {
     tokens.iter().position(|token| token.name.as_str() == name)
 }
@@ -20,8 +19,8 @@ pub(super) fn numbered_names<StorageT: StorageIndex>(
     tokens: &[TokenPart],
 ) -> Result<Vec<(&str, TIdx<StorageT>)>, AllocError>
     requires { length tokens.now ≤ StorageT.limit }
-    ensures names { IfOk result (λ pairs. map (λ pair. pair.0.now) pairs.items ≡ map (λ token. string_bytes token.name) tokens.now) }
-    ensures numbers { IfOk result (λ pairs. map (λ pair. StorageT.index pair.1.0) pairs.items ≡ range_with_len 0 (length tokens.now)) }
+    ensures names { IfOk result (HaveNamesOf tokens.now) }
+    ensures numbers { IfOk result (HaveNumbersOf StorageT.index tokens.now) }
 {
     let mut pairs = Vec::with_capacity(alloc, tokens.len())?;
     for (number, token) in tokens.iter().enumerate() {

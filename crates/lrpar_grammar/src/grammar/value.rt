@@ -1,9 +1,9 @@
 //! The grammar value.
-ghost use Rattle.std.specs.Prelude.{◌≡◌, ◌<◌, ◌≤◌, ◌+◌, ◌↔◌, if◌then◌else◌, All, codes, IfErr, IfOk, IsErrOf, IsNone, IsTrue, Some, map, option_map, position};
-ghost use Rattle.std.specs.List.{range_with_len, slice_get};
-ghost use Rattle.std.specs.Str.{bytes_eq};
+ghost use Rattle.std.specs.Prelude.{◌≡◌, ◌<◌, ◌≤◌, ◌↔◌, if◌then◌else◌, codes, IfErr, IfOk, IsNone, IsTrue};
+ghost use Rattle.std.specs.List.{range_with_len};
 ghost use Rattle.lrpar_grammar_reader.specs.SpansFit.{NamesFit, SpansFit};
-ghost use Rattle.lrpar_grammar_reader.specs.Symbols.{prod_numbers, symbol_of};
+ghost use Rattle.lrpar_grammar_reader.specs.Symbols.{prod_numbers};
+ghost use Rattle.lrpar_grammar.specs.Stored.{FailsExactly, HasListedRightSide, HaveTokenNames, HaveTokenNumbers, IsEndOf, IsFirstNamed, IsGrammarOf, IsRightSide, IsTokenAt, text_in};
 
 use super::fit::{prods_fit, rules_fit, tokens_fit};
 use super::numbers::Numbers;
@@ -56,10 +56,10 @@ impl<StorageT: StorageIndex> Model for YaccGrammar<StorageT> {
 }
 
 impl<StorageT: StorageIndex> YaccGrammar<StorageT> {
-    ghost use Rattle.lrpar_grammar_reader.specs.Parts.{AreSound, grammar_of, parts_of, token_name_of, IsFirstFault, IsRefusalOf};
-    ghost use Rattle.lrpar_grammar.specs.Kept.{split_prod_of};
+    ghost use Rattle.lrpar_grammar_reader.specs.Parts.{IsRefusalOf, MakeGrammar, parts_of};
+    ghost use Rattle.lrpar_grammar.specs.Kept.{IsKeptProd};
     ghost use Rattle.lrpar_grammar.specs.Printed.{printed_of};
-    ghost use Rattle.lrpar_grammar_reader.specs.Grammar.{IsListedSymbol, IsWellFormed, rules_len, prods_len, tokens_len, end_token, start_prod, rule_of, symbols_of, symbol_spans_of, prod_span_of, prods_of, rule_name, rule_span, token_name, token_epp, token_span};
+    ghost use Rattle.lrpar_grammar_reader.specs.Grammar.{IsWellFormed, rules_len, prods_len, tokens_len, end_token, start_prod, rule_of, symbol_spans_of, prod_span_of, prods_of, rule_name, rule_span, token_name, token_epp, token_span};
 
     /// The grammar of the parts. Its rules are the added rule and the listed ones, in order; its productions are the
     /// listed ones, in order, and the start production; its tokens are the listed ones, in order, and the end token.
@@ -68,17 +68,17 @@ impl<StorageT: StorageIndex> YaccGrammar<StorageT> {
     /// what is added; the start isn't a listed rule; a production's rule or one of its symbols isn't listed; an allocation
     /// fails. Takes time and memory linear in the parts.
     pub fn from_parts(alloc: Global, parts: GrammarParts<StorageT>) -> Result<Self, GrammarFault>
-        ensures made { IfOk result (λ grm. grm ≡ grammar_of (parts_of StorageT.index parts)) }
+        ensures made { IfOk result (IsGrammarOf StorageT.index parts) }
         ensures well_formed { IfOk result IsWellFormed }
 
         // An error is the first fault of the parts or, if they have none, `Memory`.
         ensures refused { IfErr result (IsRefusalOf StorageT.limit (parts_of StorageT.index parts)) }
 
         // Each fault but `Memory` is returned if and only if it is the first that holds.
-        ensures no_rules { IsErrOf result GrammarFault.NoRules ↔ IsFirstFault StorageT.limit (parts_of StorageT.index parts) GrammarFault.NoRules }
-        ensures storage_too_small { IsErrOf result GrammarFault.StorageTooSmall ↔ IsFirstFault StorageT.limit (parts_of StorageT.index parts) GrammarFault.StorageTooSmall }
-        ensures bad_start { IsErrOf result GrammarFault.BadStart ↔ IsFirstFault StorageT.limit (parts_of StorageT.index parts) GrammarFault.BadStart }
-        ensures bad_symbol { IsErrOf result GrammarFault.BadSymbol ↔ IsFirstFault StorageT.limit (parts_of StorageT.index parts) GrammarFault.BadSymbol }
+        ensures no_rules { FailsExactly StorageT.index StorageT.limit parts result GrammarFault.NoRules }
+        ensures storage_too_small { FailsExactly StorageT.index StorageT.limit parts result GrammarFault.StorageTooSmall }
+        ensures bad_start { FailsExactly StorageT.index StorageT.limit parts result GrammarFault.BadStart }
+        ensures bad_symbol { FailsExactly StorageT.index StorageT.limit parts result GrammarFault.BadSymbol }
     {
         match parts.fault() {
             Some(fault) => Err(fault),
@@ -88,8 +88,8 @@ impl<StorageT: StorageIndex> YaccGrammar<StorageT> {
 
     // The grammar of sound parts.
     pub(super) fn made(alloc: Global, parts: GrammarParts<StorageT>) -> Result<Self, AllocError>
-        requires { AreSound StorageT.limit (parts_of StorageT.index parts) }
-        ensures made { IfOk result (λ grm. grm ≡ grammar_of (parts_of StorageT.index parts)) }
+        requires { MakeGrammar StorageT.index StorageT.limit parts }
+        ensures made { IfOk result (IsGrammarOf StorageT.index parts) }
         ensures well_formed { IfOk result IsWellFormed }
     {
         let prods = split_prods(alloc, &parts.prods, parts.start)?;
@@ -157,7 +157,7 @@ impl<StorageT: StorageIndex> YaccGrammar<StorageT> {
     /// The right side of a production.
     pub fn prod(&self, pidx: PIdx<StorageT>) -> &[Symbol<StorageT>]
         requires { StorageT.index pidx.0 < prods_len self.now }
-        ensures { map (symbol_of StorageT.index) result.now ≡ symbols_of self.now (StorageT.index pidx.0) }
+        ensures { IsRightSide StorageT.index self.now pidx result.now }
     {
         &self.kept(pidx).symbols
     }
@@ -165,8 +165,8 @@ impl<StorageT: StorageIndex> YaccGrammar<StorageT> {
     // The right side of a production, whose symbols are rules and tokens of the grammar.
     pub(super) fn listed_symbols(&self, pidx: PIdx<StorageT>) -> &[Symbol<StorageT>]
         requires { StorageT.index pidx.0 < prods_len self.now }
-        ensures symbols { map (symbol_of StorageT.index) result.now ≡ symbols_of self.now (StorageT.index pidx.0) }
-        ensures listed { All (IsListedSymbol (rules_len self.now) (end_token self.now)) (symbols_of self.now (StorageT.index pidx.0)) }
+        ensures symbols { IsRightSide StorageT.index self.now pidx result.now }
+        ensures listed { HasListedRightSide StorageT.index self.now pidx }
     {
         &self.prods[usize::from(pidx)].symbols
     }
@@ -199,7 +199,7 @@ impl<StorageT: StorageIndex> YaccGrammar<StorageT> {
     // A production as it is kept.
     fn kept(&self, pidx: PIdx<StorageT>) -> &SplitProd<StorageT>
         requires { StorageT.index pidx.0 < prods_len self.now }
-        ensures prod { slice_get (self.now).prods (StorageT.index pidx.0) ≡ Some (split_prod_of StorageT.index result.now) }
+        ensures prod { IsKeptProd StorageT.index self.now pidx result.now }
         ensures within { StorageT.index result.now.rule.0 < rules_len self.now }
     {
         &self.prods[usize::from(pidx)]
@@ -238,8 +238,8 @@ impl<StorageT: StorageIndex> YaccGrammar<StorageT> {
     /// A token's name. `None` for the end token alone.
     pub fn token_name(&self, tidx: TIdx<StorageT>) -> Option<&str>
         requires { StorageT.index tidx.0 < tokens_len self.now }
-        ensures name { option_map (λ text. text.now) result ≡ token_name self.now (StorageT.index tidx.0) }
-        ensures end { IsNone result ↔ (StorageT.index tidx.0 ≡ end_token self.now) }
+        ensures name { text_in result ≡ token_name self.now (StorageT.index tidx.0) }
+        ensures end { IsNone result ↔ IsEndOf StorageT.index self.now tidx }
     {
         let token = self.token(tidx)?;
         Some(token.name.as_str())
@@ -248,8 +248,8 @@ impl<StorageT: StorageIndex> YaccGrammar<StorageT> {
     /// The text that messages print for a token. `None` for the end token alone.
     pub fn token_epp(&self, tidx: TIdx<StorageT>) -> Option<&str>
         requires { StorageT.index tidx.0 < tokens_len self.now }
-        ensures epp { option_map (λ text. text.now) result ≡ token_epp self.now (StorageT.index tidx.0) }
-        ensures end { IsNone result ↔ (StorageT.index tidx.0 ≡ end_token self.now) }
+        ensures epp { text_in result ≡ token_epp self.now (StorageT.index tidx.0) }
+        ensures end { IsNone result ↔ IsEndOf StorageT.index self.now tidx }
     {
         let token = self.token(tidx)?;
         Some(token.printed())
@@ -271,7 +271,7 @@ impl<StorageT: StorageIndex> YaccGrammar<StorageT> {
     pub fn token_span(&self, tidx: TIdx<StorageT>) -> Option<Span>
         requires { StorageT.index tidx.0 < tokens_len self.now }
         ensures span { result ≡ token_span self.now (StorageT.index tidx.0) }
-        ensures end { IsNone result ↔ (StorageT.index tidx.0 ≡ end_token self.now) }
+        ensures end { IsNone result ↔ IsEndOf StorageT.index self.now tidx }
     {
         let token = self.token(tidx)?;
         Some(token.span)
@@ -280,8 +280,8 @@ impl<StorageT: StorageIndex> YaccGrammar<StorageT> {
     // What is kept for a token. `None` for the end token alone.
     fn token(&self, tidx: TIdx<StorageT>) -> Option<&TokenPart>
         requires { StorageT.index tidx.0 < tokens_len self.now }
-        ensures token { option_map (λ token. token_name_of token.now) result ≡ slice_get (self.now).tokens (StorageT.index tidx.0) }
-        ensures end { IsNone result ↔ (StorageT.index tidx.0 ≡ end_token self.now) }
+        ensures token { IsTokenAt StorageT.index self.now tidx result }
+        ensures end { IsNone result ↔ IsEndOf StorageT.index self.now tidx }
     {
         self.tokens.get(usize::from(tidx))
     }
@@ -328,7 +328,7 @@ impl<StorageT: StorageIndex> YaccGrammar<StorageT> {
 
     /// The first token with that name. Takes time linear in the number of tokens.
     pub fn token_idx(&self, name: &str) -> Option<TIdx<StorageT>>
-        ensures { option_map (λ token. StorageT.index token.0) result ≡ position (λ token. bytes_eq token.name name.now) (self.now).tokens }
+        ensures { IsFirstNamed StorageT.index self.now name.now result }
     {
         match first_named(&self.tokens, name) {
             Some(number) => Some(TIdx(StorageT::from_index(number).unwrap())),
@@ -338,8 +338,8 @@ impl<StorageT: StorageIndex> YaccGrammar<StorageT> {
 
     /// The tokens other than the end token, each with its name, ascending. Takes time and memory linear in their number.
     pub fn tokens_map(&self, alloc: Global) -> Result<Vec<(&str, TIdx<StorageT>)>, AllocError>
-        ensures names { IfOk result (λ pairs. map (λ pair. pair.0.now) pairs.items ≡ map (λ token. token.name) (self.now).tokens) }
-        ensures numbers { IfOk result (λ pairs. map (λ pair. StorageT.index pair.1.0) pairs.items ≡ range_with_len 0 (end_token self.now)) }
+        ensures names { IfOk result (HaveTokenNames self.now) }
+        ensures numbers { IfOk result (HaveTokenNumbers StorageT.index self.now) }
     {
         numbered_names(alloc, &self.tokens)
     }

@@ -1,11 +1,10 @@
 //! The grammar of a `.y` file, and what the file declares beside it.
-ghost use Rattle.std.specs.Prelude.{◌≡◌, ◌++◌, List, ℕ, IfErr, IfOk, OnOk, map, string_bytes};
+ghost use Rattle.std.specs.Prelude.{◌≡◌, IfErr, IfOk, OnOk, string_bytes};
 ghost use Rattle.lrpar_grammar_reader.specs.SpansFit.{SpansFit};
-ghost use Rattle.lrpar_grammar_words.specs.Words.{placed};
-ghost use Rattle.lrpar_grammar_yacc.specs.Declares.{declarations, declarations_of, level_of, prec_of};
+ghost use Rattle.lrpar_grammar_yacc.specs.Declares.{declarations, declarations_of};
 ghost use Rattle.lrpar_grammar_yacc.specs.Erasure.{erasure};
 ghost use Rattle.lrpar_grammar.specs.declared.grammar.yacc.YaccFileFault.TheVariants.{Declared, Memory, Text};
-ghost use Rattle.lrpar_grammar.specs.YaccFiles.{AreNames, first_of, level_names, token_names, unknown_among, unknown_token};
+ghost use Rattle.lrpar_grammar.specs.YaccFiles.{AppendsLevels, AppendsNames, ArePrecWords, AreTokenNames, FindsUnknownName, HasNames, IsUnknownToken, first_of};
 
 use super::value::YaccGrammar;
 use lrpar_grammar_places::span::{Span, StorageIndex};
@@ -127,7 +126,7 @@ fn unknown_token<'a, StorageT: StorageIndex>(
     grm: &'a YaccGrammar<StorageT>,
     declarations: &'a Declarations<'a>,
 ) -> Result<Option<Span>, AllocError>
-    ensures { IfOk result (λ found. found ≡ unknown_token grm.now (declarations_of declarations.now)) }
+    ensures { IfOk result (IsUnknownToken grm.now declarations.now) }
 {
     let mut names = token_list(alloc, grm)?;
     let tokens = known(alloc, &names)?;
@@ -144,7 +143,7 @@ fn token_list<'a, StorageT: StorageIndex>(
     alloc: Global,
     grm: &'a YaccGrammar<StorageT>,
 ) -> Result<Vec<&'a str>, AllocError>
-    ensures { IfOk result (λ names. map (λ x. x.now) names.items ≡ token_names grm.now) }
+    ensures { IfOk result (AreTokenNames grm.now) }
 {
     let mut names = Vec::new(alloc);
     let tokens = grm.tokens_map(alloc)?;
@@ -156,7 +155,7 @@ fn token_list<'a, StorageT: StorageIndex>(
 
 // Appends the names of levels.
 fn push_levels<'a>(names: &mut Vec<&'a str>, levels: &[Level<'a>]) -> Result<(), AllocError>
-    ensures { OnOk result (map (λ x. x.now) names.new.items ≡ map (λ x. x.now) names.old.items ++ level_names (map level_of levels.now)) }
+    ensures { OnOk result (AppendsLevels names.old names.new levels.now) }
 {
     for level in levels {
         push_names(names, &level.names)?;
@@ -166,7 +165,7 @@ fn push_levels<'a>(names: &mut Vec<&'a str>, levels: &[Level<'a>]) -> Result<(),
 
 // Appends the names of words.
 fn push_names<'a>(names: &mut Vec<&'a str>, words: &[Word<'a>]) -> Result<(), AllocError>
-    ensures { OnOk result (map (λ x. x.now) names.new.items ≡ map (λ x. x.now) names.old.items ++ map (λ w. w.name) (map placed words.now)) }
+    ensures { OnOk result (AppendsNames names.old names.new words.now) }
 {
     for word in words {
         names.push(word.name)?;
@@ -176,7 +175,7 @@ fn push_names<'a>(names: &mut Vec<&'a str>, words: &[Word<'a>]) -> Result<(), Al
 
 // The names that productions have their precedence from.
 fn prec_words<'a>(alloc: Global, precs: &[Prec<'a>]) -> Result<Vec<Word<'a>>, AllocError>
-    ensures { IfOk result (λ words. map placed words.items ≡ map (λ x. x.name) (map prec_of precs.now)) }
+    ensures { IfOk result (ArePrecWords precs.now) }
 {
     let mut words = Vec::new(alloc);
     for prec in precs {
@@ -187,7 +186,7 @@ fn prec_words<'a>(alloc: Global, precs: &[Prec<'a>]) -> Result<Vec<Word<'a>>, Al
 
 // A map with these names.
 fn known<'a>(alloc: Global, names: &[&'a str]) -> Result<BTreeMap<&'a str, ()>, AllocError>
-    ensures { IfOk result (λ known. AreNames known (map (λ x. x.now) names.now)) }
+    ensures { IfOk result (HasNames names.now) }
 {
     let mut known = BTreeMap::new(alloc);
     for name in names {
@@ -198,7 +197,7 @@ fn known<'a>(alloc: Global, names: &[&'a str]) -> Result<BTreeMap<&'a str, ()>, 
 
 // The first word whose name isn't known.
 fn unknown_word(words: &[Word], known: &BTreeMap<&str, ()>) -> Option<Span>
-    ensures { (names : List (List ℕ)) → AreNames known.now names → result ≡ unknown_among names (map placed words.now) }
+    ensures { FindsUnknownName known.now words.now result }
 {
     for word in words {
         if !known.contains_key(word.name) {
