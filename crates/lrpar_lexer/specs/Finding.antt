@@ -1,5 +1,5 @@
--- What searches find in a text. Each definition holds for all patterns of which the programs find at the start of a text what the patterns
--- find there.
+-- What searches find in a text. A definition is about all patterns for which the programs search: at the start of each text a program finds
+-- what its pattern finds there.
 use Rattle.std.specs.Prelude.{◌≡◌, ℕ, ◌<◌, Bool, List, length, Option, Some, MatchBool, drop, option_map, slice_get}
 use Rattle.std.specs.List.{All, AllZip}
 use Rattle.std.specs.Borrow.{Bor}

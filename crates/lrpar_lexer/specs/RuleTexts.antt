@@ -69,15 +69,15 @@ NamesLine IsSuch Memory = ⊤
 abbrev pub IsFaultOf : {S : Type 0} → (S → ℕ) → Grammar → List ℕ → RulesFault → Type 0
 IsFaultOf index grammar text fault = NamesLine (IsFirstFault index grammar (text_lines text)) fault
 
--- the fault is that this line, with its number, gives no rule, with the reason; or it is `Memory`
+-- the fault names line `number`, and a reason why this line gives no rule; or it is `Memory`
 abbrev pub IsFaultOfLine : Grammar → ℕ → List ℕ → RulesFault → Type 0
 IsFaultOfLine grammar number line fault = NamesLine (λ n why. (n ≡ number) × SaysNoRule grammar line why) fault
 
--- the fault is that the pattern of the line with this number is refused, with this error; or it is `Memory`
+-- the fault names line `number`, whose pattern is refused with this error, which isn't `OutOfMemory`; or it is `Memory`
 abbrev pub IsFaultOfPattern : ℕ → Error → RulesFault → Type 0
 IsFaultOfPattern number error fault = NamesLine (λ n why. (n ≡ number) × (why ≡ Pattern error) × (error ≢ OutOfMemory)) fault
 
--- the fault is that the name in the line with this number is of no token of the grammar; or it is `Memory`
+-- the fault names line `number`, whose name is of no token of the grammar; or it is `Memory`
 abbrev pub IsFaultOfName : Grammar → ℕ → List ℕ → RulesFault → Type 0
 IsFaultOfName grammar number name fault =
     NamesLine (λ n why. (n ≡ number) × (why ≡ Unnamed) × (first_named grammar name ≡ None)) fault

@@ -6,6 +6,6 @@ use Rattle.lrpar_grammar_places.specs.Span.{Extent, IsPartOf}
 abbrev pub IsPartAt : List ℕ → Extent → List ℕ → Type 0
 IsPartAt text span part = IsPartOf text span → part ≡ slice_range text span.start span.end
 
--- there are none, if it doesn't
+-- these are no bytes, if the span doesn't start and end so
 abbrev pub IsEmptyOutside : List ℕ → Extent → List ℕ → Type 0
 IsEmptyOutside text span part = ¬ (IsPartOf text span) → part ≡ []

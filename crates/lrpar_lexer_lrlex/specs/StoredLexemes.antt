@@ -23,7 +23,7 @@ module _ {S : Type 0} (index : S → ℕ) (rules : LrlexRules S) where
   AreAllLexemesIn unmatched text answers =
       LexesAllIn (plain_state_rules index rules) (index unmatched.0) text 0 0 [] (plain_answers index answers.items)
 
-  -- what comes at byte `at`, its token, its number of bytes and a target, makes one stack of the other
+  -- what comes at byte `at` has this token, or none, and this number of bytes, and makes the new stack of the old one
   abbrev pub ComesIn : TIdx S → List ℕ → ℕ → Stack → Stack → Option (TIdx S) × ℕ × Option code.Target → Type 0
   ComesIn unmatched text at old new next =
       IsNextIn (plain_state_rules index rules) (index unmatched.0) text at old.top old.below.items (number_of index next.0) next.1 new.top new.below.items
