@@ -18,11 +18,10 @@ facts_of index x = record { token = index x.token; span = x.span; faulty = x.fau
 abbrev pub lexeme_parts : {S : Type 0} → S → ℕ → ℕ → Bool → LexemeParts S
 lexeme_parts token start len faulty = record { token = token; span = record { start = start; end = start + len }; faulty = faulty }
 
--- the parts of such a lexeme that no repair made
+-- the parts of such a lexeme that no repair made, and of one that a repair made
 abbrev pub lexeme_at : {S : Type 0} → S → ℕ → ℕ → LexemeParts S
 lexeme_at token start len = lexeme_parts token start len false
 
--- the parts of such a lexeme that a repair made
 abbrev pub faulty_at : {S : Type 0} → S → ℕ → ℕ → LexemeParts S
 faulty_at token start len = lexeme_parts token start len true
 
