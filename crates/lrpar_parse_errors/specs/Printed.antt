@@ -24,11 +24,11 @@ IsNamed prints old new false = prints None
 
 -- a string gets one of the names that may be printed for the token, at its end; or nothing may be printed
 abbrev pub AppendsName : {S A : Type 0} → (S → ℕ) → (ℕ → Option (List ℕ) → Type 0) → TIdx S → String A → String A → Bool → Type 0
-AppendsName index names token old new named = IsNamed (names (index token.0)) (string_bytes old) (string_bytes new) named
+AppendsName index names token old new = IsNamed (names (index token.0)) (string_bytes old) (string_bytes new)
 
 -- the same with the names that a function answers
 abbrev pub AppendsAnswer : {S A : Type 0} → (S → ℕ) → (TIdx S → Option (Bor (List ℕ)) → Type 0) → TIdx S → String A → String A → Bool → Type 0
-AppendsAnswer index answers token old new named = AppendsName index (printed_by index answers) token old new named
+AppendsAnswer index answers token old new = AppendsName index (printed_by index answers) token old new
 
 -- the fault names the first of the tokens for which nothing is printed, or is `Memory`
 abbrev pub IsPpFault : {S : Type 0} → (S → ℕ) → (ℕ → Option (List ℕ) → Type 0) → List ℕ → PpFault S → Type 0

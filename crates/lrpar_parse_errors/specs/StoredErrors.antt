@@ -19,19 +19,19 @@ module _ {S L X Y : Type 0} (place : Y → Extent) (parts : X → LexemeParts S)
 
   -- this is the error's text
   abbrev pub IsTextBy : {A : Type 0} → (ℕ → Option (List ℕ) → Type 0) → List ℕ → LexParseError S L X Y → String A → Type 0
-  IsTextBy names input e text = IsErrorText place (λ x. (parts x).span) names input e (string_bytes text)
+  IsTextBy names input e = λ text. IsErrorText place (λ x. (parts x).span) names input e (string_bytes text)
 
   -- the same with the names that a function answers
   abbrev pub IsTextWith : {A : Type 0} → (S → ℕ) → (TIdx S → Option (Bor (List ℕ)) → Type 0) → List ℕ → LexParseError S L X Y → String A → Type 0
-  IsTextWith index answers input e text = IsErrorText place (λ x. (parts x).span) (printed_by index answers) input e (string_bytes text)
+  IsTextWith index answers input e = λ text. IsErrorText place (λ x. (parts x).span) (printed_by index answers) input e (string_bytes text)
 
   -- the same with the names that a grammar prints
   abbrev pub IsTextOf : {A : Type 0} → Grammar → List ℕ → LexParseError S L X Y → String A → Type 0
-  IsTextOf g input e text = IsErrorText place (λ x. (parts x).span) (IsPrintedName g) input e (string_bytes text)
+  IsTextOf g input e = λ text. IsErrorText place (λ x. (parts x).span) (IsPrintedName g) input e (string_bytes text)
 
   -- this is the text of the error that names a byte alone
   abbrev pub IsByteText : {A : Type 0} → LexParseError S L X Y → String A → Type 0
-  IsByteText e text = HasText (unfit_text place (λ x. (parts x).span) e) text
+  IsByteText e = HasText (unfit_text place (λ x. (parts x).span) e)
 
   -- if the error fits the input, the result is its text, with the names that a grammar prints
   abbrev pub GivesText : {A E : Type 0} → Grammar → List ℕ → LexParseError S L X Y → Result (String A) E → Type 0
@@ -44,8 +44,8 @@ module _ {S L X Y : Type 0} (place : Y → Extent) (parts : X → LexemeParts S)
 module _ {S L X Y : Type 0} (index : S → ℕ) (parts : X → LexemeParts S) where
   -- the fault names the first token of the error's sequences for which nothing is printed, or is `Memory`
   abbrev pub IsFaultBy : (ℕ → Option (List ℕ) → Type 0) → LexParseError S L X Y → PpFault S → Type 0
-  IsFaultBy names e fault = IsPpFault index names (error_tokens (λ x. (parts x).span) e) fault
+  IsFaultBy names e = IsPpFault index names (error_tokens (λ x. (parts x).span) e)
 
   -- the same with the names that a function answers
   abbrev pub IsFaultWith : (TIdx S → Option (Bor (List ℕ)) → Type 0) → LexParseError S L X Y → PpFault S → Type 0
-  IsFaultWith answers e fault = IsPpFault index (printed_by index answers) (error_tokens (λ x. (parts x).span) e) fault
+  IsFaultWith answers e = IsPpFault index (printed_by index answers) (error_tokens (λ x. (parts x).span) e)

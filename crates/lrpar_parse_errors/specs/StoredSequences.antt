@@ -26,7 +26,7 @@ AppendsPart index names input part old new = (text : List ℕ) × Appends old ne
 
 -- the fault names the part's token, for which nothing is printed, or is `Memory`
 abbrev pub IsPartFault : {S : Type 0} → (S → ℕ) → (ℕ → Option (List ℕ) → Type 0) → Part S → PpFault S → Type 0
-IsPartFault index names part fault = IsPpFault index names (inserted_by (part_of index part)) fault
+IsPartFault index names part = IsPpFault index names (inserted_by (part_of index part))
 
 module _ {S X : Type 0} (index : S → ℕ) (parts : X → LexemeParts S) where
   -- the first part that is printed for the repairs, and the repairs after it; none if there are no repairs
@@ -72,8 +72,8 @@ module _ {S X : Type 0} (index : S → ℕ) (parts : X → LexemeParts S) where
 
     -- the fault names the first token of the sequence for which nothing is printed, or is `Memory`
     abbrev pub IsFaultIn : {B : Type 0} → Vec (ParseRepair X S) B → PpFault S → Type 0
-    IsFaultIn sequence fault = IsPpFault index names (inserted (sequence_parts index (λ x. (parts x).span) sequence.items)) fault
+    IsFaultIn sequence = IsPpFault index names (inserted (sequence_parts index (λ x. (parts x).span) sequence.items))
 
     -- the same for the tokens of all sequences
     abbrev pub IsFaultOf : {B : Type 0} → List (Vec (ParseRepair X S) B) → PpFault S → Type 0
-    IsFaultOf sequences fault = IsPpFault index names (tokens_of (λ x. (parts x).span) (repairs_of index sequences)) fault
+    IsFaultOf sequences = IsPpFault index names (tokens_of (λ x. (parts x).span) (repairs_of index sequences))

@@ -7,4 +7,4 @@ Appends old new text = string_bytes new ≡ string_bytes old ++ text
 
 -- this is its text
 abbrev pub HasText : {A : Type 0} → List ℕ → String A → Type 0
-HasText text string = string_bytes string ≡ text
+HasText text = λ string. string_bytes string ≡ text

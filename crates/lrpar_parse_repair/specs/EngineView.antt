@@ -71,49 +71,49 @@ AreTestsFor engine height sequences old new =
 module _ {S X : Type 0} (index : S → ℕ) (parts : X → LexemeParts S) where
   -- these are the sequences of the answer that work from the stack at the place, in order
   abbrev pub ListsWorking : {A B : Type 0} → Engine S X → List ℕ → ℕ → Vec (Vec (RepairStep S) A) B → Vec (Vec (RepairStep S) A) B → Type 0
-  ListsWorking engine st i answer listed =
-      AreThoseWith (WorksBy index parts engine st i) (plain_sequences index answer.items) (plain_sequences index listed.items)
+  ListsWorking engine st i answer =
+      λ listed. AreThoseWith (WorksBy index parts engine st i) (plain_sequences index answer.items) (plain_sequences index listed.items)
 
   -- the same for a stack of the program
   abbrev pub ListsFrom : {A B : Type 0} → Engine S X → List (StIdx S) → ℕ → Vec (Vec (RepairStep S) A) B → Vec (Vec (RepairStep S) A) B → Type 0
-  ListsFrom engine stack i answer listed =
-      AreThoseWith (WorksBy index parts engine (states_of index stack) i) (plain_sequences index answer.items) (plain_sequences index listed.items)
+  ListsFrom engine stack i answer =
+      λ listed. AreThoseWith (WorksBy index parts engine (states_of index stack) i) (plain_sequences index answer.items) (plain_sequences index listed.items)
 
   -- true exactly if some sequence of the answer works from the stack at the place
   abbrev pub TellsSome : {A : Type 0} → Engine S X → List ℕ → ℕ → List (Vec (RepairStep S) A) → Bool → Type 0
-  TellsSome engine st i answer works = IsTrue works ↔ SomeWorksBy index parts engine st i (plain_sequences index answer)
+  TellsSome engine st i answer = λ works. IsTrue works ↔ SomeWorksBy index parts engine st i (plain_sequences index answer)
 
   -- the same for a stack of the program
   abbrev pub TellsSomeFrom : {A : Type 0} → Engine S X → List (StIdx S) → ℕ → List (Vec (RepairStep S) A) → Bool → Type 0
-  TellsSomeFrom engine stack i answer works = IsTrue works ↔ SomeWorksBy index parts engine (states_of index stack) i (plain_sequences index answer)
+  TellsSomeFrom engine stack i answer = λ works. IsTrue works ↔ SomeWorksBy index parts engine (states_of index stack) i (plain_sequences index answer)
 
   -- true exactly if the sequence works from the stack at the place
   abbrev pub TellsWorks : Engine S X → List ℕ → ℕ → List (RepairStep S) → Bool → Type 0
-  TellsWorks engine st i steps works = IsTrue works ↔ WorksBy index parts engine st i (plain_steps index steps)
+  TellsWorks engine st i steps = λ works. IsTrue works ↔ WorksBy index parts engine st i (plain_steps index steps)
 
   -- true exactly if a parse can go on from the stack at the place
   abbrev pub TellsGoesOn : Engine S X → List ℕ → ℕ → Bool → Type 0
-  TellsGoesOn engine st i goes_on = IsTrue goes_on ↔ GoesOnFrom index parts engine st i
+  TellsGoesOn engine st i = λ goes_on. IsTrue goes_on ↔ GoesOnFrom index parts engine st i
 
   -- the step was taken, or can't be; `states` gives the states of a stack
   abbrev pub TakesStep : {Y : Type 0} → (Y → List ℕ) → Engine S X → ℕ → RepairStep S → Y → Y → Option ℕ → Type 0
-  TakesStep states engine i step old new next = IsTakenBy index parts engine (states old) i (plain_step index step) (states new) next
+  TakesStep states engine i step old new = IsTakenBy index parts engine (states old) i (plain_step index step) (states new)
 
   -- the token was inserted, or can't be
   abbrev pub Inserts : {Y : Type 0} → (Y → List ℕ) → Engine S X → ℕ → TIdx S → Y → Y → Option ℕ → Type 0
-  Inserts states engine i token old new next = IsTakenBy index parts engine (states old) i (PlainInsert (index token.0)) (states new) next
+  Inserts states engine i token old new = IsTakenBy index parts engine (states old) i (PlainInsert (index token.0)) (states new)
 
   -- the lexeme at the place was kept, or can't be
   abbrev pub Shifts : {Y : Type 0} → (Y → List ℕ) → Engine S X → ℕ → Y → Y → Option ℕ → Type 0
-  Shifts states engine i old new next = IsTakenBy index parts engine (states old) i PlainShift (states new) next
+  Shifts states engine i old new = IsTakenBy index parts engine (states old) i PlainShift (states new)
 
 -- the token was fed, or can't be
 abbrev pub FeedsToken : {S X : Type 0} → (S → ℕ) → Engine S X → TIdx S → List ℕ → List ℕ → Bool → Type 0
-FeedsToken index engine token st after fed = IsTokenFed engine.checked.now.grammar engine.checked.now.table (index token.0) st after fed
+FeedsToken index engine token st after = IsTokenFed engine.checked.now.grammar engine.checked.now.table (index token.0) st after
 
 -- true exactly if the stack accepts, after all reductions at the end token
 abbrev pub TellsAccepts : {S X : Type 0} → Engine S X → List ℕ → Bool → Type 0
-TellsAccepts engine st accepts = IsTrue accepts ↔ AcceptsAtEnd engine.checked.now.grammar engine.checked.now.table st
+TellsAccepts engine st = λ accepts. IsTrue accepts ↔ AcceptsAtEnd engine.checked.now.grammar engine.checked.now.table st
 
 -- tests of the sequences make one overlay of another, with no more reductions than they may cost
 abbrev pub TestsAnswer : {S X A : Type 0} → (S → ℕ) → Engine S X → List (Vec (RepairStep S) A) → Overlaid → Overlaid → Type 0

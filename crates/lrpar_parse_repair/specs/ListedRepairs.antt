@@ -11,11 +11,11 @@ use Rattle.lrpar_parse_repair.specs.declared.repair_step.RepairStep.{RepairStep}
 module _ {S X : Type 0} (index : S → ℕ) (left : List X) where
   -- these are the repairs of the sequences over the lexemes that are left
   abbrev pub AreRepairsOf : {A B C : Type 0} → List (Vec (RepairStep S) A) → Vec (Vec (ParseRepair X S) B) C → Type 0
-  AreRepairsOf listed repairs = repairs_of index repairs.items ≡ map (repairs_over left) (plain_sequences index listed)
+  AreRepairsOf listed = λ repairs. repairs_of index repairs.items ≡ map (repairs_over left) (plain_sequences index listed)
 
   -- these are the repairs of one sequence
   abbrev pub AreRepairsOfOne : {A : Type 0} → List (RepairStep S) → Vec (ParseRepair X S) A → Type 0
-  AreRepairsOfOne steps repairs = map (repair_of index) repairs.items ≡ repairs_over left (plain_steps index steps)
+  AreRepairsOfOne steps = λ repairs. map (repair_of index) repairs.items ≡ repairs_over left (plain_steps index steps)
 
   -- the repairs end at the step
   abbrev pub EndAt : RepairStep S → Type 0
@@ -23,4 +23,4 @@ module _ {S X : Type 0} (index : S → ℕ) (left : List X) where
 
   -- they begin with the step's repair, and go on over the lexemes that are then left
   abbrev pub BeginBy : RepairStep S → ParseRepair X S × Bor (List X) → Type 0
-  BeginBy step next = (steps : List PlainStep) → repairs_over left (plain_step index step ∷ steps) ≡ repair_of index next.0 ∷ repairs_over next.1.now steps
+  BeginBy step = λ next. (steps : List PlainStep) → repairs_over left (plain_step index step ∷ steps) ≡ repair_of index next.0 ∷ repairs_over next.1.now steps

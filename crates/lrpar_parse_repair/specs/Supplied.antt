@@ -11,21 +11,21 @@ use Rattle.lrpar_parse_repair.specs.declared.repair_step.RepairStep.{RepairStep}
 
 -- the answer is one of those that are allowed
 abbrev pub IsAllowed : {S A B : Type 0} → (S → ℕ) → (List (List PlainStep) → Type 0) → Vec (Vec (RepairStep S) A) B → Type 0
-IsAllowed index allowed answer = allowed (plain_sequences index answer.items)
+IsAllowed index allowed = λ answer. allowed (plain_sequences index answer.items)
 
 -- the answer has these sequences
 abbrev pub HasSequences : {S A B : Type 0} → (S → ℕ) → List (List PlainStep) → Vec (Vec (RepairStep S) A) B → Type 0
-HasSequences index sequences answer = plain_sequences index answer.items ≡ sequences
+HasSequences index sequences = λ answer. plain_sequences index answer.items ≡ sequences
 
 module _ {S X : Type 0} (index : S → ℕ) (parts : X → LexemeParts S) where
   -- true exactly if some sequence of the answer works at the error point
   abbrev pub TellsIfSome : {A : Type 0} → Asked X → List (Vec (RepairStep S) A) → Bool → Type 0
-  TellsIfSome at answer works = IsTrue works ↔ SomeWorks (token_by index parts) at (plain_sequences index answer)
+  TellsIfSome at answer = λ works. IsTrue works ↔ SomeWorks (token_by index parts) at (plain_sequences index answer)
 
   module _ {A B : Type 0} (first : A → Asked X → List (List PlainStep) → Type 0) where
     -- the answer is that of the first recoverer, or that of the second where the first one's may fail
     abbrev pub IsOfEither : {C D : Type 0} → (B → Asked X → List (List PlainStep) → Type 0) → TwoRecoverers A B → Asked X → Vec (Vec (RepairStep S) C) D → Type 0
-    IsOfEither second both at answer = FirstOrSecond (token_by index parts) (first both.first) (second both.second) at (plain_sequences index answer.items)
+    IsOfEither second both at = λ answer. FirstOrSecond (token_by index parts) (first both.first) (second both.second) at (plain_sequences index answer.items)
 
     -- if the first of two recoverers always repairs over a checked table, both together do
     abbrev pub RepairsWithFirst : (TwoRecoverers A B → Asked X → List (List PlainStep) → Type 0) → Type 0

@@ -12,23 +12,23 @@ use Rattle.lrpar_parse_trees.specs.declared.node_parts.Leaf.{Leaf}
 
 -- it has the name of the lexeme's token
 abbrev pub HasNameOf : {S : Type 0} → (S → ℕ) → Grammar → LexemeParts S → Leaf → Type 0
-HasNameOf index g x leaf = token_name g (index x.token) ≡ Some leaf.name.now
+HasNameOf index g x = λ leaf. token_name g (index x.token) ≡ Some leaf.name.now
 
 -- it has the lexeme's part of the input
 abbrev pub HasTextOf : {S : Type 0} → List ℕ → LexemeParts S → Leaf → Type 0
-HasTextOf input x leaf = leaf.text.now ≡ slice_range input x.span.start x.span.end
+HasTextOf input x = λ leaf. leaf.text.now ≡ slice_range input x.span.start x.span.end
 
 -- it starts and ends where the lexeme does
 abbrev pub HasPlaceOf : {S : Type 0} → LexemeParts S → Leaf → Type 0
-HasPlaceOf x leaf = (leaf.start ≡ x.span.start) × (leaf.end ≡ x.span.end)
+HasPlaceOf x = λ leaf. (leaf.start ≡ x.span.start) × (leaf.end ≡ x.span.end)
 
 -- it is faulty where the lexeme is
 abbrev pub IsFaultyAs : {S : Type 0} → LexemeParts S → Leaf → Type 0
-IsFaultyAs x leaf = leaf.is_faulty ≡ x.faulty
+IsFaultyAs x = λ leaf. leaf.is_faulty ≡ x.faulty
 
 -- this is the name of the rule
 abbrev pub IsNameOf : {S : Type 0} → (S → ℕ) → Grammar → RIdx S → Bor (List ℕ) → Type 0
-IsNameOf index g rule name = name.now ≡ rule_name g (index rule.0)
+IsNameOf index g rule = λ name. name.now ≡ rule_name g (index rule.0)
 
 -- the lexeme was added, in the form
 abbrev pub AppendsLeaf : {A : Type 0} → Form → Leaf → String A → String A → Type 0

@@ -33,7 +33,7 @@ module _ {S X : Type 0} (index : S → ℕ) (parts : X → LexemeParts S) (g : G
 
   -- this is the text of the tree
   abbrev pub IsTextOf : {A : Type 0} → Node X S → String A → Type 0
-  IsTextOf tree text = HasText (tree_text (λ x. facts_of index (parts x)) index g input tree) text
+  IsTextOf tree = HasText (tree_text (λ x. facts_of index (parts x)) index g input tree)
 
   -- the line of the root of the tree was added, at a level
   abbrev pub AppendsRoot : {A : Type 0} → ℕ → Node X S → String A → String A → Type 0

@@ -44,7 +44,7 @@ walks nodes = joined (map walk nodes)
 
 -- the node is the rule's, over equal trees
 abbrev pub IsNodeOver : {X S : Type 0} → RIdx S → List (Node X S) → Node X S → Type 0
-IsNodeOver ridx nodes node = walk node ≡ Entered ridx.0 (length nodes) ∷ walks nodes
+IsNodeOver ridx nodes = λ node. walk node ≡ Entered ridx.0 (length nodes) ∷ walks nodes
 
 -- two trees are equal if their walks visit equal nodes
 abbrev pub node_eq : {X S : Type 0} → (X → X → Bool) → (S → S → Bool) → Node X S → Node X S → Bool
