@@ -74,18 +74,9 @@ module _ {S X : Type 0} (index : S → ℕ) (parts : X → LexemeParts S) where
   ListsWorking engine st i answer =
       λ listed. AreThoseWith (WorksBy index parts engine st i) (plain_sequences index answer.items) (plain_sequences index listed.items)
 
-  -- the same for a stack of the program
-  abbrev pub ListsFrom : {A B : Type 0} → Engine S X → List (StIdx S) → ℕ → Vec (Vec (RepairStep S) A) B → Vec (Vec (RepairStep S) A) B → Type 0
-  ListsFrom engine stack i answer =
-      λ listed. AreThoseWith (WorksBy index parts engine (states_of index stack) i) (plain_sequences index answer.items) (plain_sequences index listed.items)
-
   -- true exactly if some sequence of the answer works from the stack at the place
   abbrev pub TellsSome : {A : Type 0} → Engine S X → List ℕ → ℕ → List (Vec (RepairStep S) A) → Bool → Type 0
   TellsSome engine st i answer = λ works. IsTrue works ↔ SomeWorksBy index parts engine st i (plain_sequences index answer)
-
-  -- the same for a stack of the program
-  abbrev pub TellsSomeFrom : {A : Type 0} → Engine S X → List (StIdx S) → ℕ → List (Vec (RepairStep S) A) → Bool → Type 0
-  TellsSomeFrom engine stack i answer = λ works. IsTrue works ↔ SomeWorksBy index parts engine (states_of index stack) i (plain_sequences index answer)
 
   -- true exactly if the sequence works from the stack at the place
   abbrev pub TellsWorks : Engine S X → List ℕ → ℕ → List (RepairStep S) → Bool → Type 0

@@ -2,6 +2,7 @@
 ghost use Rattle.std.specs.Prelude.{◌≡◌, ◌≤◌, ◌+◌, ◌↔◌, length, IfOk, OnOk, IsTrue};
 ghost use Rattle.lrpar_table_rows.specs.PlainRows.{plain_action};
 ghost use Rattle.lrpar_table_rows.specs.Table.{Accepts};
+ghost use Rattle.lrpar_table_stacks.specs.Stack.{states_of};
 
 use crate::repair_step::RepairStep;
 use lrpar_grammar::span::{StIdx, StorageIndex, TIdx};
@@ -26,7 +27,7 @@ pub struct Engine<'a, StorageT: StorageIndex, LexemeT> {
 }
 
 impl<'a, StorageT: StorageIndex, LexemeT: Lexeme<StorageT>> Engine<'a, StorageT, LexemeT> {
-    ghost use Rattle.lrpar_parse_repair.specs.EngineView.{FeedsToken, HasStack, HasStates, HasToken, HasTokens, Inserts, IsMovedFor, ListsFrom, ListsWorking, Shifts, SuitsAll, TakesStep, TellsAccepts, TellsGoesOn, TellsSome, TellsSomeFrom, TellsWorks, TestsAnswer};
+    ghost use Rattle.lrpar_parse_repair.specs.EngineView.{FeedsToken, HasStack, HasStates, HasToken, HasTokens, Inserts, IsMovedFor, ListsWorking, Shifts, SuitsAll, TakesStep, TellsAccepts, TellsGoesOn, TellsSome, TellsWorks, TestsAnswer};
 
     /// The engine of these. Takes no memory.
     pub fn new(checked: &'a ParserData<StorageT>, lexemes: &'a [LexemeT], shifts: usize) -> Self
@@ -55,7 +56,7 @@ impl<'a, StorageT: StorageIndex, LexemeT: Lexeme<StorageT>> Engine<'a, StorageT,
         requires tokens { HasTokens StorageT.index LexemeT.parts self.now }
         requires stack { HasStack StorageT.index self.now stack.now }
         requires within { place ≤ length self.now.lexemes.now }
-        ensures listed { IfOk result (ListsFrom StorageT.index LexemeT.parts self.now stack.now place answer) }
+        ensures listed { IfOk result (ListsWorking StorageT.index LexemeT.parts self.now (states_of StorageT.index stack.now) place answer) }
     {
         let mut states = Overlay::new(alloc, stack);
         self.tested(alloc, &mut states, place, answer)
@@ -101,7 +102,7 @@ impl<'a, StorageT: StorageIndex, LexemeT: Lexeme<StorageT>> Engine<'a, StorageT,
         requires tokens { HasTokens StorageT.index LexemeT.parts self.now }
         requires stack { HasStack StorageT.index self.now stack.now }
         requires within { place ≤ length self.now.lexemes.now }
-        ensures works { IfOk result (TellsSomeFrom StorageT.index LexemeT.parts self.now stack.now place answer.now) }
+        ensures works { IfOk result (TellsSome StorageT.index LexemeT.parts self.now (states_of StorageT.index stack.now) place answer.now) }
     {
         let mut states = Overlay::new(alloc, stack);
         self.has_working(&mut states, place, answer)
