@@ -1,5 +1,5 @@
 -- The text of an error or a warning: a block for each of its places.
-use Rattle.std.specs.Prelude.{◌≡◌, ℕ, ◌+◌, ◌-◌, ◌<◌, nat_lt, List, [], ◌∷◌, ◌++◌, Option, IfSome, codes, length, if◌then◌else◌}
+use Rattle.std.specs.Prelude.{◌≡◌, ℕ, ◌+◌, ◌-◌, ◌<◌, nat_lt, List, [], ◌∷◌, ◌++◌, Option, IfSome, String, codes, length, if◌then◌else◌, string_bytes}
 use Rattle.lrpar_grammar_places.specs.Lines.{line_of}
 use Rattle.lrpar_grammar_places.specs.Span.{Extent}
 use Rattle.lrpar_grammar_places.specs.declared.span.SpansKind.{SpansKind}
@@ -38,3 +38,15 @@ pub record IsDiagnostic (with_message : List ℕ → List ℕ) (printed : Option
   pub message : List ℕ
   pub allowed : IfSome printed (λ bytes. message ≡ bytes)
   pub is : text ≡ with_message message
+
+-- the block of the place of this number, before some others, on a new line
+abbrev pub next_block : List ℕ → SpansKind → ℕ → Extent → List Extent → List ℕ
+next_block src kind number span others = 10 ∷ block_text src (dots src span others) span (label kind number) 94
+
+-- this is such a text
+abbrev pub IsDiagnosticText : {A : Type 0} → (List ℕ → List ℕ) → Option (List ℕ) → String A → Type 0
+IsDiagnosticText with_message printed text = IsDiagnostic with_message printed (string_bytes text)
+
+-- this is the text of the blocks of all places of a thing, the first with what may be printed for the thing
+abbrev pub ShowsThing : {X A : Type 0} → List ℕ → (X → SpansKind) → (X → List Extent) → (X → Option (List ℕ)) → X → String A → Type 0
+ShowsThing src kind places printed thing text = IsDiagnosticText (spanned_text src (kind thing) (places thing)) (printed thing) text

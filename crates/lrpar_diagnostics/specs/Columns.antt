@@ -1,8 +1,12 @@
 -- Lines of a text as they are printed, and the columns of its parts.
-use Rattle.std.specs.Prelude.{ℕ, ◌-◌, ◌==◌, ◌&&◌, nat_lt, Bool, false, List, [], ◌∷◌, ◌++◌, length, slice_index, slice_range, replicate, codes, chars, encode_utf8_all, if◌then◌else◌}
+use Rattle.std.specs.Prelude.{◌≡◌, ℕ, ◌-◌, ◌==◌, ◌&&◌, nat_lt, Bool, false, List, [], ◌∷◌, ◌++◌, String, length, slice_index, slice_range, string_bytes, replicate, codes, chars, encode_utf8_all, if◌then◌else◌}
 use Rattle.std.specs.Fmt.{decimal}
 use Rattle.unicode_width.specs.Width.{str_width}
 use Rattle.lrpar_grammar_places.specs.Lines.{line_of, line_end}
+
+-- the text was appended
+abbrev pub Appends : {A : Type 0} → String A → String A → List ℕ → Type 0
+Appends old new text = string_bytes new ≡ string_bytes old ++ text
 
 -- how many columns the bytes from i up to j take
 abbrev pub columns : List ℕ → ℕ → ℕ → ℕ

@@ -4,3 +4,4 @@ pub mod Underline
 pub mod Location
 pub mod Blocks
 pub mod ConflictText
+pub mod StoredConflicts

@@ -35,3 +35,7 @@ pub record IsPlaceText (f : Subject) (message : List ℕ) (byte : ℕ) (text : L
 abbrev pub IsLocationText : Subject → List ℕ → Option Extent → List ℕ → Type 0
 IsLocationText f message None text = text ≡ message ++ codes " in " ++ f.path
 IsLocationText f message (Some span) text = IsPlaceText f message span.start text
+
+-- these are the line and the column of a byte
+abbrev pub AreLineAndColumn : List ℕ → ℕ → ℕ × ℕ → Type 0
+AreLineAndColumn src byte place = (place.0 ≡ line_of src byte) × (place.1 ≡ column_of src byte)

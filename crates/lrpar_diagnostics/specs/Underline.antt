@@ -1,5 +1,5 @@
 -- Parts of a text, underlined on the lines that they touch.
-use Rattle.std.specs.Prelude.{ℕ, ◌≡◌, ◌+◌, ◌-◌, ◌≤◌, ◌||◌, nat_lt, Bool, List, [], ◌∷◌, ◌++◌, length, filter, min, max}
+use Rattle.std.specs.Prelude.{ℕ, ◌≡◌, ◌+◌, ◌-◌, ◌≤◌, ◌||◌, nat_lt, Bool, List, [], ◌∷◌, ◌++◌, MatchOption, Option, length, filter, min, max}
 use Rattle.std.specs.List.{join_by, range_with_len}
 use Rattle.lrpar_grammar_places.specs.Lines.{line_start, line_end, starts_line}
 use Rattle.lrpar_grammar_places.specs.Span.{Extent}
@@ -82,3 +82,7 @@ EndOnFirstLine src (span ∷ spans) = EndOnLine src (line_start src span.start) 
 pub record FollowOnLine (src : List ℕ) (spans : List Extent) : Type 0 where
   pub order : FollowInOrder src 0 spans
   pub line : EndOnFirstLine src spans
+
+-- this is the start of the next line after the one that starts at byte b which is printed for a part up to byte end, if there is one
+abbrev pub IsNextPrinted : List ℕ → ℕ → ℕ → Option ℕ → Type 0
+IsNextPrinted src b end found = MatchOption found (printed_after src b end ≡ []) (λ next. printed_after src b end ≡ next ∷ printed_after src next end)

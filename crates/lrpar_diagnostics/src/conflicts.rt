@@ -1,14 +1,13 @@
 //! Texts of conflicts.
-ghost use Rattle.std.specs.Prelude.{◌≡◌, ◌<◌, ◌≤◌, ◌∷◌, ◌++◌, [], List, ℕ, IfOk, IfSome, OnOk, length, map, option_map, take, drop, unwrap_or};
-ghost use Rattle.std.specs.List.{AllByRecursion, flat_map};
+ghost use Rattle.std.specs.Prelude.{◌≡◌, ◌<◌, ◌≤◌, List, ℕ, IfOk, IfSome, OnOk, length};
 ghost use Rattle.std.specs.String.{string_bytes};
-ghost use Rattle.lrpar_grammar_places.specs.Span.{nowhere};
-ghost use Rattle.lrpar_grammar.specs.Grammar.{end_token, prods_len, rule_span, rules_len, token_span, tokens_len};
+ghost use Rattle.lrpar_grammar.specs.Grammar.{end_token, prods_len, rules_len, tokens_len};
 ghost use Rattle.lrpar_grammar.specs.SpansFit.{IsPartOf, NamesFit, SpansFit};
 ghost use Rattle.lrpar_table_rows.specs.ConflictsFit.{ConflictsFit, ReductionsFit, ShiftFits};
 ghost use Rattle.lrpar_table_rows.specs.PlainConflicts.{reduce_reduce_of, shift_reduce_of};
-ghost use Rattle.lrpar_diagnostics.specs.ConflictText.{by_line, conflicts_text, dollar_span, group_label, groups_text, labelled, lookahead_text, reduce_reduce_line, reduce_reduce_text, reduced_spans, rules_text, shift_or_reduction, shift_reduce_line, shift_reduce_text, shift_text, shown_name, shown_span, shown_spans, two_reductions};
-ghost use Rattle.lrpar_diagnostics.specs.Location.{place_text};
+ghost use Rattle.lrpar_diagnostics.specs.Columns.{Appends};
+ghost use Rattle.lrpar_diagnostics.specs.ConflictText.{by_line, conflicts_text, dollar_span, group_label, labelled, shift_or_reduction, shown_name, shown_span, shown_spans, two_reductions};
+ghost use Rattle.lrpar_diagnostics.specs.StoredConflicts.{AllReductionsFit, AllShiftsFit, IsDollarSpan, IsFirstGroup, PlacesRule, labelled_rule, labelled_token, lines_text, reductions_text, reductions_texts, shift_or_reduce_text, shifts_texts, symbols_text, token_as_lookahead, token_or_rule_line, token_or_rule_text, two_rules_line, two_rules_text};
 ghost use Rattle.lrpar_diagnostics.specs.Underline.{FollowInOrder};
 
 use crate::formatter::SpannedDiagnosticFormatter;
@@ -65,9 +64,8 @@ impl<'a> SpannedDiagnosticFormatter<'a> {
         conflicts: &[ReduceReduce<StorageT>],
     ) -> Result<(), AllocError>
         requires names { NamesFit grm.now (self.now).text }
-        requires fit { AllByRecursion (ReductionsFit grm.now) (map (reduce_reduce_of StorageT.index) conflicts.now) }
-        ensures { OnOk result (string_bytes out.new ≡ string_bytes out.old
-            ++ flat_map (reduce_reduce_text self.now grm.now) (map (reduce_reduce_of StorageT.index) conflicts.now)) }
+        requires fit { AllReductionsFit StorageT.index grm.now conflicts.now }
+        ensures { OnOk result (Appends out.old out.new (reductions_texts StorageT.index self.now grm.now conflicts.now)) }
     {
         let dollar = dollar_span(grm);
         let mut rest = conflicts;
@@ -88,9 +86,8 @@ impl<'a> SpannedDiagnosticFormatter<'a> {
     ) -> Result<(), AllocError>
         requires names { NamesFit grm.now (self.now).text }
         requires fit { ReductionsFit grm.now (reduce_reduce_of StorageT.index conflict) }
-        requires dollar { option_map (λ span. span.now) dollar ≡ dollar_span grm.now }
-        ensures { OnOk result (string_bytes out.new ≡ string_bytes out.old
-            ++ reduce_reduce_text self.now grm.now (reduce_reduce_of StorageT.index conflict)) }
+        requires dollar { IsDollarSpan grm.now dollar }
+        ensures { OnOk result (Appends out.old out.new (reductions_text StorageT.index self.now grm.now conflict)) }
     {
         let (token, first, second, _) = conflict;
         let first = grm.prod_to_rule(first);
@@ -112,9 +109,8 @@ impl<'a> SpannedDiagnosticFormatter<'a> {
         requires first { StorageT.index first.0 < rules_len grm.now }
         requires second { StorageT.index second.0 < rules_len grm.now }
         requires token { StorageT.index token.0 < tokens_len grm.now }
-        requires dollar { option_map (λ span. span.now) dollar ≡ dollar_span grm.now }
-        ensures { OnOk result (string_bytes out.new ≡ string_bytes out.old
-            ++ rules_text self.now grm.now (StorageT.index first.0) (StorageT.index second.0) (StorageT.index token.0)) }
+        requires dollar { IsDollarSpan grm.now dollar }
+        ensures { OnOk result (Appends out.old out.new (two_rules_text StorageT.index self.now grm.now first second token)) }
     {
         self.push_reduce_reduce_line(out, grm, first, second, token)?;
         self.push_rule(out, grm, first, "First reduce")?;
@@ -133,9 +129,8 @@ impl<'a> SpannedDiagnosticFormatter<'a> {
     ) -> Result<(), AllocError>
         requires names { NamesFit grm.now (self.now).text }
         requires token { StorageT.index token.0 < tokens_len grm.now }
-        requires dollar { option_map (λ span. span.now) dollar ≡ dollar_span grm.now }
-        ensures { OnOk result (string_bytes out.new ≡ string_bytes out.old
-            ++ lookahead_text (self.now).text (shown_span grm.now (StorageT.index token.0))) }
+        requires dollar { IsDollarSpan grm.now dollar }
+        ensures { OnOk result (Appends out.old out.new (token_as_lookahead StorageT.index self.now grm.now token)) }
     {
         match shown_span(grm, token, dollar) {
             Some(span) => self.source.push_labelled_line(out, span, "Lookahead"),
@@ -156,8 +151,7 @@ impl<'a> SpannedDiagnosticFormatter<'a> {
         requires first { StorageT.index first.0 < rules_len grm.now }
         requires second { StorageT.index second.0 < rules_len grm.now }
         requires token { StorageT.index token.0 < tokens_len grm.now }
-        ensures { OnOk result (string_bytes out.new ≡ string_bytes out.old
-            ++ reduce_reduce_line self.now grm.now (StorageT.index first.0) (StorageT.index second.0) (StorageT.index token.0)) }
+        ensures { OnOk result (Appends out.old out.new (two_rules_line StorageT.index self.now grm.now first second token)) }
     {
         push_two_reductions(
             out,
@@ -177,8 +171,7 @@ impl<'a> SpannedDiagnosticFormatter<'a> {
     ) -> Result<(), AllocError>
         requires names { NamesFit grm.now (self.now).text }
         requires rule { StorageT.index rule.0 < rules_len grm.now }
-        ensures { OnOk result (string_bytes out.new
-            ≡ place_text self.now (string_bytes out.old) (rule_span grm.now (StorageT.index rule.0)).start ++ 10 ∷ []) }
+        ensures { OnOk result (PlacesRule StorageT.index self.now grm.now rule out.old out.new) }
     {
         self.push_place(out, grm.rule_name_span(rule).start())?;
         out.push('\n')
@@ -194,8 +187,7 @@ impl<'a> SpannedDiagnosticFormatter<'a> {
     ) -> Result<(), AllocError>
         requires names { NamesFit grm.now (self.now).text }
         requires rule { StorageT.index rule.0 < rules_len grm.now }
-        ensures { OnOk result (string_bytes out.new ≡ string_bytes out.old
-            ++ labelled (self.now).text (rule_span grm.now (StorageT.index rule.0)) label.now) }
+        ensures { OnOk result (Appends out.old out.new (labelled_rule StorageT.index self.now grm.now rule label.now)) }
     {
         self.source
             .push_labelled_line(out, grm.rule_name_span(rule), label)
@@ -209,9 +201,8 @@ impl<'a> SpannedDiagnosticFormatter<'a> {
         conflicts: &[ShiftReduce<StorageT>],
     ) -> Result<(), AllocError>
         requires spans { SpansFit grm.now (self.now).text }
-        requires fit { AllByRecursion (ShiftFits grm.now) (map (shift_reduce_of StorageT.index) conflicts.now) }
-        ensures { OnOk result (string_bytes out.new ≡ string_bytes out.old
-            ++ flat_map (shift_reduce_text self.now grm.now) (map (shift_reduce_of StorageT.index) conflicts.now)) }
+        requires fit { AllShiftsFit StorageT.index grm.now conflicts.now }
+        ensures { OnOk result (Appends out.old out.new (shifts_texts StorageT.index self.now grm.now conflicts.now)) }
     {
         let mut rest = conflicts;
         while let Some((conflict, others)) = rest.split_first() {
@@ -230,8 +221,7 @@ impl<'a> SpannedDiagnosticFormatter<'a> {
     ) -> Result<(), AllocError>
         requires spans { SpansFit grm.now (self.now).text }
         requires fit { ShiftFits grm.now (shift_reduce_of StorageT.index conflict) }
-        ensures { OnOk result (string_bytes out.new ≡ string_bytes out.old
-            ++ shift_reduce_text self.now grm.now (shift_reduce_of StorageT.index conflict)) }
+        ensures { OnOk result (Appends out.old out.new (shift_or_reduce_text StorageT.index self.now grm.now conflict)) }
     {
         let (token, prod, _) = conflict;
         self.push_shift(out, grm, token, grm.prod_to_rule(prod), prod)
@@ -250,8 +240,7 @@ impl<'a> SpannedDiagnosticFormatter<'a> {
         requires token { StorageT.index token.0 < end_token grm.now }
         requires rule { StorageT.index rule.0 < rules_len grm.now }
         requires prod { StorageT.index prod.0 < prods_len grm.now }
-        ensures { OnOk result (string_bytes out.new ≡ string_bytes out.old
-            ++ shift_text self.now grm.now (StorageT.index token.0) (StorageT.index rule.0) (StorageT.index prod.0)) }
+        ensures { OnOk result (Appends out.old out.new (token_or_rule_text StorageT.index self.now grm.now token rule prod)) }
     {
         self.push_shift_reduce_line(out, grm, token, rule)?;
         self.push_token(out, grm, token, "Shift")?;
@@ -270,8 +259,7 @@ impl<'a> SpannedDiagnosticFormatter<'a> {
     ) -> Result<(), AllocError>
         requires names { NamesFit grm.now (self.now).text }
         requires token { StorageT.index token.0 < end_token grm.now }
-        ensures { OnOk result (string_bytes out.new ≡ string_bytes out.old
-            ++ labelled (self.now).text (unwrap_or (token_span grm.now (StorageT.index token.0)) nowhere) label.now) }
+        ensures { OnOk result (Appends out.old out.new (labelled_token StorageT.index self.now grm.now token label.now)) }
     {
         let span = grm.token_span(token).unwrap();
         self.source.push_labelled_line(out, span, label)
@@ -286,8 +274,7 @@ impl<'a> SpannedDiagnosticFormatter<'a> {
     ) -> Result<(), AllocError>
         requires spans { SpansFit grm.now (self.now).text }
         requires prod { StorageT.index prod.0 < prods_len grm.now }
-        ensures { OnOk result (string_bytes out.new ≡ string_bytes out.old
-            ++ groups_text (self.now).text (by_line (self.now).text (reduced_spans grm.now (StorageT.index prod.0)))) }
+        ensures { OnOk result (Appends out.old out.new (symbols_text StorageT.index self.now grm.now prod)) }
     {
         self.source
             .push_reduced(out, grm.prod_span(prod), grm.symbol_spans(prod))
@@ -304,8 +291,7 @@ impl<'a> SpannedDiagnosticFormatter<'a> {
         requires names { NamesFit grm.now (self.now).text }
         requires token { StorageT.index token.0 < tokens_len grm.now }
         requires rule { StorageT.index rule.0 < rules_len grm.now }
-        ensures { OnOk result (string_bytes out.new ≡ string_bytes out.old
-            ++ shift_reduce_line self.now grm.now (StorageT.index token.0) (StorageT.index rule.0)) }
+        ensures { OnOk result (Appends out.old out.new (token_or_rule_line StorageT.index self.now grm.now token rule)) }
     {
         push_shift_or_reduction(out, shown_name(grm, token), grm.rule_name_str(rule))?;
         self.push_rule_place(out, grm, rule)
@@ -321,7 +307,7 @@ impl<'a> Source<'a> {
         label: &str,
     ) -> Result<(), AllocError>
         requires { IsPartOf self.now.src.now span }
-        ensures { OnOk result (string_bytes out.new ≡ string_bytes out.old ++ labelled self.now.src.now span label.now) }
+        ensures { OnOk result (Appends out.old out.new (labelled self.now.src.now span label.now)) }
     {
         self.push_block(out, "", span, label, '^')?;
         out.push('\n')
@@ -331,8 +317,7 @@ impl<'a> Source<'a> {
     fn push_reduced(&self, out: &mut String, own: Span, symbols: &[Span]) -> Result<(), AllocError>
         requires own { IsPartOf self.now.src.now own }
         requires symbols { FollowInOrder self.now.src.now 0 symbols.now }
-        ensures { OnOk result (string_bytes out.new ≡ string_bytes out.old
-            ++ groups_text self.now.src.now (by_line self.now.src.now (shown_spans own symbols.now))) }
+        ensures { OnOk result (Appends out.old out.new (lines_text self.now.src.now (shown_spans own symbols.now))) }
     {
         if symbols.is_empty() {
             self.push_groups(out, &[own])
@@ -344,7 +329,7 @@ impl<'a> Source<'a> {
     // Adds the lines on which the parts start, each with its parts underlined.
     fn push_groups(&self, out: &mut String, spans: &[Span]) -> Result<(), AllocError>
         requires { FollowInOrder self.now.src.now 0 spans.now }
-        ensures { OnOk result (string_bytes out.new ≡ string_bytes out.old ++ groups_text self.now.src.now (by_line self.now.src.now spans.now)) }
+        ensures { OnOk result (Appends out.old out.new (lines_text self.now.src.now spans.now)) }
     {
         let mut rest = spans;
         while !rest.is_empty() {
@@ -361,7 +346,7 @@ impl<'a> Source<'a> {
         requires some { 0 < length spans.now }
         requires order { FollowInOrder self.now.src.now 0 spans.now }
         ensures within { (0 < result) × (result ≤ length spans.now) }
-        ensures group { by_line self.now.src.now spans.now ≡ take result spans.now ∷ by_line self.now.src.now (drop result spans.now) }
+        ensures group { IsFirstGroup self.now.src.now spans.now result }
     {
         let line = self.line_start(spans[0].start());
         for (i, span) in spans.iter().enumerate() {
@@ -391,7 +376,7 @@ fn push_two_reductions(
     second: &str,
     token: &str,
 ) -> Result<(), AllocError>
-    ensures { OnOk result (string_bytes out.new ≡ string_bytes out.old ++ two_reductions first.now second.now token.now) }
+    ensures { OnOk result (Appends out.old out.new (two_reductions first.now second.now token.now)) }
 {
     write!(
         out,
@@ -401,7 +386,7 @@ fn push_two_reductions(
 
 // Adds the message of a conflict between the shift of a token and a reduction by a rule.
 fn push_shift_or_reduction(out: &mut String, token: &str, rule: &str) -> Result<(), AllocError>
-    ensures { OnOk result (string_bytes out.new ≡ string_bytes out.old ++ shift_or_reduction token.now rule.now) }
+    ensures { OnOk result (Appends out.old out.new (shift_or_reduction token.now rule.now)) }
 {
     write!(
         out,
@@ -424,7 +409,7 @@ fn shown_span<StorageT: StorageIndex>(
     dollar: Option<&Span>,
 ) -> Option<Span>
     requires token { StorageT.index token.0 < tokens_len grm.now }
-    requires dollar { option_map (λ span. span.now) dollar ≡ dollar_span grm.now }
+    requires dollar { IsDollarSpan grm.now dollar }
     ensures span { result ≡ shown_span grm.now (StorageT.index token.0) }
     ensures part { (src : List ℕ) → NamesFit grm.now src → IfSome result (IsPartOf src) }
 {

@@ -3,6 +3,7 @@ ghost use Rattle.std.specs.Prelude.{◌≡◌, ◌%◌, ◌≤◌, ◌++◌, ◌
 ghost use Rattle.std.specs.String.{string_bytes};
 ghost use Rattle.lrpar_grammar_places.specs.Lines.{line_table};
 ghost use Rattle.lrpar_grammar.specs.SpansFit.{IsPartOf};
+ghost use Rattle.lrpar_diagnostics.specs.Columns.{Appends};
 ghost use Rattle.lrpar_diagnostics.specs.Location.{IsLocationText, IsPlaceText, is_teen, ordinal_text, suffix_of_digit};
 ghost use Rattle.lrpar_diagnostics.specs.Underline.{FollowInOrder, FollowOnLine, block_text, on_line_text};
 
@@ -151,7 +152,7 @@ impl<'a> SpannedDiagnosticFormatter<'a> {
 
     // Adds the path.
     fn push_path(&self, out: &mut String) -> Result<(), AllocError>
-        ensures { OnOk result (string_bytes out.new ≡ string_bytes out.old ++ codes " in " ++ (self.now).path) }
+        ensures { OnOk result (Appends out.old out.new (codes " in " ++ (self.now).path)) }
     {
         let path = self.path;
         write!(out, " in {path}")

@@ -1,10 +1,10 @@
 //! A text with its lines, and how parts of it are shown: the lines that they touch, with the parts underlined.
-ghost use Rattle.std.specs.Prelude.{◌≡◌, ◌<◌, ◌≤◌, ◌∷◌, ◌++◌, ◌↔◌, [], IfOk, IfSome, IsTrue, MatchOption, OnOk, length};
-ghost use Rattle.std.specs.String.{string_bytes};
+ghost use Rattle.std.specs.Prelude.{◌≡◌, ◌<◌, ◌≤◌, ◌↔◌, IfOk, IfSome, IsTrue, OnOk, length};
 ghost use Rattle.std.specs.Str.{IsCharBoundary, IsUtf8};
-ghost use Rattle.lrpar_grammar_places.specs.Lines.{column_of, line_end, line_of, line_start, line_table};
-ghost use Rattle.lrpar_diagnostics.specs.Columns.{columns, margin, printed_line, repeated, text_end};
-ghost use Rattle.lrpar_diagnostics.specs.Underline.{EndOnFirstLine, EndOnLine, FollowInOrder, FollowOnLine, block_text, first_mark, is_printed, marked_line, marks_after, on_line_text, printed_after, underline};
+ghost use Rattle.lrpar_grammar_places.specs.Lines.{line_end, line_of, line_start, line_table};
+ghost use Rattle.lrpar_diagnostics.specs.Columns.{Appends, columns, margin, printed_line, repeated, text_end};
+ghost use Rattle.lrpar_diagnostics.specs.Underline.{EndOnFirstLine, EndOnLine, FollowInOrder, FollowOnLine, IsNextPrinted, block_text, first_mark, is_printed, marked_line, marks_after, on_line_text, underline};
+ghost use Rattle.lrpar_diagnostics.specs.Location.{AreLineAndColumn};
 ghost use Rattle.lrpar_grammar.specs.SpansFit.{IsPartOf};
 
 use lrpar_grammar_places::lines::NewlineCache;
@@ -47,7 +47,7 @@ impl<'a> Source<'a> {
 
     /// The line and the column of a byte, each counted from 1: 0 and 0 after the text's end and inside a character.
     pub(crate) fn place(&self, byte: usize) -> (usize, usize)
-        ensures inside { IsCharBoundary self.now.src.now byte → (result.0 ≡ line_of self.now.src.now byte) × (result.1 ≡ column_of self.now.src.now byte) }
+        ensures inside { IsCharBoundary self.now.src.now byte → AreLineAndColumn self.now.src.now byte result }
         ensures outside { ¬ IsCharBoundary self.now.src.now byte → (result.0 ≡ 0) × (result.1 ≡ 0) }
     {
         match self.nlc.byte_to_line_num_and_col_num(self.src, byte) {
@@ -103,7 +103,7 @@ impl<'a> Source<'a> {
     // Adds the line that starts at a byte, with a line feed. Returns how many bytes come before the line's text.
     fn push_line(&self, out: &mut String, start: usize) -> Result<usize, AllocError>
         requires { IsCharBoundary self.now.src.now start }
-        ensures text { OnOk result (string_bytes out.new ≡ string_bytes out.old ++ printed_line self.now.src.now start) }
+        ensures text { OnOk result (Appends out.old out.new (printed_line self.now.src.now start)) }
         ensures margin { IfOk result (λ bytes. bytes ≡ length (margin self.now.src.now start)) }
     {
         let number = self.line(start);
@@ -126,7 +126,7 @@ impl<'a> Source<'a> {
         requires start { IsCharBoundary self.now.src.now start }
         requires end { IsCharBoundary self.now.src.now end }
         requires ordered { start ≤ end }
-        ensures { OnOk result (string_bytes out.new ≡ string_bytes out.old ++ underline self.now.src.now underline_c start end) }
+        ensures { OnOk result (Appends out.old out.new (underline self.now.src.now underline_c start end)) }
     {
         push_repeated(out, underline_c, self.columns(start, end).max(1))
     }
@@ -142,7 +142,7 @@ impl<'a> Source<'a> {
     ) -> Result<(), AllocError>
         requires start { IsCharBoundary self.now.src.now start }
         requires span { IsPartOf self.now.src.now span }
-        ensures { OnOk result (string_bytes out.new ≡ string_bytes out.old ++ marked_line self.now.src.now prefix.now span underline_c start) }
+        ensures { OnOk result (Appends out.old out.new (marked_line self.now.src.now prefix.now span underline_c start)) }
     {
         let margin = self.push_line(out, start)?;
         out.push_str(prefix)?;
@@ -158,8 +158,7 @@ impl<'a> Source<'a> {
     fn next_printed(&self, start: usize, end: usize) -> Option<usize>
         requires start { start ≤ length self.now.src.now }
         requires end { end ≤ length self.now.src.now }
-        ensures next { MatchOption result (printed_after self.now.src.now start end ≡ [])
-            (λ next. printed_after self.now.src.now start end ≡ next ∷ printed_after self.now.src.now next end) }
+        ensures next { IsNextPrinted self.now.src.now start end result }
         ensures further { IfSome result (λ next. (start < next) × (next ≤ end)) }
         ensures boundary { IfSome result (λ next. IsCharBoundary self.now.src.now next) }
     {
@@ -193,7 +192,7 @@ impl<'a> Source<'a> {
         underline_c: char,
     ) -> Result<(), AllocError>
         requires { IsPartOf self.now.src.now span }
-        ensures { OnOk result (string_bytes out.new ≡ string_bytes out.old ++ block_text self.now.src.now prefix.now span message.now underline_c) }
+        ensures { OnOk result (Appends out.old out.new (block_text self.now.src.now prefix.now span message.now underline_c)) }
     {
         let mut start = self.line_start(span.start());
         self.push_marked(out, prefix, span, underline_c, start)?;
@@ -215,7 +214,7 @@ impl<'a> Source<'a> {
         underline_c: char,
     ) -> Result<(), AllocError>
         requires { FollowInOrder self.now.src.now 0 spans.now }
-        ensures { OnOk result (string_bytes out.new ≡ string_bytes out.old ++ on_line_text self.now.src.now spans.now message.now underline_c) }
+        ensures { OnOk result (Appends out.old out.new (on_line_text self.now.src.now spans.now message.now underline_c)) }
     {
         let Some((first, others)) = spans.split_first() else {
             return Ok(());
@@ -229,7 +228,7 @@ impl<'a> Source<'a> {
     // Adds the line of a part of the text, and below it the part's underline.
     fn push_first(&self, out: &mut String, span: Span, underline_c: char) -> Result<(), AllocError>
         requires { IsPartOf self.now.src.now span }
-        ensures { OnOk result (string_bytes out.new ≡ string_bytes out.old ++ first_mark self.now.src.now underline_c span) }
+        ensures { OnOk result (Appends out.old out.new (first_mark self.now.src.now underline_c span)) }
     {
         let start = self.line_start(span.start());
         let margin = self.push_line(out, start)?;
@@ -249,7 +248,7 @@ impl<'a> Source<'a> {
     ) -> Result<(), AllocError>
         requires after { IsCharBoundary self.now.src.now after }
         requires order { FollowInOrder self.now.src.now after spans.now }
-        ensures { OnOk result (string_bytes out.new ≡ string_bytes out.old ++ marks_after self.now.src.now underline_c after spans.now) }
+        ensures { OnOk result (Appends out.old out.new (marks_after self.now.src.now underline_c after spans.now)) }
     {
         let mut end = after;
         let mut rest = spans;
@@ -323,7 +322,7 @@ fn follows(src: &str, byte: usize, span: Span) -> bool
 
 // Adds a character `count` times.
 fn push_repeated(out: &mut String, c: char, count: usize) -> Result<(), AllocError>
-    ensures { OnOk result (string_bytes out.new ≡ string_bytes out.old ++ repeated count c) }
+    ensures { OnOk result (Appends out.old out.new (repeated count c)) }
 {
     for _i in 0..count {
         out.push(c)?;

@@ -1,13 +1,13 @@
 //! Texts of errors and warnings: a block for each of their places.
-ghost use Rattle.std.specs.Prelude.{◌≡◌, ◌-◌, ◌↔◌, ◌∷◌, ◌++◌, List, ℕ, IfOk, IsErrOf, IsTrue, OnOk};
+ghost use Rattle.std.specs.Prelude.{◌≡◌, ◌-◌, ◌↔◌, List, ℕ, IfOk, IsErrOf, IsTrue, OnOk};
 ghost use Rattle.std.specs.List.{AllByRecursion};
 ghost use Rattle.std.specs.String.{string_bytes};
 ghost use Rattle.lrpar_grammar_places.specs.Lines.{line_of};
 ghost use Rattle.lrpar_grammar_places.specs.Span.{Extent};
 ghost use Rattle.lrpar_grammar_places.specs.declared.span.SpansKind.{SpansKind};
 ghost use Rattle.lrpar_grammar.specs.SpansFit.{IsPartOf};
-ghost use Rattle.lrpar_diagnostics.specs.Blocks.{HasSeveralSpans, IsDiagnostic, blocks_after, dots, label, spanned_text};
-ghost use Rattle.lrpar_diagnostics.specs.Underline.{block_text};
+ghost use Rattle.lrpar_diagnostics.specs.Blocks.{HasSeveralSpans, IsDiagnostic, IsDiagnosticText, ShowsThing, blocks_after, dots, label, next_block, spanned_text};
+ghost use Rattle.lrpar_diagnostics.specs.Columns.{Appends};
 
 use crate::fault::{DiagnosticError, DiagnosticFault};
 use crate::formatter::SpannedDiagnosticFormatter;
@@ -45,7 +45,7 @@ pub trait DiagnosticFormatter {
         w: W,
     ) -> Result<String, DiagnosticFault>
         requires { shows self.now (W.places w) }
-        ensures text { IfOk result (λ text. IsDiagnostic (shown self.now (W.kind w) (W.places w)) (W.output w) (string_bytes text)) }
+        ensures text { IfOk result (IsDiagnosticText (shown self.now (W.kind w) (W.places w)) (W.output w)) }
         ensures several { IsErrOf result DiagnosticFault.SeveralSpans ↔ HasSeveralSpans (W.kind w) (W.places w) };
 }
 
@@ -79,7 +79,7 @@ impl<'a> Source<'a> {
         thing: &T,
     ) -> Result<String, DiagnosticFault>
         requires { AllByRecursion (IsPartOf self.now.src.now) (T.places thing.now) }
-        ensures text { IfOk result (λ text. IsDiagnostic (spanned_text self.now.src.now (T.kind thing.now) (T.places thing.now)) (T.output thing.now) (string_bytes text)) }
+        ensures text { IfOk result (ShowsThing self.now.src.now T.kind T.places T.output thing.now) }
         ensures several { IsErrOf result DiagnosticFault.SeveralSpans ↔ HasSeveralSpans (T.kind thing.now) (T.places thing.now) }
     {
         if has_several_spans(thing.spanskind(), thing.spans()) {
@@ -118,7 +118,7 @@ impl<'a> Source<'a> {
         spans: &[Span],
     ) -> Result<(), AllocError>
         requires { AllByRecursion (IsPartOf self.now.src.now) spans.now }
-        ensures { OnOk result (string_bytes out.new ≡ string_bytes out.old ++ blocks_after self.now.src.now kind 2 spans.now) }
+        ensures { OnOk result (Appends out.old out.new (blocks_after self.now.src.now kind 2 spans.now)) }
     {
         let mut rest = spans;
         while let Some((span, others)) = rest.split_first() {
@@ -141,8 +141,7 @@ impl<'a> Source<'a> {
     ) -> Result<(), AllocError>
         requires span { IsPartOf self.now.src.now span }
         requires others { AllByRecursion (IsPartOf self.now.src.now) others.now }
-        ensures { OnOk result (string_bytes out.new ≡ string_bytes out.old
-            ++ 10 ∷ block_text self.now.src.now (dots self.now.src.now span others.now) span (label kind number) 94) }
+        ensures { OnOk result (Appends out.old out.new (next_block self.now.src.now kind number span others.now)) }
     {
         let label = label(alloc, kind, number)?;
         out.push('\n')?;
