@@ -28,14 +28,15 @@ use Rattle.lrpar_table_items.specs.declared.cores.CoreItems.{CoreItems}
 use Rattle.lrpar_table_items.specs.declared.fault.BuildFault.{BuildFault}
 use Rattle.lrpar_table_items.specs.declared.item_set.State.{State}
 
+-- the cores of a state: of productions of the grammar, each core once
+pub record AreStateCores {S : Type 0} (index : S → ℕ) (g : Grammar) (cores : List (CoreItems S)) : Type 0 where
+  pub prods : All (λ core. core.prod < prods_len g) (map (core_set index) cores)
+  pub once : AreOnce (map (core_set index) cores)
+
 module _ {S : Type 0} (index : S → ℕ) where
   -- the productions of the cores are those of the grammar
   abbrev pub HaveProds : Grammar → List (CoreItems S) → Type 0
   HaveProds g cores = All (λ core. core.prod < prods_len g) (map (core_set index) cores)
-
-  -- each core is there at most once
-  abbrev pub AreEachOnce : List (CoreItems S) → Type 0
-  AreEachOnce cores = AreOnce (map (core_set index) cores)
 
   -- whether the dot is after all symbols
   abbrev pub is_at_end : Grammar → CoreItems S → Bool

@@ -1,6 +1,6 @@
 //! The actions of a state at each token, after conflict resolution, and its conflicts.
 ghost use Rattle.std.specs.Prelude.{IfErr, IfOk, OnOk};
-ghost use Rattle.lrpar_table_items.specs.StoredRows.{AppendsAction, AppendsAllResolved, AppendsAllUnresolved, AppendsReduceReduce, AppendsResolved, AppendsUnresolved, AreEachOnce, CallsForBoth, HasNoAcceptReduce, HaveProds, IsAcceptReduceFault, IsRefusedFor, IsResolvedRow, ShiftsAscendFrom};
+ghost use Rattle.lrpar_table_items.specs.StoredRows.{AppendsAction, AppendsAllResolved, AppendsAllUnresolved, AppendsReduceReduce, AppendsResolved, AppendsUnresolved, AreStateCores, CallsForBoth, HasNoAcceptReduce, IsAcceptReduceFault, IsRefusedFor, IsResolvedRow, ShiftsAscendFrom};
 
 use crate::complete_items::{accepts, complete_cores, reductions_at};
 use crate::cores::CoreItems;
@@ -31,8 +31,7 @@ pub fn state_row<StorageT: StorageIndex>(
     sr: &mut Vec<ShiftReduce<StorageT>>,
     decided: &mut Vec<ResolvedConflict<StorageT>>,
 ) -> Result<Vec<(TIdx<StorageT>, Action<StorageT>)>, BuildFault>
-    requires prods { HaveProds StorageT.index grm.now cores.now }
-    requires once { AreEachOnce StorageT.index cores.now }
+    requires cores { AreStateCores StorageT.index grm.now cores.now }
     requires shifts { ShiftsAscendFrom StorageT.index 0 shifts.now }
     ensures row { IfOk result (IsResolvedRow StorageT.index precedences.now grm.now cores.now shifts.now) }
     ensures rr { OnOk result (AppendsReduceReduce StorageT.index grm.now state.now cores.now rr.old rr.new) }

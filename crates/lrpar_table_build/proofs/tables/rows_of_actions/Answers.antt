@@ -12,23 +12,17 @@ use Rattle.lrpar_table_build.proofs.TablesLemmas.{cores_known, cores_once, refus
 use Rattle.lrpar_grammar_places.proofs.FaultLemmas.{no_value, nothing_done}
 use Rattle.lrpar_table_build.proofs.tables.rows_of_actions.Goals as goal
 
-pub state_row-requires-clause-prods : goal.state_row-requires-clause-prods
-state_row-requires-clause-prods g c =
+pub state_row-requires-clause-cores : goal.state_row-requires-clause-cores
+state_row-requires-clause-cores g c =
     let index = g.StorageT.StorageIndex.index in
     let s = c.loop-number.number in
     let states = map (state_of index) c.args.states.now in
     let below : s < length states = omega (arith, length-map c.args.states.now (state_of index), c.loop-number-test.true) in
     let is = state_read (state_of index) c.args.states.now s c.index-states-number.result c.loop-number-test.true c.index-states-number.is in
-    rw c.deref.ensures.value (cores_known c.args.grm.now states c.requires.rows s (state_of index c.index-states-number.result) below is)
-
-pub state_row-requires-clause-once : goal.state_row-requires-clause-once
-state_row-requires-clause-once g c =
-    let index = g.StorageT.StorageIndex.index in
-    let s = c.loop-number.number in
-    let states = map (state_of index) c.args.states.now in
-    let below : s < length states = omega (arith, length-map c.args.states.now (state_of index), c.loop-number-test.true) in
-    let is = state_read (state_of index) c.args.states.now s c.index-states-number.result c.loop-number-test.true c.index-states-number.is in
-    rw c.deref.ensures.value (cores_once c.args.grm.now states c.requires.rows s (state_of index c.index-states-number.result) below is)
+    let state = state_of index c.index-states-number.result in record {
+      prods = rw c.deref.ensures.value (cores_known c.args.grm.now states c.requires.rows s state below is);
+      once = rw c.deref.ensures.value (cores_once c.args.grm.now states c.requires.rows s state below is);
+    }
 
 pub state_row-requires-clause-shifts : goal.state_row-requires-clause-shifts
 state_row-requires-clause-shifts g c =

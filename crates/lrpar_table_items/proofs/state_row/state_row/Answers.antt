@@ -13,6 +13,9 @@ use Rattle.lrpar_table_items.proofs.StateRowLemmas.{accepts_are, below_next, bes
 use Rattle.lrpar_grammar_places.proofs.FaultLemmas.{no_value, nothing_done}
 use Rattle.lrpar_table_items.proofs.state_row.state_row.Goals as goal
 
+pub complete_cores-requires : goal.complete_cores-requires
+complete_cores-requires g c = c.requires.cores.prods
+
 pub returns-in_err-push_token-clause-refused : goal.returns-in_err-push_token-clause-refused
 returns-in_err-push_token-clause-refused g c =
     let index = g.StorageT.StorageIndex.index in
@@ -26,7 +29,7 @@ returns-in_err-push_token-clause-refused g c =
     let sorted = sorted_image (λ core. core_set index core.now) (λ core. core.prod) c.in_ok-complete.complete.items c.in_ok-complete.ensures.sorted in
     let reported = rw c.deref.ensures.value at c.in_ok-prods.ensures in
     let reduces =
-    reductions_are grm cores complete c.from-start.result token prods c.in_ok-complete.ensures.all sorted c.requires.once c.requires.prods start reported in
+    reductions_are grm cores complete c.from-start.result token prods c.in_ok-complete.ensures.all sorted c.requires.cores.once c.requires.cores.prods start reported in
     let tested = rw c.deref-in-loop-token.ensures.value at c.accepts-accepting.ensures in
     let accepts = accepts_are grm cores complete c.from-start.result token c.accepts-accepting.result c.in_ok-complete.ensures.all start tested in
     let shift = c.split_shift-shift.ensures.shift ∙ c.loop-token.invariant.5 token (omega arith) in
@@ -62,7 +65,7 @@ loop-token-preserved g c =
     let sorted = sorted_image (λ core. core_set index core.now) (λ core. core.prod) c.in_ok-complete.complete.items c.in_ok-complete.ensures.sorted in
     let reported = rw c.deref.ensures.value at c.in_ok-prods.ensures in
     let reduces =
-    reductions_are grm cores complete c.from-start.result token prods c.in_ok-complete.ensures.all sorted c.requires.once c.requires.prods start reported in
+    reductions_are grm cores complete c.from-start.result token prods c.in_ok-complete.ensures.all sorted c.requires.cores.once c.requires.cores.prods start reported in
     let tested = rw c.deref-in-loop-token.ensures.value at c.accepts-accepting.ensures in
     let accepts = accepts_are grm cores complete c.from-start.result token c.accepts-accepting.result c.in_ok-complete.ensures.all start tested in
     let shift = c.split_shift-shift.ensures.shift ∙ c.loop-token.invariant.5 token (omega arith) in
