@@ -1,6 +1,6 @@
 -- The steps of a table, from the entries that it stores.
-use Rattle.std.proofs.Common.{◌≡◌, ◌<◌, ◌≤◌, ◌+◌, ◌∙◌, refl, sym, ap, subst, inl, inr, arith, lit<, zero-add, ℕ, List, [], ◌∷◌, ◌++◌, Option, Some, None, get_or, length, take}
-use Rattle.std.specs.List.{Contains, flat_map, range_with_len}
+use Rattle.std.proofs.Common.{◌≡◌, ◌<◌, ◌≤◌, ◌+◌, ◌∙◌, refl, sym, ap, subst, inl, inr, arith, lit<, zero-add, ℕ, List, [], ◌∷◌, ◌++◌, Option, Some, None, get_or, length, map, slice_index_or, take}
+use Rattle.std.specs.List.{Contains, flat_map, range_with_len, zip}
 use Rattle.std.proofs.lemmas.Grind.{flat_map-append}
 use Rattle.std.proofs.lemmas.List.Elements.{Contains-append_cases, Contains-append_left, Contains-append_right}
 use Rattle.std.proofs.lemmas.List.{append-nil, append_assoc, take_all, take_more}
@@ -8,6 +8,7 @@ use Rattle.lrpar_grammar_places.proofs.ListLemmas.{range_more}
 use Rattle.lrpar_grammar.specs.Grammar.{GrammarSymbol, Nonterminal, Terminal}
 use Rattle.lrpar_table_rows.specs.Safe.{GoesBy}
 use Rattle.lrpar_table_rows.specs.Table.{Table, TableAction, ShiftTo, ReduceBy, Accepts, Fails, action_of, actions_at, gotos_at, states_len}
+use Rattle.lrpar_table_rows.proofs.StoredLemmas.{entries_len, entry_at}
 use Rattle.lrpar_table_build.proofs.MemberLemmas.{joined_has, joined_member, member_cases, member_none, range_has, range_member}
 use Rattle.lrpar_table_sentences.specs.Choices.{ChoiceOf}
 use Rattle.lrpar_table_sentences.specs.Lens.{len_at}
@@ -15,7 +16,7 @@ use Rattle.lrpar_table_sentences.specs.AccessLens.{AreEdges, EdgeOf, IsStoredAt,
 
 -- what is made of one element more comes after what is made of the first i
 module _ {X Y : Type 0} (f : X → List Y) (xs : List X) (i : ℕ) (x : X) where
-  pub made_more : (first before after : List Y) → i < length xs → x ≡ get_or xs i x → before ≡ first ++ flat_map f (take i xs) → after ≡ before ++ f x
+  made_more : (first before after : List Y) → i < length xs → x ≡ get_or xs i x → before ≡ first ++ flat_map f (take i xs) → after ≡ before ++ f x
       → after ≡ first ++ flat_map f (take (i + 1) xs)
   made_more first before after low is was now =
       let here : take (i + 1) xs ≡ take i xs ++ x ∷ [] = take_more xs i x low ∙ ap (λ y. take i xs ++ y ∷ []) (sym is) in
@@ -24,9 +25,23 @@ module _ {X Y : Type 0} (f : X → List Y) (xs : List X) (i : ℕ) (x : X) where
       now ∙ ap (λ ys. ys ++ f x) was ∙ append_assoc first (flat_map f (take i xs)) (f x) ∙ ap (λ ys. first ++ ys) (sym made)
 
 -- and what is made of all is all
-pub made_all : {X Y : Type 0} (f : X → List Y) (xs : List X) (i : ℕ) (first all : List Y) → length xs ≤ i → all ≡ first ++ flat_map f (take i xs)
+made_all : {X Y : Type 0} (f : X → List Y) (xs : List X) (i : ℕ) (first all : List Y) → length xs ≤ i → all ≡ first ++ flat_map f (take i xs)
     → all ≡ first ++ flat_map f xs
 made_all f xs i first all past is = is ∙ ap (λ ys. first ++ flat_map f ys) (take_all i xs past)
+
+-- what is made of each entry of stored keys and values, one entry after the other
+module _ {K V X Y : Type 0} (number : K → ℕ) (value : V → X) (ks : List K) (vs : List V) (es : List (ℕ × X)) (paired : length vs ≡ length ks)
+    (is : map (λ e. (number e.0, value e.1)) (zip ks vs) ≡ es) (f : ℕ × X → List Y) (first : List Y) where
+  pub entry_more : (i : ℕ) (k : K) (v : V) (before after : List Y) → i < length ks → k ≡ slice_index_or ks i k → v ≡ slice_index_or vs i v
+      → before ≡ first ++ flat_map f (take i es) → after ≡ before ++ f (number k, value v) → after ≡ first ++ flat_map f (take (i + 1) es)
+  entry_more i k v before after below key at so_far put =
+      let there = entry_at number value ks vs es paired is i k v below key at in
+      made_more f es i (number k, value v) first before after there.0 there.1 so_far put
+
+  pub entry_all : (i : ℕ) (all : List Y) → length ks ≤ i → all ≡ first ++ flat_map f (take i es) → all ≡ first ++ flat_map f es
+  entry_all i all past so_far =
+      let len = entries_len number value ks vs es paired is in
+      made_all f es i first all (omega (arith, len, past)) so_far
 
 -- a step that is made, if it is
 edge_if_parts : (o : Option ℕ) (s : ℕ) (x : GrammarSymbol) (next : ℕ) (e : EdgeOf) → Contains (edge_if o s x next) e

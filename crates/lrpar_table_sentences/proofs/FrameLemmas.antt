@@ -180,12 +180,42 @@ module _ (g : Grammar) (choices : List (Option ChoiceOf)) (symbols : List Gramma
       let empty = none_left g choices left.0 rest none left.1 in
       sym (append-nil moves) ∙ ap (λ ms. moves ++ ms) (sym empty) ∙ sym left.2
 
--- the last frame is the first to go on
-pub frame_popped : {S : Type 0} (index : S → ℕ) (g : Grammar) (choices : List (Option ChoiceOf)) (old : List FrameOf) (before : List MoveOf)
-    (frames left : List (Frame S)) (frame : Frame S) (moves : List MoveOf) → frames ≡ left ++ frame ∷ []
-    → Unfolding g choices old before (frames_of index frames) moves → Unfolding g choices old before (frame_of index frame ∷ frames_of index left) moves
-frame_popped index g choices old before frames left frame moves is so_far =
-    subst (λ (fs : List FrameOf). Unfolding g choices old before fs moves) (ap (frames_of index) is ∙ frames_pushed index left frame) so_far
+-- the last frame of the code was popped, and goes on
+module _ {S : Type 0} (index : S → ℕ) (g : Grammar) (choices : List (Option ChoiceOf)) (old : List FrameOf) (before : List MoveOf) (frames left : List (Frame S))
+    (frame : Frame S) (moves : List (Move S)) (popped : frames ≡ left ++ frame ∷ [])
+    (so_far : Unfolding g choices old before (frames_of index frames) (moves_in index moves)) where
+  frame_popped : Unfolding g choices old before (frame_of index frame ∷ frames_of index left) (moves_in index moves)
+  frame_popped =
+      subst (λ (fs : List FrameOf). Unfolding g choices old before fs (moves_in index moves)) (ap (frames_of index) popped ∙ frames_pushed index left frame) so_far
+
+  -- its node is made
+  pub popped_makes : drop frame.dot (symbols_of g (index frame.prod.0)) ≡ [] → (move : Move S) (after : List (Move S)) → move_of index move ≡ Makes (index frame.prod.0)
+      → after ≡ moves ++ move ∷ [] → Unfolding g choices old before (frames_of index left) (moves_in index after)
+  popped_makes none move after makes push =
+      let all : moves_in index after ≡ moves_in index moves ++ Makes (index frame.prod.0) ∷ [] =
+      ap (moves_in index) push ∙ moves_pushed index moves move ∙ ap (λ m. moves_in index moves ++ m ∷ []) makes in
+      subst (Unfolding g choices old before (frames_of index left)) (sym all)
+      (unfolding_makes g choices old before (index frame.prod.0) frame.dot (frames_of index left) (moves_in index moves) frame_popped none)
+
+  -- its next symbol is begun, on top of the frame itself with its dot moved on
+  module _ (s : GrammarSymbol) (at : drop frame.dot (symbols_of g (index frame.prod.0)) ≡ s ∷ drop (frame.dot + 1) (symbols_of g (index frame.prod.0)))
+      (next : Frame S) (put new : List (Frame S)) (next_is : frame_of index next ≡ record { prod = index frame.prod.0; dot = frame.dot + 1 })
+      (push : put ≡ left ++ next ∷ []) (after : List MoveOf) (derives : Bool)
+      (begins : Begins g choices s (frames_of index put) (frames_of index new) (moves_in index moves) after derives) where
+    begins_next : Begins g choices s (record { prod = index frame.prod.0; dot = frame.dot + 1 } ∷ frames_of index left) (frames_of index new) (moves_in index moves) after derives
+    begins_next =
+        subst (λ (fs : List FrameOf). Begins g choices s fs (frames_of index new) (moves_in index moves) after derives)
+        (ap (frames_of index) push ∙ frames_pushed index left next ∙ ap (λ f. f ∷ frames_of index left) next_is) begins
+
+    pub popped_goes : Unfolding g choices old before (frames_of index new) after
+    popped_goes =
+        unfolding_goes g choices old before (index frame.prod.0) frame.dot (frames_of index left) (moves_in index moves) frame_popped s (frames_of index new) after
+        derives at begins_next
+
+    pub popped_never : derives ≡ false → (all : List MoveOf) → Unfold g choices old all → ⊥
+    popped_never =
+        unfolding_never g choices old before (index frame.prod.0) frame.dot (frames_of index left) (moves_in index moves) frame_popped s (frames_of index new) after
+        derives at begins_next
 
 -- a list without length
 pub nothing_in : {X : Type 0} (xs : List X) → length xs ≡ 0 → xs ≡ []

@@ -1,13 +1,16 @@
 -- How rules can begin with a token. What is kept is right (there is a tree that begins so), and once each production that can begin lets
 -- its rule begin, all is kept: by induction on a tree whose first token it is.
-use Rattle.std.proofs.Common.{◌≡◌, ◌≢◌, ◌<◌, ◌≤◌, ◌+◌, ◌⊎◌, ◌∙◌, if◌then◌else◌, refl, sym, ap, subst, inl, inr, arith, ℕ, zero, suc, Bool, true, false, cond, nat_eq, not, List, [], ◌∷◌, ◌++◌, Option, Some, None, length, set}
+use Rattle.std.proofs.Common.{◌≡◌, ◌<◌, ◌≤◌, ◌+◌, ◌⊎◌, ◌∙◌, if◌then◌else◌, refl, sym, ap, subst, inl, inr, arith, ℕ, zero, suc, Bool, true, false, cond, nat_eq, not, List, [], ◌∷◌, ◌++◌, Option, Some, None, drop, get_or, length, map, set}
 use Rattle.std.specs.Option.{is_none, is_some, option_eq, option_map, option_map_or}
 use Rattle.std.proofs.lemmas.Bool.{cases_eq, eq-eqb, eqb-true, false≢true}
 use Rattle.std.proofs.lemmas.List.{get_or-set_other, get_or-set_same, length-set, map-set}
 use Rattle.std.proofs.lemmas.List.Sums.{sum_by-set}
 use Rattle.lrpar_grammar_places.specs.declared.span.PIdx.{PIdx}
+use Rattle.lrpar_grammar_places.specs.declared.span.Symbol.{Symbol}
 use Rattle.lrpar_grammar.specs.Grammar.{Grammar, GrammarSymbol, Nonterminal, Terminal, prods_len, rule_of, rules_len, symbols_of}
+use Rattle.lrpar_grammar.specs.Symbols.{symbol_of}
 use Rattle.lrpar_grammar.specs.Tree.{Tree, Forest, Leaf, Branch, Nil, Cons, leaves, forest_leaves}
+use Rattle.lrpar_table_first.proofs.RowLemmas.{symbols_from}
 use Rattle.lrpar_table_sentences.specs.Choices.{AreRight, AreShortest, ChoiceOf}
 use Rattle.lrpar_table_sentences.specs.Lens.{len_at, total_len}
 use Rattle.lrpar_table_sentences.specs.Starts.{AreStarts, CanStart, ForestStarts, StartOf, Starts, begins, further, is_zero, place_if, place_of, start_at, start_of, starts_of, starts_open}
@@ -54,13 +57,13 @@ module _ (choices : List (Option ChoiceOf)) (starts : List (Option StartOf)) (fi
   place_ends is = ap (λ (w : List GrammarSymbol). option_map (λ n. i + n) (place_of choices starts first w)) (sym is) ∙ so_far
 
   module _ (s : GrammarSymbol) (more : List GrammarSymbol) (is : rest ≡ s ∷ more) (b : Bool) (fact : b ≡ begins starts first s) where
-    pub place_found : b ≡ true → Some i ≡ all
+    place_found : b ≡ true → Some i ≡ all
     place_found here =
         let same : i ≡ i + 0 = omega arith in
         ap (λ (n : ℕ). Some n) same ∙ ap (option_map (λ n. i + n)) (sym (place_begins choices starts first s more (sym fact ∙ here)))
         ∙ ap (λ (w : List GrammarSymbol). option_map (λ n. i + n) (place_of choices starts first w)) (sym is) ∙ so_far
 
-    pub place_none : b ≡ false → option_eq nat_eq (len_at choices s) (Some 0) ≡ false → None ≡ all
+    place_none : b ≡ false → option_eq nat_eq (len_at choices s) (Some 0) ≡ false → None ≡ all
     place_none not_here some =
         ap (option_map (λ n. i + n)) (sym (place_stops choices starts first s more (sym fact ∙ not_here) (zero_is (len_at choices s) ∙ some)))
         ∙ ap (λ (w : List GrammarSymbol). option_map (λ n. i + n) (place_of choices starts first w)) (sym is) ∙ so_far
@@ -69,11 +72,31 @@ module _ (choices : List (Option ChoiceOf)) (starts : List (Option StartOf)) (fi
     shift None = refl
     shift (Some n) = let same : (i + 1) + n ≡ i + (n + 1) = omega arith in ap (λ (m : ℕ). Some m) same
 
-    pub place_more : b ≡ false → option_eq nat_eq (len_at choices s) (Some 0) ≡ true → option_map (λ n. (i + 1) + n) (place_of choices starts first more) ≡ all
+    place_more : b ≡ false → option_eq nat_eq (len_at choices s) (Some 0) ≡ true → option_map (λ n. (i + 1) + n) (place_of choices starts first more) ≡ all
     place_more not_here none =
         shift (place_of choices starts first more)
         ∙ ap (option_map (λ n. i + n)) (sym (place_on choices starts first s more (sym fact ∙ not_here) (zero_is (len_at choices s) ∙ none)))
         ∙ ap (λ (w : List GrammarSymbol). option_map (λ n. i + n) (place_of choices starts first w)) (sym is) ∙ so_far
+
+-- the same of symbols of code, at the place that was read
+module _ {S : Type 0} (index : S → ℕ) (choices : List (Option ChoiceOf)) (starts : List (Option StartOf)) (first : ℕ) (symbols : List (Symbol S)) (i : ℕ)
+    (all : Option ℕ) (so_far : option_map (λ n. i + n) (place_of choices starts first (drop i (map (symbol_of index) symbols))) ≡ all) (symbol : Symbol S)
+    (within : i < length symbols) (read : symbol ≡ get_or symbols i symbol) (b : Bool) (fact : b ≡ begins starts first (symbol_of index symbol)) where
+  pub found_at : b ≡ true → Some i ≡ all
+  found_at =
+      place_found choices starts first i (drop i (map (symbol_of index) symbols)) all so_far (symbol_of index symbol) (drop (i + 1) (map (symbol_of index) symbols))
+      (symbols_from index symbols i symbol within read) b fact
+
+  pub none_from : b ≡ false → option_eq nat_eq (len_at choices (symbol_of index symbol)) (Some 0) ≡ false → None ≡ all
+  none_from =
+      place_none choices starts first i (drop i (map (symbol_of index) symbols)) all so_far (symbol_of index symbol) (drop (i + 1) (map (symbol_of index) symbols))
+      (symbols_from index symbols i symbol within read) b fact
+
+  pub more_after : b ≡ false → option_eq nat_eq (len_at choices (symbol_of index symbol)) (Some 0) ≡ true
+      → option_map (λ n. (i + 1) + n) (place_of choices starts first (drop (i + 1) (map (symbol_of index) symbols))) ≡ all
+  more_after =
+      place_more choices starts first i (drop i (map (symbol_of index) symbols)) all so_far (symbol_of index symbol) (drop (i + 1) (map (symbol_of index) symbols))
+      (symbols_from index symbols i symbol within read) b fact
 
 -- a place is one of the symbols
 further_parts : (o : Option ℕ) (k : ℕ) → further o ≡ Some k → (n : ℕ) × (o ≡ Some n) × (n + 1 ≡ k)

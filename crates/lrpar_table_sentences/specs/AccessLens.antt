@@ -129,22 +129,13 @@ NoWalkIsBelow table most choices accesses len =
 abbrev pub open_accesses : List (Option AccessOf) → ℕ
 open_accesses accesses = count_by is_none accesses
 
--- these are appended to the code's steps: all of state s, its shifts, the step of one action at a token, its gotos, and one step if
--- its symbol has a length
+-- these are appended to the code's steps: all of state s, the step of one action at a token, and one step if its symbol has a length
 abbrev pub AppendsSteps : {S A : Type 0} → (S → ℕ) → Table → List (Option ChoiceOf) → StIdx S → Vec (Edge S) A → Vec (Edge S) A → Type 0
 AppendsSteps index table choices s old new = edges_of index new.items ≡ edges_of index old.items ++ edges_at table choices (index s.0)
-
-abbrev pub AppendsShifts : {S A : Type 0} → (S → ℕ) → Table → List (Option ChoiceOf) → StIdx S → Vec (Edge S) A → Vec (Edge S) A → Type 0
-AppendsShifts index table choices s old new =
-    edges_of index new.items ≡ edges_of index old.items ++ shift_edges choices (index s.0) (actions_at table (index s.0))
 
 abbrev pub AppendsShift : {S A : Type 0} → (S → ℕ) → List (Option ChoiceOf) → StIdx S → TIdx S → Action S → Vec (Edge S) A → Vec (Edge S) A → Type 0
 AppendsShift index choices s token action old new =
     edges_of index new.items ≡ edges_of index old.items ++ shift_edge choices (index s.0) (index token.0) (plain_action index action)
-
-abbrev pub AppendsGotos : {S A : Type 0} → (S → ℕ) → Table → List (Option ChoiceOf) → StIdx S → Vec (Edge S) A → Vec (Edge S) A → Type 0
-AppendsGotos index table choices s old new =
-    edges_of index new.items ≡ edges_of index old.items ++ goto_edges choices (index s.0) (gotos_at table (index s.0))
 
 abbrev pub AppendsStep : {S A : Type 0} → (S → ℕ) → List (Option ChoiceOf) → StIdx S → Symbol S → StIdx S → Vec (Edge S) A → Vec (Edge S) A → Type 0
 AppendsStep index choices from symbol next old new =

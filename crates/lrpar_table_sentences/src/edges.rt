@@ -1,7 +1,7 @@
 //! The steps of a table, with the lengths of their symbols.
 ghost use Rattle.std.specs.Prelude.{◌<◌, IfOk, OnOk};
 ghost use Rattle.lrpar_table_rows.specs.Table.{states_len};
-ghost use Rattle.lrpar_table_sentences.specs.AccessLens.{AppendsGotos, AppendsShift, AppendsShifts, AppendsStep, AppendsSteps, AreSteps, IsStoredAt, StoresActions, StoresGotos};
+ghost use Rattle.lrpar_table_sentences.specs.AccessLens.{AppendsShift, AppendsStep, AppendsSteps, AreSteps, IsStoredAt};
 
 use crate::shortest::Shortest;
 use crate::transitions::{Edge, Step};
@@ -36,24 +36,13 @@ fn push_edges<StorageT: StorageIndex>(
     ensures edges { OnOk result (AppendsSteps StorageT.index stable.now shortest.now s edges.old edges.new) }
     ensures stored { OnOk result (IsStoredAt stable.now (StorageT.index s.0)) }
 {
-    push_shifts(edges, stable, shortest, s)?;
-    push_gotos(edges, stable, shortest, s)
-}
-
-// Appends the state's shifts.
-fn push_shifts<StorageT: StorageIndex>(
-    edges: &mut Vec<Edge<StorageT>>,
-    stable: &StateTable<StorageT>,
-    shortest: &Shortest<StorageT>,
-    s: StIdx<StorageT>,
-) -> Result<(), AllocError>
-    requires { StorageT.index s.0 < states_len stable.now }
-    ensures edges { OnOk result (AppendsShifts StorageT.index stable.now shortest.now s edges.old edges.new) }
-    ensures stored { OnOk result (StoresActions stable.now (StorageT.index s.0)) }
-{
     let (tokens, actions) = stable.actions_of(s);
-    for (place, token) in tokens.iter().enumerate() {
+    'shifts: for (place, token) in tokens.iter().enumerate() {
         push_shift(edges, shortest, s, *token, actions[place])?;
+    }
+    let (rules, states) = stable.gotos_of(s);
+    'gotos: for (place, rule) in rules.iter().enumerate() {
+        push_edge(edges, shortest, s, Symbol::Rule(*rule), states[place])?;
     }
     Ok(())
 }
@@ -72,24 +61,6 @@ fn push_shift<StorageT: StorageIndex>(
         Action::Shift(next) => push_edge(edges, shortest, s, Symbol::Token(token), next),
         Action::Reduce(_) | Action::Accept | Action::Error => Ok(()),
     }
-}
-
-// Appends the state's gotos.
-fn push_gotos<StorageT: StorageIndex>(
-    edges: &mut Vec<Edge<StorageT>>,
-    stable: &StateTable<StorageT>,
-    shortest: &Shortest<StorageT>,
-    s: StIdx<StorageT>,
-) -> Result<(), AllocError>
-    requires { StorageT.index s.0 < states_len stable.now }
-    ensures edges { OnOk result (AppendsGotos StorageT.index stable.now shortest.now s edges.old edges.new) }
-    ensures stored { OnOk result (StoresGotos stable.now (StorageT.index s.0)) }
-{
-    let (rules, states) = stable.gotos_of(s);
-    for (place, rule) in rules.iter().enumerate() {
-        push_edge(edges, shortest, s, Symbol::Rule(*rule), states[place])?;
-    }
-    Ok(())
 }
 
 // Appends a step, if its symbol is productive.
