@@ -1,6 +1,7 @@
 -- The places of faults: the spans of the labels of their reports.
 use Rattle.std.specs.Prelude.{◌≡◌, ◌<◌, ◌≤◌, ◌+◌, ◌∷◌, ℕ, List, [], length}
 use Rattle.std.specs.Str.{IsCharBoundary}
+use Rattle.lrpar_grammar_places.specs.Facts.{LexemeFacts}
 use Rattle.lrpar_grammar_places.specs.Lines.{line_of}
 use Rattle.lrpar_grammar_places.specs.Span.{Extent}
 use Rattle.lrpar_grammar_reader.specs.declared.parts.GrammarFault.{GrammarFault}
@@ -17,7 +18,9 @@ use Rattle.lrpar_lexer_lrlex.specs.declared.fault.LrlexFault.{LrlexFault}
 use Rattle.lrpar_lexer_lrlex.specs.declared.fault.LrlexFault.TheVariants.{Declaration, Flag, Header, Memory as LrlexMemory, NoName, NoPattern, NoRules as NoRulesSign, OpenQuote, OpenState, Pattern, RepeatedState, StateName, UnknownState, UnknownToken as UnknownNameOfToken}
 use Rattle.lrpar_parse_errors.specs.declared.errors.LexParseError.{LexParseError}
 use Rattle.lrpar_parse_errors.specs.declared.errors.LexParseError.TheVariants.{LexError, ParseError}
-use Rattle.lrpar_report_lines.specs.Places.{IsFirstPlace, IsNextBoundary}
+use Rattle.lrpar_report_lines.specs.Labels.{label_spans}
+use Rattle.lrpar_report_lines.specs.Places.{FaultPlace, IsFirstPlace, IsNextBoundary}
+use Rattle.lrpar_report_lines.specs.declared.reports.Report.{Report}
 
 -- there is one span, which is such a span
 abbrev pub IsOne : (Extent → Type 0) → List Extent → Type 0
@@ -113,3 +116,15 @@ AreErrorSpans place span text (ParseError e) spans = spans ≡ span e.lexeme ∷
 -- the place of a fault that has such spans: the first of them, moved to boundaries of the text; without any, the text's start
 abbrev pub IsPlaceBy : (List Extent → Type 0) → List ℕ → Extent → Type 0
 IsPlaceBy AreSpans text place = (spans : List Extent) × AreSpans spans × IsFirstPlace text spans place
+
+-- the report has the spans of the error
+abbrev pub ShowsError : {S L B C : Type 0} → (C → Extent) → (B → LexemeFacts) → List ℕ → LexParseError S L B C → Report → Type 0
+ShowsError place parts text error report = AreErrorSpans place (λ x. (parts x).span) text error (label_spans report)
+
+-- the error is at the place of its spans
+abbrev pub IsErrorPlaced : {S L B C E : Type 0} → (C → Extent) → (B → LexemeFacts) → List ℕ → LexParseError S L B C → FaultPlace E → Type 0
+IsErrorPlaced place parts text error placed = IsPlaceBy (AreErrorSpans place (λ x. (parts x).span) text error) text placed.place
+
+-- the report has one label, at the character at a byte
+abbrev pub ShowsCharacter : List ℕ → ℕ → Report → Type 0
+ShowsCharacter text byte report = IsOne (IsCharacterAt text byte) (label_spans report)

@@ -1,7 +1,12 @@
 -- Rules that lead back to themselves while a parse shifts no token.
-use Rattle.std.specs.Prelude.{◌≡◌, ◌<◌, ◌+◌, ◌∷◌, ℕ, List, [], Some, drop, slice_get, take}
+use Rattle.std.specs.Prelude.{◌≡◌, ◌<◌, ◌+◌, ◌∷◌, ℕ, Bool, IfSome, List, [], Option, Some, Vec, drop, map, slice_get, take}
+use Rattle.std.specs.Bool.{OnTrue}
+use Rattle.lrpar_grammar_places.specs.declared.span.RIdx.{RIdx}
+use Rattle.lrpar_grammar_places.specs.declared.span.Symbol.{Symbol}
 use Rattle.lrpar_grammar.specs.Grammar.{Grammar, GrammarSymbol, Nonterminal, prods_len, rule_of, symbols_of}
+use Rattle.lrpar_grammar.specs.Symbols.{symbol_of}
 use Rattle.lrpar_grammar.specs.Tree.{Forest, forest_leaves}
+use Rattle.lrpar_table_sentences.specs.Choices.{AreShortest, ChoiceOf}
 use Rattle.lrpar_table_sentences.specs.Texts.{AreTreesOf}
 use Rattle.lrpar_report.specs.declared.loops.LoopKind.{LoopKind}
 use Rattle.lrpar_report.specs.declared.loops.LoopKind.TheVariants.{DerivesItself, IsHiddenLeft}
@@ -54,3 +59,31 @@ Begins IsHiddenLeft (step ∷ steps) = 0 < step.place
 pub record IsLoop (kind : LoopKind) (g : Grammar) (steps : List StepOf) : Type 0 where
   pub begins : Begins kind steps
   pub leads : (r : ℕ) × Lead kind g r steps r
+
+-- these steps are a loop
+abbrev pub IsLoopBy : {S : Type 0} → (S → ℕ) → LoopKind → Grammar → List (LoopStep S) → Type 0
+IsLoopBy index kind g steps = IsLoop kind g (map (step_of index) steps)
+
+-- if steps are found, they are a loop
+abbrev pub FindsLoop : {S A : Type 0} → (S → ℕ) → LoopKind → Grammar → Option (Vec (LoopStep S) A) → Type 0
+FindsLoop index kind g found = IfSome found (λ steps. IsLoopBy index kind g steps.items)
+
+-- the symbol at that place is this rule
+abbrev pub IsRuleAt : {S : Type 0} → (S → ℕ) → List (Symbol S) → ℕ → RIdx S → Type 0
+IsRuleAt index symbols place rule = slice_get (map (symbol_of index) symbols) place ≡ Some (Nonterminal (index rule.0))
+
+-- the steps lead from the one rule to the other
+abbrev pub LeadTo : {S : Type 0} → (S → ℕ) → LoopKind → Grammar → RIdx S → List (LoopStep S) → RIdx S → Type 0
+LeadTo index kind g from steps to = Lead kind g (index from.0) (map (step_of index) steps) (index to.0)
+
+-- the step leads from the one rule to the other
+abbrev pub IsStepTo : {S : Type 0} → (S → ℕ) → LoopKind → Grammar → RIdx S → LoopStep S → RIdx S → Type 0
+IsStepTo index kind g from step to = IsStep kind g (index from.0) (step_of index step) (index to.0)
+
+-- in each grammar of which the choices are kept: if this is true, a step of the kind can lead to the symbol at the place
+abbrev pub TellsPlace : {S : Type 0} → (S → ℕ) → ℕ → List (Option ChoiceOf) → LoopKind → List (Symbol S) → ℕ → Bool → Type 0
+TellsPlace index most choices kind symbols place is = (g : Grammar) → AreShortest g most choices → OnTrue is (IsPlaceOf kind g (map (symbol_of index) symbols) place)
+
+-- in each grammar of which the choices are kept: if this is true, the symbols derive the empty text
+abbrev pub TellsEmpty : {S : Type 0} → (S → ℕ) → ℕ → List (Option ChoiceOf) → List (Symbol S) → Bool → Type 0
+TellsEmpty index most choices symbols is = (g : Grammar) → AreShortest g most choices → OnTrue is (DeriveNothing g (map (symbol_of index) symbols))

@@ -1,7 +1,7 @@
 //! Reports of errors of inputs.
-ghost use Rattle.std.specs.Prelude.{◌≡◌, ◌∷◌, [], IfOk};
-ghost use Rattle.lrpar_report.specs.FaultPlaces.{AreErrorSpans, IsCharacterAt, IsOne};
-ghost use Rattle.lrpar_report_lines.specs.Labels.{label_spans};
+ghost use Rattle.std.specs.Prelude.{◌≡◌, IfOk};
+ghost use Rattle.lrpar_report.specs.FaultPlaces.{IsCharacterAt, ShowsCharacter, ShowsError};
+ghost use Rattle.lrpar_report_lines.specs.Labels.{HasOneLabel};
 ghost use Rattle.lrpar_report_lines.specs.declared.levels.Level.TheVariants.{Error};
 
 use crate::choices::{push_choices, push_quoted};
@@ -28,8 +28,7 @@ pub fn error_report<StorageT: StorageIndex, LexerTypesT: LexerTypes<StorageT = S
     error: &LexParseError<StorageT, LexerTypesT>,
 ) -> Result<Report, AllocError>
     ensures level { IfOk result (λ report. report.level ≡ Error) }
-    ensures spans { IfOk result (λ report. AreErrorSpans LexerTypesT.LexErrorT.place (λ x. (LexerTypesT.LexemeT.parts x).span) text.now error.now
-        (label_spans report)) }
+    ensures spans { IfOk result (ShowsError LexerTypesT.LexErrorT.place LexerTypesT.LexemeT.parts text.now error.now) }
 {
     match error {
         LexParseError::LexError(error) => lexing_report(alloc, text, error),
@@ -47,7 +46,7 @@ pub fn lexing_report<ErrorT: LexError>(
     error: &ErrorT,
 ) -> Result<Report, AllocError>
     ensures level { IfOk result (λ report. report.level ≡ Error) }
-    ensures span { IfOk result (λ report. IsOne (IsCharacterAt text.now (ErrorT.place error.now).start) (label_spans report)) }
+    ensures span { IfOk result (ShowsCharacter text.now (ErrorT.place error.now).start) }
 {
     let span = character_at(text, error.span().start());
     let mut message = String::from_str(alloc, "unexpected ")?;
@@ -88,7 +87,7 @@ pub fn parse_report<LexemeT: Lexeme<StorageT>, StorageT: StorageIndex>(
     error: &ParseError<LexemeT, StorageT>,
 ) -> Result<Report, AllocError>
     ensures level { IfOk result (λ report. report.level ≡ Error) }
-    ensures span { IfOk result (λ report. label_spans report ≡ (LexemeT.parts (error.now).lexeme).span ∷ []) }
+    ensures span { IfOk result (HasOneLabel (LexemeT.parts (error.now).lexeme).span) }
 {
     let expected = error.expected(data);
     let report = unexpected_report(alloc, data.grm(), text, error.lexeme(), expected)?;
@@ -107,7 +106,7 @@ pub fn unexpected_report<LexemeT: Lexeme<StorageT>, StorageT: StorageIndex>(
     expected: &[TIdx<StorageT>],
 ) -> Result<Report, AllocError>
     ensures level { IfOk result (λ report. report.level ≡ Error) }
-    ensures span { IfOk result (λ report. label_spans report ≡ (LexemeT.parts lexeme.now).span ∷ []) }
+    ensures span { IfOk result (HasOneLabel (LexemeT.parts lexeme.now).span) }
 {
     let is_end = lexeme.tok_id().to_index().saturating_add(1) >= grm.tokens_len();
     let mut message = String::from_str(alloc, "unexpected ")?;

@@ -1,7 +1,7 @@
 //! Reports of faults in grammar texts.
-ghost use Rattle.std.specs.Prelude.{◌≡◌, ◌∷◌, [], IfOk};
+ghost use Rattle.std.specs.Prelude.{◌≡◌, IfOk};
 ghost use Rattle.lrpar_report.specs.FaultPlaces.{AreGrammarSpans, IsOne, StartsAt};
-ghost use Rattle.lrpar_report_lines.specs.Labels.{label_spans};
+ghost use Rattle.lrpar_report_lines.specs.Labels.{HasOneLabel, label_spans};
 ghost use Rattle.lrpar_report_lines.specs.declared.levels.Level.TheVariants.{Error};
 
 use crate::choices::push_quoted;
@@ -63,7 +63,7 @@ pub(crate) fn named(
     label: &str,
 ) -> Result<Report, AllocError>
     ensures level { IfOk result (λ report. report.level ≡ Error) }
-    ensures span { IfOk result (λ report. label_spans report ≡ span ∷ []) }
+    ensures span { IfOk result (HasOneLabel span) }
 {
     let mut message = String::from_str(alloc, kind)?;
     message.push(' ')?;
@@ -81,7 +81,7 @@ pub(crate) fn part(text: &str, span: Span) -> &str {
 // The report of a name that is neither a rule nor a declared token.
 fn unknown_rule(alloc: Global, text: &str, span: Span) -> Result<Report, AllocError>
     ensures level { IfOk result (λ report. report.level ≡ Error) }
-    ensures span { IfOk result (λ report. label_spans report ≡ span ∷ []) }
+    ensures span { IfOk result (HasOneLabel span) }
 {
     let mut label = String::new(alloc);
     if let Ok(outline) = outline_of(alloc, text)? {
@@ -98,7 +98,7 @@ fn unknown_rule(alloc: Global, text: &str, span: Span) -> Result<Report, AllocEr
 // The report of a name after `%epp` that is no token.
 fn unknown_token(alloc: Global, text: &str, span: Span) -> Result<Report, AllocError>
     ensures level { IfOk result (λ report. report.level ≡ Error) }
-    ensures span { IfOk result (λ report. label_spans report ≡ span ∷ []) }
+    ensures span { IfOk result (HasOneLabel span) }
 {
     let mut label = String::new(alloc);
     if let Ok(outline) = outline_of(alloc, text)? {

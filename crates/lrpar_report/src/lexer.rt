@@ -1,7 +1,7 @@
 //! Reports of faults in the rules of a lexer.
-ghost use Rattle.std.specs.Prelude.{◌≡◌, ◌∷◌, [], IfOk};
+ghost use Rattle.std.specs.Prelude.{◌≡◌, IfOk};
 ghost use Rattle.lrpar_report.specs.FaultPlaces.{AreRulesSpans, IsOnLine, IsOne, IsWithin};
-ghost use Rattle.lrpar_report_lines.specs.Labels.{label_spans};
+ghost use Rattle.lrpar_report_lines.specs.Labels.{HasOneLabel, label_spans};
 ghost use Rattle.lrpar_report_lines.specs.declared.levels.Level.TheVariants.{Error};
 
 use crate::choices::push_quoted;
@@ -90,7 +90,7 @@ fn core_of(text: &str, line: Span) -> Span
 // The report of a line that isn't written as a rule.
 fn unread(alloc: Global, core: Span) -> Result<Report, AllocError>
     ensures level { IfOk result (λ report. report.level ≡ Error) }
-    ensures span { IfOk result (λ report. label_spans report ≡ core ∷ []) }
+    ensures span { IfOk result (HasOneLabel core) }
 {
     let label = "expected PATTERN 'NAME' for a token, or PATTERN ; for what is skipped";
     Report::error(alloc, "this line is no rule")?.label(core, label)

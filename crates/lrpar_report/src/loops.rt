@@ -1,10 +1,9 @@
 //! Rules that lead back to themselves while a parse shifts no token.
-ghost use Rattle.std.specs.Prelude.{◌≡◌, ◌<◌, ◌∷◌, IfOk, IfSome, List, Some, length, map, slice_get};
+ghost use Rattle.std.specs.Prelude.{◌<◌, ◌∷◌, IfOk, IfSome, List, length};
 ghost use Rattle.std.specs.Bool.{OnTrue};
-ghost use Rattle.lrpar_grammar.specs.Grammar.{Grammar, Nonterminal, prods_len};
-ghost use Rattle.lrpar_grammar.specs.Symbols.{symbol_of};
+ghost use Rattle.lrpar_grammar.specs.Grammar.{prods_len};
 ghost use Rattle.lrpar_table_sentences.specs.Choices.{AreShortest};
-ghost use Rattle.lrpar_report.specs.Loops.{Begins, DeriveNothing, IsLoop, IsPlaceOf, IsStep, Lead, StepOf, step_of};
+ghost use Rattle.lrpar_report.specs.Loops.{Begins, FindsLoop, IsLoopBy, IsRuleAt, IsStepTo, LeadTo, StepOf, TellsEmpty, TellsPlace, step_of};
 
 use lrpar_grammar::grammar::YaccGrammar;
 use lrpar_grammar::span::{PIdx, RIdx, StorageIndex, Symbol};
@@ -46,7 +45,7 @@ pub(crate) fn loop_of<StorageT: StorageIndex>(
     kind: LoopKind,
     rule: Option<RIdx<StorageT>>,
 ) -> Result<Option<Vec<LoopStep<StorageT>>>, AllocError>
-    ensures { IfOk result (λ found. IfSome found (λ steps. IsLoop kind grm.now (map (step_of StorageT.index) steps.items))) }
+    ensures { IfOk result (FindsLoop StorageT.index kind grm.now) }
 {
     let shortest = Shortest::new(alloc, grm)?;
     let steps = steps_of(alloc, grm, &shortest, kind)?;
@@ -115,7 +114,7 @@ fn rule_at<StorageT: StorageIndex>(
     place: usize,
 ) -> Option<RIdx<StorageT>>
     ensures within { IfSome result (λ rule. place < length symbols.now) }
-    ensures rule { IfSome result (λ rule. slice_get (map (symbol_of StorageT.index) symbols.now) place ≡ Some (Nonterminal (StorageT.index rule.0))) }
+    ensures rule { IfSome result (IsRuleAt StorageT.index symbols.now place) }
 {
     match symbols.get(place) {
         Some(Symbol::Rule(rule)) => Some(*rule),
@@ -272,7 +271,7 @@ fn is_loop<StorageT: StorageIndex>(
     steps: &[LoopStep<StorageT>],
 ) -> bool
     requires { AreShortest grm.now usize.MAX shortest.now }
-    ensures { OnTrue result (IsLoop kind grm.now (map (step_of StorageT.index) steps.now)) }
+    ensures { OnTrue result (IsLoopBy StorageT.index kind grm.now steps.now) }
 {
     let Some((first, _)) = steps.split_first() else {
         return false;
@@ -295,7 +294,7 @@ fn end_of<StorageT: StorageIndex>(
     from: RIdx<StorageT>,
 ) -> Option<RIdx<StorageT>>
     requires { AreShortest grm.now usize.MAX shortest.now }
-    ensures { IfSome result (λ to. Lead kind grm.now (StorageT.index from.0) (map (step_of StorageT.index) steps.now) (StorageT.index to.0)) }
+    ensures { IfSome result (LeadTo StorageT.index kind grm.now from steps.now) }
 {
     let mut rule = from;
     'steps: for step in steps {
@@ -316,7 +315,7 @@ fn end_of_step<StorageT: StorageIndex>(
     step: LoopStep<StorageT>,
 ) -> Option<RIdx<StorageT>>
     requires { AreShortest grm.now usize.MAX shortest.now }
-    ensures { IfSome result (λ to. IsStep kind grm.now (StorageT.index from.0) (step_of StorageT.index step) (StorageT.index to.0)) }
+    ensures { IfSome result (IsStepTo StorageT.index kind grm.now from step) }
 {
     if usize::from(step.prod) >= grm.prods_len()
         || usize::from(grm.prod_to_rule(step.prod)) != usize::from(from)
@@ -340,7 +339,7 @@ fn is_place<StorageT: StorageIndex>(
     place: usize,
 ) -> bool
     requires { place < length symbols.now }
-    ensures { (g : Grammar) → AreShortest g usize.MAX shortest.now → OnTrue result (IsPlaceOf kind g (map (symbol_of StorageT.index) symbols.now) place) }
+    ensures { TellsPlace StorageT.index usize.MAX shortest.now kind symbols.now place result }
 {
     match kind {
         LoopKind::DerivesItself => {
@@ -356,7 +355,7 @@ fn derive_nothing<StorageT: StorageIndex>(
     shortest: &Shortest<StorageT>,
     symbols: &[Symbol<StorageT>],
 ) -> bool
-    ensures { (g : Grammar) → AreShortest g usize.MAX shortest.now → OnTrue result (DeriveNothing g (map (symbol_of StorageT.index) symbols.now)) }
+    ensures { TellsEmpty StorageT.index usize.MAX shortest.now symbols.now result }
 {
     match shortest.len_of_all(symbols) {
         Some(len) => len == 0,

@@ -1,7 +1,7 @@
 //! Reports of faults in `.l` files of lrlex.
-ghost use Rattle.std.specs.Prelude.{◌≡◌, ◌∷◌, [], IfOk};
+ghost use Rattle.std.specs.Prelude.{◌≡◌, IfOk};
 ghost use Rattle.lrpar_report.specs.FaultPlaces.{AreLrlexSpans, IsOne, IsStartOf};
-ghost use Rattle.lrpar_report_lines.specs.Labels.{label_spans};
+ghost use Rattle.lrpar_report_lines.specs.Labels.{HasOneLabel, label_spans};
 ghost use Rattle.lrpar_report_lines.specs.declared.levels.Level.TheVariants.{Error};
 
 use crate::choices::push_quoted;
@@ -69,7 +69,7 @@ pub fn lrlex_report(
 // A report with one label.
 fn labelled(alloc: Global, message: &str, span: Span, label: &str) -> Result<Report, AllocError>
     ensures level { IfOk result (λ report. report.level ≡ Error) }
-    ensures span { IfOk result (λ report. label_spans report ≡ span ∷ []) }
+    ensures span { IfOk result (HasOneLabel span) }
 {
     Report::error(alloc, message)?.label(span, label)
 }
@@ -94,7 +94,7 @@ fn sign_of(span: Span) -> Span
 // The report of a flag that isn't honoured.
 fn bad_flag(alloc: Global, text: &str, span: Span) -> Result<Report, AllocError>
     ensures level { IfOk result (λ report. report.level ≡ Error) }
-    ensures span { IfOk result (λ report. label_spans report ≡ span ∷ []) }
+    ensures span { IfOk result (HasOneLabel span) }
 {
     let flag = part(text, span);
     let mut label = String::new(alloc);
@@ -105,7 +105,7 @@ fn bad_flag(alloc: Global, text: &str, span: Span) -> Result<Report, AllocError>
 // The report of a name that no start state can have.
 fn bad_name(alloc: Global, text: &str, span: Span) -> Result<Report, AllocError>
     ensures level { IfOk result (λ report. report.level ≡ Error) }
-    ensures span { IfOk result (λ report. label_spans report ≡ span ∷ []) }
+    ensures span { IfOk result (HasOneLabel span) }
 {
     let what = "can't be that of a start state";
     let label = "expected ASCII letters, digits, '_' and '.', and a letter first";
@@ -115,7 +115,7 @@ fn bad_name(alloc: Global, text: &str, span: Span) -> Result<Report, AllocError>
 // The report of a start state that is declared already.
 fn repeated_state(alloc: Global, text: &str, span: Span) -> Result<Report, AllocError>
     ensures level { IfOk result (λ report. report.level ≡ Error) }
-    ensures span { IfOk result (λ report. label_spans report ≡ span ∷ []) }
+    ensures span { IfOk result (HasOneLabel span) }
 {
     let label = "an earlier line has it, or it is INITIAL, which is always there";
     named(alloc, text, span, "start state", "is declared twice", label)
@@ -124,7 +124,7 @@ fn repeated_state(alloc: Global, text: &str, span: Span) -> Result<Report, Alloc
 // The report of a start state that isn't declared.
 fn unknown_state(alloc: Global, text: &str, span: Span) -> Result<Report, AllocError>
     ensures level { IfOk result (λ report. report.level ≡ Error) }
-    ensures span { IfOk result (λ report. label_spans report ≡ span ∷ []) }
+    ensures span { IfOk result (HasOneLabel span) }
 {
     let mut label = String::new(alloc);
     let names = declared_states(alloc, text)?;
@@ -167,7 +167,7 @@ fn unknown_token(
     span: Span,
 ) -> Result<Report, AllocError>
     ensures level { IfOk result (λ report. report.level ≡ Error) }
-    ensures span { IfOk result (λ report. label_spans report ≡ span ∷ []) }
+    ensures span { IfOk result (HasOneLabel span) }
 {
     let mut message = String::from_str(alloc, "the grammar has no token ")?;
     push_quoted(&mut message, part(text, span))?;
@@ -179,7 +179,7 @@ fn unknown_token(
 // The report of a pattern that is refused.
 fn bad_pattern(alloc: Global, span: Span, error: &regex::Error) -> Result<Report, AllocError>
     ensures level { IfOk result (λ report. report.level ≡ Error) }
-    ensures span { IfOk result (λ report. label_spans report ≡ span ∷ []) }
+    ensures span { IfOk result (HasOneLabel span) }
 {
     let mut message = String::from_str(alloc, "bad pattern: ")?;
     push_refusal(&mut message, error)?;

@@ -1,7 +1,7 @@
 //! Faults with their places, for `DiagnosticFormatter::format_error`.
 ghost use Rattle.std.specs.Prelude.{◌≡◌, IfOk};
 ghost use Rattle.lrpar_grammar_places.specs.Span.{IsPartOf};
-ghost use Rattle.lrpar_report.specs.FaultPlaces.{AreErrorSpans, AreGrammarSpans, AreRulesSpans, IsPlaceBy};
+ghost use Rattle.lrpar_report.specs.FaultPlaces.{AreGrammarSpans, AreRulesSpans, IsErrorPlaced, IsPlaceBy};
 
 use crate::errors::error_report;
 use crate::grammar::grammar_report;
@@ -62,8 +62,7 @@ pub fn placed_error<StorageT: StorageIndex, LexerTypesT: LexerTypes<StorageT = S
 ) -> Result<PlacedFault<LexParseError<StorageT, LexerTypesT>>, AllocError>
     ensures fault { IfOk result (λ placed. placed.fault ≡ error) }
     ensures part { IfOk result (λ placed. IsPartOf text.now placed.place) }
-    ensures place { IfOk result (λ placed. IsPlaceBy
-        (AreErrorSpans LexerTypesT.LexErrorT.place (λ x. (LexerTypesT.LexemeT.parts x).span) text.now error) text.now placed.place) }
+    ensures place { IfOk result (IsErrorPlaced LexerTypesT.LexErrorT.place LexerTypesT.LexemeT.parts text.now error) }
 {
     let report = error_report(alloc, data, text, &error)?;
     Ok(PlacedFault::new(text, &report, error))

@@ -1,8 +1,8 @@
 //! Reports of faults in `.y` files.
-ghost use Rattle.std.specs.Prelude.{◌≡◌, ◌∷◌, ℕ, List, [], IfOk, IfSome, string_bytes};
+ghost use Rattle.std.specs.Prelude.{◌≡◌, ℕ, List, IfOk, IfSome, string_bytes};
 ghost use Rattle.lrpar_grammar_yacc.specs.Erasure.{erasure};
 ghost use Rattle.lrpar_report.specs.FaultPlaces.{AreDeclaredSpans, AreGrammarSpans, AreYaccSpans, IsStartOf};
-ghost use Rattle.lrpar_report_lines.specs.Labels.{label_spans};
+ghost use Rattle.lrpar_report_lines.specs.Labels.{HasOneLabel, label_spans};
 ghost use Rattle.lrpar_report_lines.specs.declared.levels.Level.TheVariants.{Error};
 
 use crate::grammar::{grammar_report, named, outline_of, part, push_near};
@@ -73,7 +73,7 @@ fn start_of(span: Span) -> Span
 // The report of a number of conflicts that is none.
 fn bad_number(alloc: Global, text: &str, span: Span) -> Result<Report, AllocError>
     ensures level { IfOk result (λ report. report.level ≡ Error) }
-    ensures span { IfOk result (λ report. label_spans report ≡ span ∷ []) }
+    ensures span { IfOk result (HasOneLabel span) }
 {
     if span.is_empty() {
         let label = "expected the number of conflicts";
@@ -186,7 +186,7 @@ fn unknown_token(
     span: Span,
 ) -> Result<Report, AllocError>
     ensures level { IfOk result (λ report. report.level ≡ Error) }
-    ensures span { IfOk result (λ report. label_spans report ≡ span ∷ []) }
+    ensures span { IfOk result (HasOneLabel span) }
 {
     let mut label = String::new(alloc);
     if let Some(read) = read(alloc, kind, text)? {
