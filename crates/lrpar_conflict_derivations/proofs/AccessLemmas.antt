@@ -4,10 +4,12 @@ use Rattle.std.proofs.lemmas.List.{append_assoc, append-nil, length-reverse, len
 use Rattle.std.proofs.lemmas.Bool.{eq-eqb, ne_eqb}
 use Rattle.lrpar_grammar.specs.Grammar.{Grammar, GrammarSymbol, IsWellFormed, end_token, start_prod}
 use Rattle.lrpar_table_rows.specs.Graph.{Graph, HasItem, item_at}
+use Rattle.lrpar_table_items.specs.Canonical.{sets_of}
 use Rattle.lrpar_table_items.specs.ItemSets.{IsReachedBy}
 use Rattle.lrpar_table_build.proofs.ReachedLemmas.{reached_at_end, start_item_at_start}
 use Rattle.lrpar_table_sentences.specs.Moves.{MoveOf, Makes}
 use Rattle.lrpar_table_sentences.specs.AccessStrings.{StepOf, symbols_in}
+use Rattle.lrpar_conflict_derivations.specs.ClosureLinks.{IsKernelItem}
 use Rattle.lrpar_conflict_derivations.specs.Completion.{LeadsToKernel, HasFinished, HasItemFor, IsAccessPath, LeadsUp, UpOf, place_at, state_before}
 use Rattle.lrpar_conflict_derivations.proofs.CompletionLemmas.{comes_from, up_back, up_end, up_then}
 
@@ -33,6 +35,11 @@ reversed_front symbols i k low within =
     let turned : reverse all ≡ reverse (drop (i - k) all) ++ reverse (take (i - k) all) = ap reverse (sym parts) ∙ reverse-append (take (i - k) all) (drop (i - k) all) in
     ap (drop k) turned ∙ drop_at (reverse (drop (i - k) all)) (reverse (take (i - k) all)) k back ∙ ap reverse front
 
+-- the state before the end is the last one
+state_last : (steps : List StepOf) (last : ℕ) → state_before steps last (length steps) ≡ last
+state_last steps last =
+    let long = length-map steps (λ (x : StepOf). x.from) in get_or_past (map (λ (x : StepOf). x.from) steps) (length steps) last (omega (arith, long))
+
 module _ (g : Grammar) (well : IsWellFormed g) (graph : Graph) (steps : List StepOf) (last : ℕ) (access_path : IsAccessPath g graph steps last) (token : ℕ) where
   -- from an item of the state at a place back to where its dot is at the front
   pub record IsBack (i p k : ℕ) (asked : Bool) : Type 0 where
@@ -40,7 +47,7 @@ module _ (g : Grammar) (well : IsWellFormed g) (graph : Graph) (steps : List Ste
     pub item : HasItemFor graph (state_before steps last (i - k)) token p 0 asked
     pub leads : LeadsUp g token (place_at (take i (symbols_in steps)) p k asked) [] (place_at (take (i - k) (symbols_in steps)) p 0 asked)
 
-  pub back_from : (i p k : ℕ) (asked : Bool) → i ≤ length steps → HasItemFor graph (state_before steps last i) token p k asked → IsBack i p k asked
+  back_from : (i p k : ℕ) (asked : Bool) → i ≤ length steps → HasItemFor graph (state_before steps last i) token p k asked → IsBack i p k asked
   back_from i p k asked inside item =
       let symbols = symbols_in steps in
       let long : length symbols ≡ length steps = length-map steps (λ (x : StepOf). x.symbol) in
@@ -62,19 +69,38 @@ module _ (g : Grammar) (well : IsWellFormed g) (graph : Graph) (steps : List Ste
             (subst (λ (w : List GrammarSymbol). LeadsUp g token (place_at (reverse path) p k asked) [] (place_at w p 0 asked)) second up);
       }
 
-  -- at first
-  pub finishing_first : (p k : ℕ) (asked : Bool) (old : List MoveOf) → IsBack (length steps) p k asked
-      → IsFinishing g token (symbols_in steps) p k asked old old (take (length steps - k) (symbols_in steps)) p asked
-  finishing_first p k asked old back =
+  -- from an item of the last state
+  pub back_from_last : (p k : ℕ) (asked : Bool) → HasItemFor graph last token p k asked → IsBack (length steps) p k asked
+  back_from_last p k asked item =
+      back_from (length steps) p k asked (omega arith) (subst (λ (s : ℕ). HasItemFor graph s token p k asked) (sym (state_last steps last)) item)
+
+  -- from a kernel item of the state before a place
+  pub back_from_kernel : (i s : ℕ) (up : UpOf) → i ≤ length steps → s ≡ state_before steps last i
+      → IsKernelItem g (sets_of graph s) token up.prod up.dot up.asked → IsBack i up.prod up.dot up.asked
+  back_from_kernel i s up inside is begun =
+      back_from i up.prod up.dot up.asked inside
+      (begun.lookahead, subst (λ (n : ℕ). HasItem graph n up.prod up.dot begun.lookahead) is begun.item, begun.own)
+
+  -- at first, from an item of the last state; n is the number of steps
+  pub finishing_first : (p k : ℕ) (asked : Bool) (old : List MoveOf) (n : ℕ) → length steps ≡ n → HasItemFor graph last token p k asked
+      → (n - k ≤ length steps) × HasItemFor graph (state_before steps last (n - k)) token p 0 asked
+      × IsFinishing g token (symbols_in steps) p k asked old old (take (n - k) (symbols_in steps)) p asked
+  finishing_first p k asked old n len item =
       let symbols = symbols_in steps in
+      let back = back_from_last p k asked item in
       let long : length symbols ≡ length steps = length-map steps (λ (x : StepOf). x.symbol) in
-      let all : take (length steps) symbols ≡ symbols = take_all (length steps) symbols (omega (arith, long)) in record {
+      let all : take (length steps) symbols ≡ symbols = take_all (length steps) symbols (omega (arith, long)) in
+      let begun : IsFinishing g token symbols p k asked old old (take (length steps - k) symbols) p asked = record {
         done = [];
         moves = sym (append-nil old);
         leads =
             subst (λ (w : List GrammarSymbol). LeadsUp g token (place_at w p k asked) [] (place_at (take (length steps - k) symbols) p 0 asked)) all back.leads;
         begins = inl (refl, refl);
-      }
+      } in
+      let Ready = λ (m : ℕ).
+      (m - k ≤ length steps) × HasItemFor graph (state_before steps last (m - k)) token p 0 asked
+      × IsFinishing g token symbols p k asked old old (take (m - k) symbols) p asked in
+      subst Ready len (omega arith, back.item, begun)
 
   -- one state further up
   pub finishing_more : (p k : ℕ) (asked : Bool) (old middle new : List MoveOf) (i q : ℕ) (further : Bool) (up : UpOf)
@@ -128,11 +154,6 @@ module _ (g : Grammar) (well : IsWellFormed g) (graph : Graph) (steps : List Ste
               | inr later ↦ later
             ];
       }
-
--- the state before the end is the last one
-pub state_last : (steps : List StepOf) (last : ℕ) → state_before steps last (length steps) ≡ last
-state_last steps last =
-    let long = length-map steps (λ (x : StepOf). x.from) in get_or_past (map (λ (x : StepOf). x.from) steps) (length steps) last (omega (arith, long))
 
 -- a number is one if another one isn't the start production's, and at most one in any case
 other_one : (q s : ℕ) → q ≢ s → ◌≡◌ {A = ℕ} (if q == s then 0 else 1) 1

@@ -1,5 +1,5 @@
 -- A shortest access path of a state and minimal sentences of its symbols are a shortest access string.
-use Rattle.std.proofs.Common.{◌≡◌, ◌<◌, ◌≤◌, ◌∙◌, refl, sym, ap, subst, inl, inr, arith, ℕ, List, [], ◌∷◌, All, None, Option, Some, length, map, min, option_map, reverse, slice_get, take}
+use Rattle.std.proofs.Common.{◌≡◌, ◌<◌, ◌≤◌, ◌∙◌, refl, sym, ap, subst, inl, inr, arith, ℕ, List, [], ◌∷◌, ◌++◌, All, None, Option, Some, length, map, min, option_map, reverse, slice_get, take}
 use Rattle.std.proofs.lemmas.Bool.{cases_lt}
 use Rattle.std.proofs.lemmas.List.{get_or_past, length-map, reverse-append, reverse-reverse, take_all}
 use Rattle.std.proofs.lemmas.List.Elements.{All-append, All-cons, All-head, All-nil, All-tail}
@@ -11,10 +11,12 @@ use Rattle.lrpar_table_build.specs.Built.{IsBuilt}
 use Rattle.lrpar_table_items.specs.Canonical.{AreSame, sets_of}
 use Rattle.lrpar_table_items.specs.ItemSets.{IsAdvanced, IsReachedBy}
 use Rattle.lrpar_table_build.proofs.ReachedLemmas.{closure_each, known_by_symbol}
-use Rattle.lrpar_table_sentences.specs.Moves.{MoveOf, forest_moves}
+use Rattle.lrpar_table_sentences.specs.Moves.{MoveOf, forest_moves, move_of, moves_in}
 use Rattle.lrpar_table_sentences.specs.Reachable.{IsReachableRule, IsReachableSymbol, OnRight}
 use Rattle.lrpar_table_sentences.specs.Texts.{AreShortestTrees, AreTreesOf, HaveTrees, forest_width}
-use Rattle.lrpar_table_sentences.specs.AccessStrings.{IsPathTo, IsShortestPath, IsShortestAccessIfAny, StepOf, StepsLead, AccessOf, symbols_in, access_at}
+use Rattle.lrpar_table_sentences.specs.AccessStrings.{AreAccessStrings, IsPathTo, IsShortestPath, IsShortestAccessIfAny, StepOf, StepsLead, AccessOf, steps_of, symbols_in, access_at}
+use Rattle.lrpar_table_sentences.specs.declared.moves.Move.{Move}
+use Rattle.lrpar_table_sentences.specs.declared.transitions.Step.{Step}
 use Rattle.lrpar_conflict_derivations.specs.Completion.{IsAccessPath, state_before}
 use Rattle.lrpar_conflict_derivations.specs.Example.{AreExamplesFor, ExamplesOf, IsFront, IsShortestFront}
 use Rattle.lrpar_conflict_derivations.proofs.PathLemmas.{state_reached}
@@ -51,13 +53,13 @@ some_by : (g : Grammar) (graph : Graph) (most s : ℕ) (access : Option AccessOf
 some_by g graph most s None none symbols path trees = absurd (none symbols trees.0 path trees.1)
 some_by g graph most s (Some found) least symbols path trees = (found, refl)
 
-module _ (g : Grammar) (graph : Graph) (table : Table) (built : IsBuilt g graph table) (s : ℕ) where
+module _ (g : Grammar) (graph : Graph) (table : Table) (well : IsWellFormed g) (built : IsBuilt g graph table) (closed : IsClosed table) (s : ℕ) where
   -- steps that lead from the start are an access path
-  pub access_path_by : IsClosed table → (steps : List StepOf) → StepsLead table table.start steps s → IsAccessPath g graph steps s
-  access_path_by closed steps lead =
+  pub access_path_by : (steps : List StepOf) → StepsLead table table.start steps s → IsAccessPath g graph steps s
+  access_path_by steps lead =
       let start : IsPathTo g graph table.start [] =
       subst (λ (n : ℕ). AreSame (sets_of graph n) (IsReachedBy g [])) (sym built.resolved.start) built.canonical.start in
-      state_reached g graph table built.resolved closed steps table.start s [] closed.start_within lead start
+      state_reached g graph table well built closed steps table.start s [] closed.start_within lead start
 
 -- the symbols of an access path lead to its last state
 pub path_leads : (g : Grammar) (graph : Graph) (s : ℕ) (steps : List StepOf) → IsAccessPath g graph steps s → IsPathTo g graph s (symbols_in steps)
@@ -72,11 +74,11 @@ path_leads g graph s steps access_path =
     (subst (λ (w : List GrammarSymbol). IsPathTo g graph (state_before steps s (length steps)) w) whole (access_path (length steps) (omega arith)))
 
 -- steps that lead to the state, and moves of trees of their symbols
-pub front_by : (g : Grammar) (graph : Graph) (table : Table) → IsBuilt g graph table → IsClosed table → (s : ℕ) (steps : List StepOf)
+pub front_by : (g : Grammar) (graph : Graph) (table : Table) → IsWellFormed g → IsBuilt g graph table → IsClosed table → (s : ℕ) (steps : List StepOf)
     → StepsLead table table.start steps s → (trees : Forest ℕ) → AreTreesOf g (symbols_in steps) trees → (moves : List MoveOf) → moves ≡ forest_moves trees
     → IsFront g graph s steps moves
-front_by g graph table built closed s steps lead trees fit moves are =
-    let access_path = access_path_by g graph table built s closed steps lead in record {
+front_by g graph table well built closed s steps lead trees fit moves are =
+    let access_path = access_path_by g graph table well built closed s steps lead in record {
       access_path = access_path;
       trees = trees;
       text = record { leads = path_leads g graph s steps access_path; fit = fit; tokens = refl };
@@ -86,7 +88,7 @@ front_by g graph table built closed s steps lead trees fit moves are =
 module _ (g : Grammar) (graph : Graph) (table : Table) (most : ℕ) (well : IsWellFormed g) (built : IsBuilt g graph table) (x : ExamplesOf)
     (made : AreExamplesFor g graph table most x) (s : ℕ) (low : s < graph_len graph) where
   -- an access path of the state is kept
-  pub some_access : (access : AccessOf) × (access_at x.access s ≡ Some access)
+  some_access : (access : AccessOf) × (access_at x.access s ≡ Some access)
   some_access =
       let reached = built.canonical.reached s low in
       let path = reached.0 in
@@ -99,7 +101,7 @@ module _ (g : Grammar) (graph : Graph) (table : Table) (most : ℕ) (well : IsWe
 
   module _ (closed : IsClosed table) (steps : List StepOf) (path : IsShortestPath g graph table most s steps) where
     -- its symbols have trees
-    pub path_trees : HaveTrees g (symbols_in steps)
+    path_trees : HaveTrees g (symbols_in steps)
     path_trees = let some = path.own.some in (some.0, some.1)
 
     -- minimal ones have at most as many tokens as those of any other path
@@ -114,13 +116,40 @@ module _ (g : Grammar) (graph : Graph) (table : Table) (most : ℕ) (well : IsWe
           | inr long ↦ let len : min (forest_width own.0) most ≡ path.len = own.2 in omega (arith, fits, bound, long, len)
         ]
 
-    pub front_done : (trees : Forest ℕ) → AreShortestTrees g (symbols_in steps) trees → (moves : List MoveOf) → moves ≡ forest_moves trees → length moves ≤ most
+    front_done : (trees : Forest ℕ) → AreShortestTrees g (symbols_in steps) trees → (moves : List MoveOf) → moves ≡ forest_moves trees → length moves ≤ most
         → IsShortestFront g graph s steps moves
     front_done trees least moves are within =
         let tokens : tokens_in moves ≡ forest_leaves trees = ap tokens_in are ∙ tokens_of_trees trees in
         let text : length (tokens_in moves) ≡ forest_width trees = ap (λ (xs : List ℕ). length xs) tokens in
         let short = tokens_short moves in
         let shorter = no_shorter trees least (omega (arith, text, short, within)) in record {
-          front = front_by g graph table built closed s steps path.lead trees least.fit moves are;
+          front = front_by g graph table well built closed s steps path.lead trees least.fit moves are;
           least = λ other others to fit. let less = shorter other others to fit in omega (arith, text, less);
         }
+
+-- the same of code: the steps that were pushed for a state, and the moves that were pushed for their symbols
+module _ {S : Type 0} (index : S → ℕ) (g : Grammar) (graph : Graph) (table : Table) (most : ℕ) (well : IsWellFormed g) (built : IsBuilt g graph table)
+    (x : ExamplesOf) (made : AreExamplesFor g graph table most x) (s : ℕ) (low : s < graph_len graph) (closed : IsClosed table)
+    (accesses : List (Option AccessOf)) (same : accesses ≡ x.access) (first steps : List (Step S)) (fresh : first ≡ [])
+    (pushes : AreAccessStrings g graph table most accesses → (access : AccessOf) → access_at accesses s ≡ Some access
+    → (path : List StepOf) × IsShortestPath g graph table most s path × (steps_of index steps ≡ steps_of index first ++ path))
+    (symbols : List GrammarSymbol) (are : symbols ≡ symbols_in (steps_of index steps)) where
+  path_pushed : IsShortestPath g graph table most s (steps_of index steps)
+  path_pushed =
+      let access = some_access g graph table most well built x made s low in
+      let kept : access_at accesses s ≡ Some access.0 = ap (λ (w : List (Option AccessOf)). access_at w s) same ∙ access.1 in
+      let strings = subst (λ (w : List (Option AccessOf)). AreAccessStrings g graph table most w) (sym same) made.access in
+      let found = pushes strings access.0 kept in
+      subst (λ (xs : List StepOf). IsShortestPath g graph table most s xs) (sym (found.2 ∙ ap (λ xs. steps_of index xs ++ found.0) fresh)) found.1
+
+  pub symbols_have_trees : HaveTrees g symbols
+  symbols_have_trees = subst (HaveTrees g) (sym are) (path_trees g graph table most well built x made s low closed (steps_of index steps) path_pushed)
+
+  pub front_pushed : (before moves : List (Move S)) → before ≡ []
+      → (trees : Forest ℕ) × AreShortestTrees g symbols trees × (moves_in index moves ≡ moves_in index before ++ forest_moves trees) → length moves ≤ most
+      → IsShortestFront g graph s (steps_of index steps) (moves_in index moves)
+  front_pushed before moves empty pushed within =
+      let least = subst (λ (w : List GrammarSymbol). AreShortestTrees g w pushed.0) are pushed.1 in
+      let are_moves : moves_in index moves ≡ forest_moves pushed.0 = pushed.2 ∙ ap (λ xs. moves_in index xs ++ forest_moves pushed.0) empty in
+      let long = length-map moves (move_of index) in
+      front_done g graph table most well built x made s low closed (steps_of index steps) path_pushed pushed.0 least (moves_in index moves) are_moves (omega (arith, long, within))

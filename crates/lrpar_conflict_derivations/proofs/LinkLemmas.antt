@@ -1,16 +1,13 @@
 -- Links of a state: those from kernel items come first, and then those from items of rules that have links. Once each of these has its
 -- links, each item that the state has by closure has a link of its rule.
-use Rattle.std.proofs.Common.{◌≡◌, ◌≢◌, ◌<◌, ◌≤◌, ◌+◌, ◌-◌, ◌⊎◌, ◌↔◌, ◌∙◌, refl, sym, ap, subst, inl, inr, arith, ℕ, zero, suc, Bool, true, false, IsTrue, List, [], ◌∷◌, ◌++◌, drop, length, map, Some, cond, slice_get, get_or}
+use Rattle.std.proofs.Common.{◌≡◌, ◌≢◌, ◌<◌, ◌≤◌, ◌+◌, ◌-◌, ◌⊎◌, ◌↔◌, ◌∙◌, refl, sym, ap, subst, inl, inr, arith, ℕ, zero, suc, Bool, true, false, IsTrue, List, [], ◌∷◌, ◌++◌, drop, length, map, get_or}
 use mathlib.Core.Bool.{beq}
 use Rattle.std.specs.List.{Contains}
-use Rattle.std.specs.Option.{option_map_or}
-use Rattle.std.proofs.lemmas.Bool.{cases_eq, cases_lt, eq-eqb, false≢true, ne_eqb}
+use Rattle.std.proofs.lemmas.Bool.{cases_lt, false≢true}
 use Rattle.std.proofs.lemmas.List.{get_or-append_right, get_or-map, get_or_default, length-append, length-map}
-use Rattle.std.proofs.lemmas.List.Elements.{All-get_or, Contains-append_right, Contains-append_cases, Contains-push_cases}
-use Rattle.std.proofs.lemmas.Option.{slice_get_cases, slice_get_within}
+use Rattle.std.proofs.lemmas.List.Elements.{All-get_or, Contains-push_cases}
 use Rattle.lrpar_grammar_places.specs.declared.span.PIdx.{PIdx}
-use Rattle.lrpar_grammar.specs.Symbols.{prod_numbers}
-use Rattle.lrpar_grammar.specs.Grammar.{Grammar, GrammarSymbol, IsWellFormed, Nonterminal, Production, Terminal, prod_len, prods_from, prods_len, prods_of, rule_of, rules_len, start_prod, symbols_of}
+use Rattle.lrpar_grammar.specs.Grammar.{Grammar, GrammarSymbol, IsWellFormed, Nonterminal, Terminal, prod_len, prods_len, rule_of, rules_len, start_prod, symbols_of}
 use Rattle.lrpar_table_rows.specs.Graph.{Graph, HasCore, HasItem, ItemOf, graph_len, item_at}
 use Rattle.lrpar_table_rows.specs.PlainItems.{core_of}
 use Rattle.lrpar_table_rows.proofs.ItemLemmas.{Contains-image}
@@ -62,74 +59,12 @@ begun_link g set token q j further above x begun step = (
       (subst (λ (n : ℕ). IsKernelItem g set token n j further) (sym step.prod) begun)),
 )
 
--- the productions of a rule are listed
-pub rule_listed : (r n : ℕ) (xs : List Production) (i : ℕ) (x : Production) → slice_get xs i ≡ Some x → x.rule ≡ r → Contains (prods_from r n xs) (n + i)
-rule_listed r n [] i x at is = absurd (let low = slice_get_within [] i x at in omega arith)
-rule_listed r n (y ∷ ys) zero x at is =
-    let same : y ≡ x = cc in
-    let here = eq-eqb y.rule r (ap (λ (z : Production). z.rule) same ∙ is) in
-    subst (λ (b : Bool). Contains (cond b (n ∷ prods_from r (n + 1) ys) (prods_from r (n + 1) ys)) (n + 0)) (sym here) (0, omega arith, omega arith)
-rule_listed r n (y ∷ ys) (suc i) x at is =
-    let later = rule_listed r (n + 1) ys i x at is in
-    let same : (n + 1) + i ≡ n + suc i = omega arith in
-    let there = subst (Contains (prods_from r (n + 1) ys)) same later in
-    elim (cases_eq y.rule r) as (λ _. Contains (prods_from r n (y ∷ ys)) (n + suc i)) [
-      | inl own ↦
-          subst (λ (b : Bool). Contains (cond b (n ∷ prods_from r (n + 1) ys) (prods_from r (n + 1) ys)) (n + suc i)) (sym (eq-eqb y.rule r own))
-          (Contains-append_right (n ∷ []) (prods_from r (n + 1) ys) (n + suc i) there)
-      | inr other ↦
-          subst (λ (b : Bool). Contains (cond b (n ∷ prods_from r (n + 1) ys) (prods_from r (n + 1) ys)) (n + suc i)) (sym (ne_eqb y.rule r other)) there
-    ]
-
-first_is : (n p : ℕ) → Contains (n ∷ []) p → p ≡ n + 0
-first_is n p (zero, low, is) = let same : n ≡ p = is in omega arith
-first_is n p (suc k, low, is) = absurd (omega arith)
-
-pub listed_of_rule : (r n : ℕ) (xs : List Production) (p : ℕ) → Contains (prods_from r n xs) p
-    → (i : ℕ) × (x : Production) × (p ≡ n + i) × (slice_get xs i ≡ Some x) × (x.rule ≡ r)
-listed_of_rule r n [] p has_one = absurd (let low = has_one.1 in omega arith)
-listed_of_rule r n (y ∷ ys) p has_one =
-    let Found = (i : ℕ) × (x : Production) × (p ≡ n + i) × (slice_get (y ∷ ys) i ≡ Some x) × (x.rule ≡ r) in
-    let later = λ (h : Contains (prods_from r (n + 1) ys) p).
-    let more = listed_of_rule r (n + 1) ys p h in
-    let at : p ≡ n + suc more.0 = let is = more.2 in omega arith in
-    let found : Found = (suc more.0, more.1, at, more.3, more.4) in found in
-    elim (cases_eq y.rule r) as (λ _. Found) [
-      | inl own ↦
-          let here = subst (λ (b : Bool). Contains (cond b (n ∷ prods_from r (n + 1) ys) (prods_from r (n + 1) ys)) p) (eq-eqb y.rule r own) has_one in
-          elim (Contains-append_cases (n ∷ []) (prods_from r (n + 1) ys) p here) as (λ _. Found) [
-            | inl first ↦ let at : p ≡ n + 0 = first_is n p first in (0, y, at, refl, own)
-            | inr rest ↦ later rest
-          ]
-      | inr other ↦
-          later (subst (λ (b : Bool). Contains (cond b (n ∷ prods_from r (n + 1) ys) (prods_from r (n + 1) ys)) p) (ne_eqb y.rule r other) has_one)
-    ]
-
 -- the symbols that are left, each below the dummy lookahead
 pub AreBelow-drop : (dummy n : ℕ) (w : List GrammarSymbol) → AreBelow dummy w → AreBelow dummy (drop n w)
 AreBelow-drop dummy zero w below = below
 AreBelow-drop dummy (suc n) [] below = tt
 AreBelow-drop dummy (suc n) (Terminal t ∷ w) below = AreBelow-drop dummy n w below.1
 AreBelow-drop dummy (suc n) (Nonterminal r ∷ w) below = AreBelow-drop dummy n w below
-
-module _ (g : Grammar) where
-  -- each production of a rule is one of those that are listed of it, and no other one is
-  pub in_prods : (r p : ℕ) → p < prods_len g → rule_of g p ≡ r → Contains (prods_of g r) p
-  in_prods r p low is =
-      elim (slice_get_cases g.prods p).1 as (λ _. Contains (prods_of g r) p) [
-        | inl found ↦
-            let own : found.0.rule ≡ r = sym (ap (λ o. option_map_or (λ (x : Production). x.rule) o 0) found.2) ∙ is in
-            let there = rule_listed r 0 g.prods p found.0 found.2 own in
-            let same : 0 + p ≡ p = omega arith in subst (Contains (prods_of g r)) same there
-        | inr past ↦ let far = past.0 in absurd (omega (arith, low, far))
-      ]
-
-  pub of_prods : (r p : ℕ) → Contains (prods_of g r) p → (p < prods_len g) × (rule_of g p ≡ r)
-  of_prods r p listed =
-      let found = listed_of_rule r 0 g.prods p listed in
-      let same : p ≡ found.0 = let is = found.2 in omega arith in
-      let at : slice_get g.prods p ≡ Some found.1 = subst (λ (n : ℕ). slice_get g.prods n ≡ Some found.1) (sym same) found.3 in
-      (slice_get_within g.prods p found.1 at, ap (λ o. option_map_or (λ (x : Production). x.rule) o 0) at ∙ found.4)
 
 -- links that are appended
 module _ (g : Grammar) (set : ItemOf → Type 0) (token : ℕ) where
@@ -308,11 +243,6 @@ module _ (g : Grammar) (graph : Graph) (s token q j : ℕ) (old middle new : Lis
 pub core_in : {S : Type 0} (index : S → ℕ) (cores : List (PIdx S × ℕ)) (i : ℕ) (core : PIdx S × ℕ) → i < length cores → core ≡ get_or cores i core
     → Contains (map (core_of index) cores) (core_of index core)
 core_in index cores i core low is = Contains-image (core_of index) cores core (i, low, sym is)
-
--- a production among those of code
-pub prod_in : {S : Type 0} (index : S → ℕ) (prods : List (PIdx S)) (i : ℕ) (p : PIdx S) → i < length prods → p ≡ get_or prods i p
-    → Contains (prod_numbers index prods) (index p.0)
-prod_in {S} index prods i p low is = Contains-image (λ (x : PIdx S). index x.0) prods p (i, low, sym is)
 
 module _ (g : Grammar) (set : ItemOf → Type 0) (token : ℕ) (Good : LinkOf → Type 0) (old new : List LinkOf) (put : ArePut Good old new) where
   -- what comes with a core stays linked

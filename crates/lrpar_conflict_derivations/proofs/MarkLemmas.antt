@@ -7,7 +7,7 @@ use Rattle.std.proofs.lemmas.List.Sums.{count_by-le-length, sum_by-set}
 use Rattle.std.proofs.lemmas.List.Elements.{All-append, All-cons, All-nil, All-weaker}
 use Rattle.lrpar_grammar.specs.Grammar.{Grammar}
 use Rattle.lrpar_grammar.specs.Tokens.{has, missing}
-use Rattle.lrpar_conflict_derivations.specs.ClosureLinks.{AreMarks, AreNoted, ArePut, HasLink, LinkOf, link_at}
+use Rattle.lrpar_conflict_derivations.specs.ClosureLinks.{AreLinked, AreMarks, AreNoted, ArePut, HasLink, IsPutMarked, LinkOf, link_at}
 
 -- one mark more is set
 pub missing-set : (bits : List Bool) (i : ℕ) → i < length bits → has bits i ≡ false → missing (set bits i true) + 1 ≡ missing bits
@@ -72,43 +72,6 @@ marked_more bits i r low is =
       | inr other ↦ inr (sym (get_or-set_other bits i r true false other) ∙ is)
     ]
 
-module _ (rules : ℕ) (links : List LinkOf) (any asked : List Bool) (marks : AreMarks rules links any asked) (x : LinkOf) (within : x.rule < rules) where
-  linked_more : (bits : List Bool) (kind : Bool) → x.rule < length bits → x.asked ≡ kind → ((r : ℕ) → IsTrue (has bits r) → HasLink links kind r)
-      → (r : ℕ) → IsTrue (has (set bits x.rule true) r) → HasLink (links ++ x ∷ []) kind r
-  linked_more bits kind low is linked r marked =
-      elim (marked_more bits x.rule r low marked) as (λ _. HasLink (links ++ x ∷ []) kind r) [
-        | inl same ↦ subst (λ (n : ℕ). HasLink (links ++ x ∷ []) kind n) (sym same) (subst (λ (b : Bool). HasLink (links ++ x ∷ []) b x.rule) is (HasLink-put links x))
-        | inr before ↦ HasLink-append links (x ∷ []) kind r (linked r before)
-      ]
-
-  pub mark_any : x.asked ≡ false → has any x.rule ≡ false → AreMarks rules (links ++ x ∷ []) (set any x.rule true) asked
-  mark_any is none =
-      let room = marks.any_room in
-      let low : x.rule < length any = omega arith in record {
-        any_room = length-set any x.rule true ∙ marks.any_room;
-        asked_room = marks.asked_room;
-        any_linked = linked_more any false low is marks.any_linked;
-        asked_linked = λ r marked. HasLink-append links (x ∷ []) true r (marks.asked_linked r marked);
-        bounded =
-            let less = missing-set any x.rule low none in
-            let long = length-append links (x ∷ []) in
-            let bound = marks.bounded in omega arith;
-      }
-
-  pub mark_asked : x.asked ≡ true → has asked x.rule ≡ false → AreMarks rules (links ++ x ∷ []) any (set asked x.rule true)
-  mark_asked is none =
-      let room = marks.asked_room in
-      let low : x.rule < length asked = omega arith in record {
-        any_room = marks.any_room;
-        asked_room = length-set asked x.rule true ∙ marks.asked_room;
-        any_linked = λ r marked. HasLink-append links (x ∷ []) false r (marks.any_linked r marked);
-        asked_linked = linked_more asked true low is marks.asked_linked;
-        bounded =
-            let less = missing-set asked x.rule low none in
-            let long = length-append links (x ∷ []) in
-            let bound = marks.bounded in omega arith;
-      }
-
 -- no link and no mark
 pub no_marks : (rules : ℕ) (any asked : List Bool) → length any ≡ rules → length asked ≡ rules → ((r : ℕ) → has any r ≡ false)
     → ((r : ℕ) → has asked r ≡ false) → AreMarks rules [] any asked
@@ -122,28 +85,61 @@ no_marks rules any asked any_room asked_room no_any no_asked = record {
       let others = count_by-le-length not asked in omega (arith, some, others);
 }
 
--- one link more, whose rule wasn't marked
-module _ (rules : ℕ) (links : List LinkOf) (any asked : List Bool) (marks : AreMarks rules links any asked) (x : LinkOf) (new : List LinkOf)
-    (put : new ≡ links ++ x ∷ []) (r : ℕ) (same : r ≡ x.rule) (within : x.rule < rules) (was b : Bool) (unset : b ≡ false) where
-  pub marks_any : b ≡ get_or any r b → x.asked ≡ false → AreMarks rules new (set any r true) asked
-  marks_any read is =
-      let room = marks.any_room in
-      let here : r < length any = omega (arith, room, within, same) in
-      let none : has any x.rule ≡ false = subst (λ (n : ℕ). has any n ≡ false) same (sym (get_or_read any r b here read false) ∙ unset) in
-      subst (λ (xs : List LinkOf). AreMarks rules xs (set any r true) asked) (sym put)
-      (subst (λ (n : ℕ). AreMarks rules (links ++ x ∷ []) (set any n true) asked) (sym same) (mark_any rules links any asked marks x within is none))
+-- a link is put unless its rule is marked
+module _ (links : List LinkOf) (bits : List Bool) (x : LinkOf) (linked : AreLinked links bits x.asked) (within : x.rule < length bits) (r : ℕ) (same : r ≡ x.rule)
+    (b : Bool) (read : b ≡ get_or bits r b) where
+  mark_is : has bits x.rule ≡ b
+  mark_is = subst (λ (n : ℕ). has bits n ≡ b) same (sym (get_or_read bits r b (omega (arith, within, same)) read false))
 
-  pub marks_asked : b ≡ get_or asked r b → x.asked ≡ true → AreMarks rules new any (set asked r true)
-  marks_asked read is =
-      let room = marks.asked_room in
-      let here : r < length asked = omega (arith, room, within, same) in
-      let none : has asked x.rule ≡ false = subst (λ (n : ℕ). has asked n ≡ false) same (sym (get_or_read asked r b here read false) ∙ unset) in
-      subst (λ (xs : List LinkOf). AreMarks rules xs any (set asked r true)) (sym put)
-      (subst (λ (n : ℕ). AreMarks rules (links ++ x ∷ []) any (set asked n true)) (sym same) (mark_asked rules links any asked marks x within is none))
+  linked_more : AreLinked (links ++ x ∷ []) (set bits x.rule true) x.asked
+  linked_more n marked =
+      elim (marked_more bits x.rule n within marked) as (λ _. HasLink (links ++ x ∷ []) x.asked n) [
+        | inl own ↦ subst (HasLink (links ++ x ∷ []) x.asked) (sym own) (HasLink-put links x)
+        | inr before ↦ HasLink-append links (x ∷ []) x.asked n (linked n before)
+      ]
 
-pub linked_put : (links : List LinkOf) (x : LinkOf) (new : List LinkOf) (asked : Bool) → new ≡ links ++ x ∷ [] → x.asked ≡ asked → HasLink new asked x.rule
-linked_put links x new asked put is =
-    subst (λ (b : Bool). HasLink new b x.rule) is (subst (λ (xs : List LinkOf). HasLink xs x.asked x.rule) (sym put) (HasLink-put links x))
+  pub put_unmarked : b ≡ false → (new : List LinkOf) → new ≡ links ++ x ∷ [] → IsPutMarked x links new bits (set bits r true)
+  put_unmarked unset new put =
+      let all : IsPutMarked x links (links ++ x ∷ []) bits (set bits x.rule true) = record {
+        put = put_one links x;
+        own = HasLink-put links x;
+        room = length-set bits x.rule true;
+        linked = linked_more;
+        bounded =
+            let less = missing-set bits x.rule within (mark_is ∙ unset) in
+            let long = length-append links (x ∷ []) in omega (arith, less, long);
+      } in
+      subst (λ (xs : List LinkOf). IsPutMarked x links xs bits (set bits r true)) (sym put)
+      (subst (λ (n : ℕ). IsPutMarked x links (links ++ x ∷ []) bits (set bits n true)) (sym same) all)
+
+  pub put_marked : b ≡ true → IsPutMarked x links links bits bits
+  put_marked marked = record {
+    put = put_none (λ y. y ≡ x) links;
+    own = linked x.rule (mark_is ∙ marked);
+    room = refl;
+    linked = linked;
+    bounded = omega arith;
+  }
+
+-- marks of one kind stay right, with those of the other
+module _ (rules : ℕ) (old new : List LinkOf) (any asked after : List Bool) (marks : AreMarks rules old any asked) (x : LinkOf) where
+  pub marks_any : x.asked ≡ false → IsPutMarked x old new any after → AreMarks rules new after asked
+  marks_any is put = record {
+    any_room = put.room ∙ marks.any_room;
+    asked_room = marks.asked_room;
+    any_linked = subst (AreLinked new after) is put.linked;
+    asked_linked = λ r marked. HasLink-kept (λ y. y ≡ x) old new put.put true r (marks.asked_linked r marked);
+    bounded = let more = put.bounded in let bound = marks.bounded in omega (arith, more, bound);
+  }
+
+  pub marks_asked : x.asked ≡ true → IsPutMarked x old new asked after → AreMarks rules new any after
+  marks_asked is put = record {
+    any_room = marks.any_room;
+    asked_room = put.room ∙ marks.asked_room;
+    any_linked = λ r marked. HasLink-kept (λ y. y ≡ x) old new put.put false r (marks.any_linked r marked);
+    asked_linked = subst (AreLinked new after) is put.linked;
+    bounded = let more = put.bounded in let bound = marks.bounded in omega (arith, more, bound);
+  }
 
 -- a rule that is marked is linked
 pub linked_by : (links : List LinkOf) (bits : List Bool) (kind k : Bool) → ((r : ℕ) → IsTrue (has bits r) → HasLink links kind r) → k ≡ kind → (n r : ℕ) → n ≡ r

@@ -1,15 +1,19 @@
 -- The links of a rule that comes after a dot.
-use Rattle.std.proofs.Common.{◌≡◌, ◌∙◌, sym, ap, subst, ℕ, Bool, true, false, IsTrue, List, ◌∷◌, All, drop}
+use Rattle.std.proofs.Common.{◌≡◌, ◌∙◌, sym, ap, subst, ℕ, Bool, true, false, IsTrue, List, [], ◌∷◌, All, drop}
 use Rattle.std.proofs.lemmas.Bool.{false≢true}
 use Rattle.lrpar_grammar.specs.Grammar.{Grammar, GrammarSymbol, IsWellFormed, Nonterminal, rules_len, symbols_of, tokens_len}
 use Rattle.lrpar_table_first.specs.FirstRows.{AreFirsts, IsSymbolBelow, begins, dummy_lookahead}
 use Rattle.lrpar_table_first.proofs.BeforeLemmas.{begins_is, symbols_below}
 use Rattle.lrpar_table_items.proofs.SpreadLemmas.{same_rest, same_rule}
-use Rattle.lrpar_conflict_derivations.specs.ClosureLinks.{AreNoted, HasLink, IsStep, LinkOf, PassesOn}
+use Rattle.lrpar_conflict_derivations.specs.ClosureLinks.{AreNoted, ArePut, HasLink, IsStep, LinkOf, PassesOn}
+use Rattle.lrpar_conflict_derivations.proofs.MarkLemmas.{put_then, put_weaker}
 
--- a link that was made so is a step
-pub step_by : (g : Grammar) (token q j r : ℕ) (w : List GrammarSymbol) (asked further : Bool) (above : ℕ) (x : LinkOf)
-    → x ≡ record { rule = r; asked = asked; prod = q; dot = j; further = further; above = above }
+-- the link of a rule after the dot of production q at j
+abbrev pub link_with : ℕ → Bool → ℕ → ℕ → Bool → ℕ → LinkOf
+link_with r asked q j further above = record { rule = r; asked = asked; prod = q; dot = j; further = further; above = above }
+
+-- such a link is a step
+step_by : (g : Grammar) (token q j r : ℕ) (w : List GrammarSymbol) (asked further : Bool) (above : ℕ) (x : LinkOf) → x ≡ link_with r asked q j further above
     → drop j (symbols_of g q) ≡ Nonterminal r ∷ w → PassesOn g token w asked further → IsStep g token q j further above x
 step_by g token q j r w asked further above x is before passes = record {
   prod = ap (λ (y : LinkOf). y.prod) is;
@@ -29,7 +33,7 @@ noted_nothing g token q j links further none r w asked before passes = absurd (n
 module _ (g : Grammar) (well : IsWellFormed g) (rows : List (List Bool)) (firsts : AreFirsts g rows) (token q j r : ℕ) (w : List GrammarSymbol)
     (before : drop j (symbols_of g q) ≡ Nonterminal r ∷ w) (listed : All (IsSymbolBelow (rules_len g) (tokens_len g)) w) (links : List LinkOf) where
   -- w begins with a token if it does by the FIRST sets
-  pub passes_by : (t dummy : ℕ) (b : Bool) → dummy ≡ dummy_lookahead g → b ≡ begins dummy rows w t → b ≡ true → IsTrue (begins (dummy_lookahead g) rows w t)
+  passes_by : (t dummy : ℕ) (b : Bool) → dummy ≡ dummy_lookahead g → b ≡ begins dummy rows w t → b ≡ true → IsTrue (begins (dummy_lookahead g) rows w t)
   passes_by t dummy b marked is true_is = sym (ap (λ (n : ℕ). begins n rows w t) marked) ∙ sym is ∙ true_is
 
   fails_by : (t dummy : ℕ) (b : Bool) → dummy ≡ dummy_lookahead g → b ≡ begins dummy rows w t → b ≡ false → begins (dummy_lookahead g) rows w t ≡ false
@@ -40,11 +44,11 @@ module _ (g : Grammar) (well : IsWellFormed g) (rows : List (List Bool)) (firsts
       (begins_is g well rows firsts w (symbols_below (rules_len g) (tokens_len g) w listed) t).0 (passes_by t dummy b marked is true_is)
 
   -- the token is asked for on, if w begins with it
-  pub passes_token : (t dummy : ℕ) (b : Bool) → t ≡ token → dummy ≡ dummy_lookahead g → b ≡ begins dummy rows w t → b ≡ true → PassesOn g token w true false
+  passes_token : (t dummy : ℕ) (b : Bool) → t ≡ token → dummy ≡ dummy_lookahead g → b ≡ begins dummy rows w t → b ≡ true → PassesOn g token w true false
   passes_token t dummy b same marked is true_is = subst (λ (n : ℕ). PassesOn g n w true false) same (first_by t dummy b marked is true_is)
 
   -- and further up, if w derives nothing
-  pub passes_through : (dummy : ℕ) (b : Bool) → dummy ≡ dummy_lookahead g → b ≡ begins dummy rows w dummy → b ≡ true → PassesOn g token w true true
+  passes_through : (dummy : ℕ) (b : Bool) → dummy ≡ dummy_lookahead g → b ≡ begins dummy rows w dummy → b ≡ true → PassesOn g token w true true
   passes_through dummy b marked is true_is =
       subst (λ (n : ℕ). PassesOn g n w true false) marked (first_by dummy dummy b marked is true_is)
 
@@ -66,9 +70,9 @@ module _ (g : Grammar) (well : IsWellFormed g) (rows : List (List Bool)) (firsts
   noted_further true has_one s v also passes = own_link s v true also has_one
   noted_further false has_one s v also passes = absurd passes
 
-  pub noted_asked : (further : Bool) → further ≡ true → HasLink links true r → AreNoted g token links q j further
+  pub noted_asked : (further : Bool) → further ≡ true → HasLink links further r → AreNoted g token links q j further
   noted_asked further is has_one s v asked also passes =
-      noted_further asked has_one s v also (subst (λ (b : Bool). PassesOn g token v asked b) is passes)
+      noted_further asked (subst (λ (b : Bool). HasLink links b r) is has_one) s v also (subst (λ (b : Bool). PassesOn g token v asked b) is passes)
 
   stopped_further : (asked : Bool) → begins (dummy_lookahead g) rows w (dummy_lookahead g) ≡ false → (s : ℕ) (v : List GrammarSymbol)
       → drop j (symbols_of g q) ≡ Nonterminal s ∷ v → PassesOn g token v asked true → HasLink links asked s
@@ -87,8 +91,8 @@ module _ (g : Grammar) (well : IsWellFormed g) (rows : List (List Bool)) (firsts
   both_here true any_one asked_one s v also = own_link s v true also asked_one
   both_here false any_one asked_one s v also = own_link s v false also any_one
 
-  pub noted_both : (further : Bool) → HasLink links false r → HasLink links true r → AreNoted g token links q j further
-  noted_both further any_one asked_one s v asked also passes = both_here asked any_one asked_one s v also
+  pub noted_both : (further : Bool) → further ≡ false → HasLink links further r → HasLink links true r → AreNoted g token links q j further
+  noted_both further is any_one asked_one s v asked also passes = both_here asked (subst (λ (b : Bool). HasLink links b r) is any_one) asked_one s v also
 
   any_here : (asked : Bool) → HasLink links false r → begins (dummy_lookahead g) rows w token ≡ false → (s : ℕ) (v : List GrammarSymbol)
       → drop j (symbols_of g q) ≡ Nonterminal s ∷ v → PassesOn g token v asked false → HasLink links asked s
@@ -96,10 +100,40 @@ module _ (g : Grammar) (well : IsWellFormed g) (rows : List (List Bool)) (firsts
   any_here false any_one none s v also passes = own_link s v false also any_one
 
   pub noted_any : (t dummy : ℕ) (b further : Bool) → further ≡ false → t ≡ token → dummy ≡ dummy_lookahead g → b ≡ begins dummy rows w t → b ≡ false
-      → HasLink links false r → AreNoted g token links q j further
+      → HasLink links further r → AreNoted g token links q j further
   noted_any t dummy b further is same marked by false_is any_one s v asked also passes =
       let none = subst (λ (n : ℕ). begins (dummy_lookahead g) rows w n ≡ false) same (fails_by t dummy b marked by false_is) in
-      any_here asked any_one none s v also (subst (λ (c : Bool). PassesOn g token v asked c) is passes)
+      any_here asked (subst (λ (c : Bool). HasLink links c r) is any_one) none s v also (subst (λ (c : Bool). PassesOn g token v asked c) is passes)
+
+-- the links that are put are steps
+module _ (g : Grammar) (well : IsWellFormed g) (rows : List (List Bool)) (firsts : AreFirsts g rows) (token q j r : ℕ) (w : List GrammarSymbol)
+    (before : drop j (symbols_of g q) ≡ Nonterminal r ∷ w) (listed : All (IsSymbolBelow (rules_len g) (tokens_len g)) w) (further : Bool) (above : ℕ) where
+  steps_put : (asked : Bool) (old new : List LinkOf) → PassesOn g token w asked further → ArePut (λ x. x ≡ link_with r asked q j further above) old new
+      → ArePut (IsStep g token q j further above) old new
+  steps_put asked old new passes put =
+      put_weaker (λ x. x ≡ link_with r asked q j further above) (IsStep g token q j further above) old new
+      (λ x is. step_by g token q j r w asked further above x is before passes) put
+
+  -- if the token is asked for further up, and w derives nothing
+  pub put_through : further ≡ true → (dummy : ℕ) (b : Bool) → dummy ≡ dummy_lookahead g → b ≡ begins dummy rows w dummy → b ≡ true → (old new : List LinkOf)
+      → ArePut (λ x. x ≡ link_with r further q j further above) old new → ArePut (IsStep g token q j further above) old new
+  put_through asks dummy b marked is true_is old new put =
+      let through = passes_through g well rows firsts token q j r w before listed [] dummy b marked is true_is in
+      steps_put further old new (subst (λ (c : Bool). PassesOn g token w c c) (sym asks) through) put
+
+  -- for any lookahead
+  pub put_any : further ≡ false → (old new : List LinkOf) → ArePut (λ x. x ≡ link_with r further q j further above) old new
+      → ArePut (IsStep g token q j further above) old new
+  put_any asks old new put = steps_put further old new (subst (λ (c : Bool). PassesOn g token w c c) (sym asks) tt) put
+
+  -- and for the token, if w begins with it
+  pub put_both : further ≡ false → (t dummy : ℕ) (b : Bool) → t ≡ token → dummy ≡ dummy_lookahead g → b ≡ begins dummy rows w t → b ≡ true
+      → (old middle new : List LinkOf) → ArePut (λ x. x ≡ link_with r further q j further above) old middle
+      → ArePut (λ x. x ≡ link_with r true q j further above) middle new → ArePut (IsStep g token q j further above) old new
+  put_both asks t dummy b same marked is true_is old middle new first second =
+      let begun = passes_token g well rows firsts token q j r w before listed [] t dummy b same marked is true_is in
+      put_then (IsStep g token q j further above) old middle new (put_any asks old middle first)
+      (steps_put true middle new (subst (λ (c : Bool). PassesOn g token w true c) (sym asks) begun) second)
 
 -- symbols of a grammar, by the numbers of its sets and tokens
 pub below_by : (rules tokens len dummy : ℕ) (w : List GrammarSymbol) → len ≡ rules → dummy ≡ tokens → All (IsSymbolBelow rules tokens) w

@@ -43,6 +43,13 @@ tokens_more index moves i step tokens more own low is before push shifts =
     ∙ sym (ap tokens_in all ∙ shifts-append (moves_in index (take i moves)) (move_of index step ∷ []))
 
 -- the number of a token in its place
-pub number_at : {S : Type 0} (index : S → ℕ) (tokens : List (TIdx S)) (i : ℕ) (token : TIdx S) (d : ℕ) → i < length tokens → token ≡ get_or tokens i token
+number_at : {S : Type 0} (index : S → ℕ) (tokens : List (TIdx S)) (i : ℕ) (token : TIdx S) (d : ℕ) → i < length tokens → token ≡ get_or tokens i token
     → get_or (token_numbers index tokens) i d ≡ index token.0
 number_at {S} index tokens i token d low is = get_or-map (λ (t : TIdx S). index t.0) tokens i token d low ∙ ap (λ (t : TIdx S). index t.0) (sym is)
+
+-- the numbers of two tokens in one place of lists of one length
+pub numbers_at : {S : Type 0} (index : S → ℕ) (tokens others : List (TIdx S)) (i : ℕ) (token other : TIdx S) (d : ℕ) → i < length tokens
+    → length tokens ≡ length others → token ≡ get_or tokens i token → other ≡ get_or others i other
+    → (get_or (token_numbers index tokens) i d ≡ index token.0) × (get_or (token_numbers index others) i d ≡ index other.0)
+numbers_at index tokens others i token other d low same read read_other =
+    (number_at index tokens i token d low read, number_at index others i other d (omega (arith, low, same)) read_other)

@@ -1,17 +1,22 @@
 -- The path up by links, from one to the one above it.
-use Rattle.std.proofs.Common.{◌≡◌, ◌≢◌, ◌<◌, ◌+◌, ◌⊎◌, ◌∙◌, refl, sym, ap, subst, inl, inr, arith, ℕ, suc, Bool, List, [], ◌∷◌, ◌++◌, drop, length}
-use Rattle.std.proofs.lemmas.List.{append_assoc, append-nil}
+use Rattle.std.proofs.Common.{◌≡◌, ◌≢◌, ◌<◌, ◌≤◌, ◌+◌, ◌⊎◌, ◌∙◌, refl, sym, ap, subst, inl, inr, arith, ℕ, suc, Bool, List, [], ◌∷◌, ◌++◌, drop, get_or, length}
+use Rattle.std.proofs.lemmas.List.{append_assoc, append-nil, length-map, map-append}
+use Rattle.lrpar_grammar_places.specs.declared.span.PIdx.{PIdx}
 use Rattle.lrpar_grammar.specs.Grammar.{Grammar, GrammarSymbol, IsWellFormed, Nonterminal, prods_len, rule_of, start_prod, symbols_of}
 use Rattle.lrpar_table_rows.specs.Graph.{ItemOf}
 use Rattle.lrpar_table_items.specs.Canonical.{AreSame}
 use Rattle.lrpar_table_items.specs.ItemSets.{IsReachedBy}
 use Rattle.lrpar_table_build.proofs.ReachedLemmas.{head_after, known_by_symbol}
-use Rattle.lrpar_table_sentences.specs.Moves.{MoveOf, Makes, forest_moves}
+use Rattle.lrpar_table_sentences.specs.Moves.{MoveOf, Makes, forest_moves, move_of, moves_in}
+use Rattle.lrpar_table_sentences.specs.declared.moves.Move.{Move}
+use Rattle.lrpar_table_sentences.specs.declared.moves.Move.TheVariants.{Make}
 use Rattle.lrpar_table_sentences.specs.Reachable.{IsReachableRule}
 use Rattle.lrpar_conflict_derivations.specs.Completion.{AreUpLinks, EndsLink, LeadsToKernel, HasRest, LeadsUp, UpOf, place_at}
-use Rattle.lrpar_conflict_derivations.specs.ClosureLinks.{AreLinks, IsKernelItem, IsStep, LinkOf, link_at}
+use Rattle.lrpar_conflict_derivations.specs.ClosureLinks.{AreLinks, IsKernelItem, IsOwnStep, IsStep, LinkOf, link_at, link_of, links_of}
+use Rattle.lrpar_conflict_derivations.specs.declared.closure_links.Link.{Link}
 use Rattle.lrpar_table_sentences.proofs.AfterLemmas.{drop_at_get}
 use Rattle.lrpar_conflict_derivations.proofs.CompletionLemmas.{up_added, up_none, up_then}
+use Rattle.lrpar_conflict_derivations.proofs.LinkLemmas.{link_is}
 use Rattle.lrpar_conflict_derivations.proofs.ReachLemmas.{links_reached}
 
 -- links of a state lead up
@@ -70,7 +75,7 @@ module _ (g : Grammar) (token p : ℕ) (asked : Bool) (old : List MoveOf) where
   }
 
   -- a node and trees after it lead up to the item of the link
-  pub path_further : IsWellFormed g → (middle pushed new : List MoveOf) (q : ℕ) (further : Bool) (x : LinkOf) → IsPathUp g token p asked old middle q further
+  path_further : IsWellFormed g → (middle pushed new : List MoveOf) (q : ℕ) (further : Bool) (x : LinkOf) → IsPathUp g token p asked old middle q further
       → q < prods_len g → x.rule ≡ rule_of g q → x.asked ≡ further → IsStep g token x.prod x.dot x.further x.above x
       → pushed ≡ middle ++ Makes q ∷ [] → HasRest g token x pushed new
       → LeadsToKernel g token p asked old new (record { prod = x.prod; dot = x.dot; asked = x.further })
@@ -124,30 +129,47 @@ module _ (g : Grammar) (token p : ℕ) (asked : Bool) (old : List MoveOf) where
     begins = inr (to_kernel.more, refl);
   }
 
--- one link of those that lead up
-module _ (g : Grammar) (token : ℕ) (links : List LinkOf) (ups : AreUpLinks g token links) (i : ℕ) (low : i < length links) (x : LinkOf)
-    (is : x ≡ link_at links i) where
-  pub step_here : IsStep g token x.prod x.dot x.further x.above x
-  step_here = subst (λ (y : LinkOf). IsStep g token y.prod y.dot y.further y.above y) (sym is) (ups i low).step
+-- one link of those that lead up, as the code reads it
+module _ {S : Type 0} (index : S → ℕ) (g : Grammar) (token : ℕ) (links : List (Link S)) (ups : AreUpLinks g token (links_of index links)) (i : ℕ)
+    (low : i < length (links_of index links)) (link : Link S) (read : link ≡ get_or links i link) where
+  here : link_of index link ≡ link_at (links_of index links) i
+  here = link_is index links i link (let long = length-map links (link_of index) in omega (arith, long, low)) read
 
-  pub reached_here : IsReachableRule g (rule_of g x.prod)
-  reached_here = subst (λ (y : LinkOf). IsReachableRule g (rule_of g y.prod)) (sym is) (ups i low).reached
+  pub step_here : IsOwnStep g token (link_of index link)
+  step_here = subst (IsOwnStep g token) (sym here) (ups i low).step
 
-  pub known_here : x.prod < prods_len g
-  known_here = subst (λ (y : LinkOf). y.prod < prods_len g) (sym is) (ups i low).known
+  pub reached_here : IsReachableRule g (rule_of g (index link.prod.0))
+  reached_here = subst (λ (y : LinkOf). IsReachableRule g (rule_of g y.prod)) (sym here) (ups i low).reached
 
-  pub ends_here : (0 < x.dot) ⊎ (x.prod ≡ start_prod g) → EndsLink g links (record { prod = x.prod; dot = x.dot; asked = x.further })
+  pub known_here : index link.prod.0 < prods_len g
+  known_here = subst (λ (y : LinkOf). y.prod < prods_len g) (sym here) (ups i low).known
+
+  pub ends_here : (0 < link.dot) ⊎ (index link.prod.0 ≡ start_prod g)
+      → EndsLink g (links_of index links) (record { prod = index link.prod.0; dot = link.dot; asked = link.further })
   ends_here begun = record {
     number = i;
     within = low;
-    prod = sym (ap (λ (y : LinkOf). y.prod) is);
-    dot = sym (ap (λ (y : LinkOf). y.dot) is);
-    further = sym (ap (λ (y : LinkOf). y.further) is);
+    prod = sym (ap (λ (y : LinkOf). y.prod) here);
+    dot = sym (ap (λ (y : LinkOf). y.dot) here);
+    further = sym (ap (λ (y : LinkOf). y.further) here);
     begun = begun;
   }
 
-  pub above_here : x.dot ≡ 0 → x.prod ≢ start_prod g
-      → (x.above < i) × ((link_at links x.above).rule ≡ rule_of g x.prod) × ((link_at links x.above).asked ≡ x.further)
+  pub above_here : link.dot ≤ 0 → index link.prod.0 ≢ start_prod g
+      → (link.above < i) × ((link_at (links_of index links) link.above).rule ≡ rule_of g (index link.prod.0))
+      × ((link_at (links_of index links) link.above).asked ≡ link.further)
   above_here front listed =
-      subst (λ (y : LinkOf). (y.above < i) × ((link_at links y.above).rule ≡ rule_of g y.prod) × ((link_at links y.above).asked ≡ y.further)) (sym is)
-      ((ups i low).above (sym (ap (λ (y : LinkOf). y.dot) is) ∙ front) (λ last. listed (ap (λ (y : LinkOf). y.prod) is ∙ last)))
+      subst (λ (y : LinkOf). (y.above < i) × ((link_at (links_of index links) y.above).rule ≡ rule_of g y.prod) × ((link_at (links_of index links) y.above).asked ≡ y.further))
+      (sym here)
+      ((ups i low).above (let dot = ap (λ (y : LinkOf). y.dot) here in omega (arith, front, dot)) (λ last. listed (ap (λ (y : LinkOf). y.prod) here ∙ last)))
+
+  -- the node of a production of the link's rule, and trees of the symbols after that rule, lead up to the link's item
+  pub item_here : (p : ℕ) (asked : Bool) (old middle pushed new : List (Move S)) (node : PIdx S) → IsWellFormed g
+      → IsPathUp g token p asked (moves_in index old) (moves_in index middle) (index node.0) (link_at (links_of index links) i).asked
+      → index node.0 < prods_len g → (link_at (links_of index links) i).rule ≡ rule_of g (index node.0) → pushed ≡ middle ++ Make node ∷ []
+      → HasRest g token (link_of index link) (moves_in index pushed) (moves_in index new)
+      → LeadsToKernel g token p asked (moves_in index old) (moves_in index new) (record { prod = index link.prod.0; dot = link.dot; asked = link.further })
+  item_here p asked old middle pushed new node well path known rule push rest =
+      path_further g token p asked (moves_in index old) well (moves_in index middle) (moves_in index pushed) (moves_in index new) (index node.0)
+      (link_at (links_of index links) i).asked (link_of index link) path known (ap (λ (y : LinkOf). y.rule) here ∙ rule) (ap (λ (y : LinkOf). y.asked) here) step_here
+      (ap (moves_in index) push ∙ map-append (move_of index) middle (Make node ∷ [])) rest

@@ -77,12 +77,24 @@ pub record ArePut (Good : LinkOf → Type 0) (old new : List LinkOf) : Type 0 wh
   pub put : new ≡ old ++ more
   pub good : All Good more
 
+-- each rule that is marked has a link, for any lookahead or for the token
+abbrev pub AreLinked : List LinkOf → List Bool → Bool → Type 0
+AreLinked links marks asked = (r : ℕ) → IsTrue (has marks r) → HasLink links asked r
+
+-- this link was appended, or none, and its rule is marked; each marked rule has a link, and there are as many more marks as links at least
+pub record IsPutMarked (x : LinkOf) (old new : List LinkOf) (before after : List Bool) : Type 0 where
+  pub put : ArePut (λ y. y ≡ x) old new
+  pub own : HasLink new x.asked x.rule
+  pub room : length after ≡ length before
+  pub linked : AreLinked new after x.asked
+  pub bounded : length new + missing after ≤ length old + missing before
+
 -- marks of the rules that have links: a marked rule has one; and there are at most as many links as marks
 pub record AreMarks (rules : ℕ) (links : List LinkOf) (any asked : List Bool) : Type 0 where
   pub any_room : length any ≡ rules
   pub asked_room : length asked ≡ rules
-  pub any_linked : (r : ℕ) → IsTrue (has any r) → HasLink links false r
-  pub asked_linked : (r : ℕ) → IsTrue (has asked r) → HasLink links true r
+  pub any_linked : AreLinked links any false
+  pub asked_linked : AreLinked links asked true
   pub bounded : length links + (missing any + missing asked) ≤ 2 * rules
 
 -- a kernel item of the set with this production and dot; if the token is asked for, with the token as lookahead

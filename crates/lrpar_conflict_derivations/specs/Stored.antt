@@ -1,6 +1,7 @@
 -- The facts of this crate, said of values as the code has them: states, tokens and productions by their indexes, and lists of moves, of steps
 -- and of links.
 use Rattle.std.specs.Prelude.{◌≡◌, ◌<◌, ◌≤◌, ◌++◌, ◌⊎◌, ℕ, Bool, List, [], ◌∷◌, MatchOption, Option, Some, length, map, slice_get}
+use Rattle.std.specs.declared.vec.Vec.{Vec}
 use Rattle.lrpar_grammar_places.specs.declared.span.PIdx.{PIdx}
 use Rattle.lrpar_grammar_places.specs.declared.span.RIdx.{RIdx}
 use Rattle.lrpar_grammar_places.specs.declared.span.StIdx.{StIdx}
@@ -22,7 +23,7 @@ use Rattle.lrpar_table_sentences.specs.Texts.{AreTreesOf}
 use Rattle.lrpar_table_sentences.specs.AccessStrings.{StepOf, StepsLead, steps_of, symbols_in}
 use Rattle.lrpar_table_sentences.specs.declared.moves.Move.{Move}
 use Rattle.lrpar_table_sentences.specs.declared.transitions.Step.{Step}
-use Rattle.lrpar_conflict_derivations.specs.ClosureLinks.{AreKernelItemsNoted, AreLinks, AreMarks, AreNoted, AreNotedOf, ArePut, HasLink, IsAsked, IsKernelItem, IsKernelLink, IsLinkBelow, IsNotedCore, IsOwnStep, IsStep, LinkOf, LinkRule, link_at, link_of, links_of}
+use Rattle.lrpar_conflict_derivations.specs.ClosureLinks.{AreKernelItemsNoted, AreLinked, AreLinks, AreMarks, AreNoted, AreNotedOf, ArePut, HasLink, IsAsked, IsKernelItem, IsKernelLink, IsLinkBelow, IsNotedCore, IsOwnStep, IsPutMarked, IsStep, LinkOf, LinkRule, link_at, link_of, links_of}
 use Rattle.lrpar_conflict_derivations.specs.Completion.{AreUpLinks, EndsLink, HasFinished, HasItemFor, HasRest, IsAccessPath, LeadsToKernel, state_before, up_of}
 use Rattle.lrpar_conflict_derivations.specs.Conflict.{CallsFor}
 use Rattle.lrpar_conflict_derivations.specs.Derivation.{Derives}
@@ -160,6 +161,10 @@ abbrev pub DerivesBy : {S : Type 0} → (S → ℕ) → Grammar → List (Step S
 DerivesBy index g steps front token next moves =
     Derives g (steps_of index steps) (index token.0) (moves_in index front) (move_of index next) (moves_in index moves)
 
+-- the same after the moves of this front
+abbrev pub GoesOnBy : {S A : Type 0} → (S → ℕ) → Grammar → Front S → TIdx S → Move S → Vec (Move S) A → Type 0
+GoesOnBy index g front token next moves = DerivesBy index g front.steps.items front.moves.items token next moves.items
+
 -- an item of the state is of the core; if the token is asked for, with it as lookahead
 abbrev pub HasItemWith : {S : Type 0} → (S → ℕ) → Graph → StIdx S → TIdx S → PIdx S × ℕ → Bool → Type 0
 HasItemWith index graph state token core asked = HasItemFor graph (index state.0) (index token.0) (index core.0.0) core.1 asked
@@ -261,6 +266,14 @@ HasMarkFor index found rule = index rule.0 < length found.any.items
 -- this link was appended, or none
 abbrev pub PutsLink : {S : Type 0} → (S → ℕ) → Link S → Found S → Found S → Type 0
 PutsLink index link old new = ArePut (λ x. x ≡ link_of index link) (links_in index old) (links_in index new)
+
+-- each rule that is marked has a link, for any lookahead or for the token
+abbrev pub HaveLinks : {S : Type 0} → (S → ℕ) → List (Link S) → List Bool → Bool → Type 0
+HaveLinks index links marks asked = AreLinked (links_of index links) marks asked
+
+-- this link was appended, or none, and its rule is marked
+abbrev pub PutsMarked : {S : Type 0} → (S → ℕ) → Link S → List (Link S) → List (Link S) → List Bool → List Bool → Type 0
+PutsMarked index link old new before after = IsPutMarked (link_of index link) (links_of index old) (links_of index new) before after
 
 -- there is a link of the rule
 abbrev pub IsLinked : {S : Type 0} → (S → ℕ) → Found S → RIdx S → Bool → Type 0

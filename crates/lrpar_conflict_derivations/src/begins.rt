@@ -1,6 +1,7 @@
 //! Which tokens symbols begin with.
-ghost use Rattle.std.specs.Prelude.{◌≡◌, ◌<◌, All, length, map};
+ghost use Rattle.std.specs.Prelude.{◌≡◌, ◌<◌, ◌&&◌, All, length, map, nat_lt};
 ghost use Rattle.lrpar_grammar.specs.Symbols.{symbol_of};
+ghost use Rattle.lrpar_grammar.specs.Tokens.{has};
 ghost use Rattle.lrpar_table_first.specs.FirstRows.{IsSymbolBelow, begins, rows_of};
 
 use lrpar_grammar::span::{StorageIndex, Symbol};
@@ -22,7 +23,7 @@ pub(crate) fn can_begin<StorageT: StorageIndex>(
             Symbol::Token(first) => return token == usize::from(first),
             Symbol::Rule(rule) => {
                 let set = &firsts[usize::from(rule)];
-                if token < dummy && set.contains(token) {
+                if has_token(set, token, dummy) {
                     return true;
                 }
                 if !set.contains(dummy) {
@@ -32,4 +33,11 @@ pub(crate) fn can_begin<StorageT: StorageIndex>(
         }
     }
     token == dummy
+}
+
+// Whether the set has the token. The dummy lookahead is none.
+fn has_token(set: &TokenSet, token: usize, dummy: usize) -> bool
+    ensures { result ≡ (nat_lt token dummy && has set.now.bits.items token) }
+{
+    token < dummy && set.contains(token)
 }

@@ -4,7 +4,7 @@ ghost use Rattle.std.specs.Bool.{OnFalse, OnTrue};
 ghost use Rattle.lrpar_grammar.specs.Grammar.{IsWellFormed, rules_len};
 ghost use Rattle.lrpar_grammar.specs.Tokens.{has};
 ghost use Rattle.lrpar_table_first.specs.FirstRows.{AreFirsts, rows_of};
-ghost use Rattle.lrpar_conflict_derivations.specs.Stored.{AreLinksOf, AreMarked, AreMarkedOf, AsksFor, HasMarkFor, HasMarks, IsCoreOf, IsKernelCore, IsLinked, IsTokenOf, KeepsMarks, LinkItemsOf, NotesBelow, NotesCore, NotesKernel, NotesKernelCore, NotesStart, PutsBelow, PutsFromKernel, PutsLink, PutsSteps, links_in};
+ghost use Rattle.lrpar_conflict_derivations.specs.Stored.{AreLinksOf, AreMarked, AreMarkedOf, AsksFor, HasMarkFor, HasMarks, HaveLinks, IsCoreOf, IsKernelCore, IsLinked, IsTokenOf, KeepsMarks, LinkItemsOf, NotesBelow, NotesCore, NotesKernel, NotesKernelCore, NotesStart, PutsBelow, PutsFromKernel, PutsLink, PutsMarked, PutsSteps, links_in};
 
 use crate::begins::can_begin;
 use lrpar_grammar::grammar::YaccGrammar;
@@ -253,13 +253,13 @@ fn note<StorageT: StorageIndex>(
     };
     if further {
         if can_begin(firsts, rest, dummy, dummy) {
-            add_asked(link, found)?;
+            add(link, found)?;
         }
         return Ok(());
     }
-    add_any(link, found)?;
+    add(link, found)?;
     if can_begin(firsts, rest, usize::from(token), dummy) {
-        add_asked(
+        add(
             Link {
                 asked: true,
                 ..link
@@ -270,42 +270,38 @@ fn note<StorageT: StorageIndex>(
     Ok(())
 }
 
-// Appends a link for any lookahead, unless there is one of its rule.
-fn add_any<StorageT: StorageIndex>(
+// Appends a link, unless there is one of its rule for the same lookaheads.
+fn add<StorageT: StorageIndex>(
     link: Link<StorageT>,
     found: &mut Found<StorageT>,
 ) -> Result<(), AllocError>
-    requires asks { link.asked ≡ false }
     requires rule { HasMarkFor StorageT.index found.old link.rule }
     requires marks { HasMarks StorageT.index found.old }
     ensures marks { OnOk result (KeepsMarks StorageT.index found.old found.new) }
     ensures put { OnOk result (PutsLink StorageT.index link found.old found.new) }
-    ensures linked { OnOk result (IsLinked StorageT.index found.new link.rule false) }
+    ensures linked { OnOk result (IsLinked StorageT.index found.new link.rule link.asked) }
 {
-    let rule = usize::from(link.rule);
-    if !found.any[rule] {
-        found.links.push(link)?;
-        found.any[rule] = true;
+    if link.asked {
+        put(link, &mut found.links, &mut found.asked)
+    } else {
+        put(link, &mut found.links, &mut found.any)
     }
-    Ok(())
 }
 
-// Appends a link for the token, unless there is one of its rule.
-fn add_asked<StorageT: StorageIndex>(
+// Appends a link and marks its rule, unless that is marked.
+fn put<StorageT: StorageIndex>(
     link: Link<StorageT>,
-    found: &mut Found<StorageT>,
+    links: &mut Vec<Link<StorageT>>,
+    marks: &mut Vec<bool>,
 ) -> Result<(), AllocError>
-    requires asks { link.asked ≡ true }
-    requires rule { HasMarkFor StorageT.index found.old link.rule }
-    requires marks { HasMarks StorageT.index found.old }
-    ensures marks { OnOk result (KeepsMarks StorageT.index found.old found.new) }
-    ensures put { OnOk result (PutsLink StorageT.index link found.old found.new) }
-    ensures linked { OnOk result (IsLinked StorageT.index found.new link.rule true) }
+    requires rule { StorageT.index link.rule.0 < length marks.old.items }
+    requires linked { HaveLinks StorageT.index links.old.items marks.old.items link.asked }
+    ensures { OnOk result (PutsMarked StorageT.index link links.old.items links.new.items marks.old.items marks.new.items) }
 {
     let rule = usize::from(link.rule);
-    if !found.asked[rule] {
-        found.links.push(link)?;
-        found.asked[rule] = true;
+    if !marks[rule] {
+        links.push(link)?;
+        marks[rule] = true;
     }
     Ok(())
 }

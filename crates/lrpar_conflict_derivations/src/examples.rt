@@ -6,9 +6,10 @@ ghost use Rattle.lrpar_table_build.specs.Built.{IsBuilt};
 ghost use Rattle.lrpar_table_build.specs.BuilderLaws.{lists_in};
 ghost use Rattle.lrpar_table_sentences.specs.Choices.{AreShortest};
 ghost use Rattle.lrpar_table_sentences.specs.Reachable.{EachReachableHasTree};
+ghost use Rattle.lrpar_conflict_derivations.specs.Completion.{CanComplete};
 ghost use Rattle.lrpar_conflict_derivations.specs.Conflict.{IsConflict, IsExampleOf, IsReduceReduceExample, IsShiftReduceExample, conflict_of};
 ghost use Rattle.lrpar_conflict_derivations.specs.Example.{AreExamplesFor, IsExampleFault};
-ghost use Rattle.lrpar_conflict_derivations.specs.Stored.{IsFrontTo, IsStateOf};
+ghost use Rattle.lrpar_conflict_derivations.specs.Stored.{GoesOnBy, IsCalledFor, IsFrontTo, IsStateOf};
 
 use crate::context::Context;
 use crate::derivations::derive;
@@ -182,7 +183,7 @@ impl<StorageT: StorageIndex> Examples<StorageT> {
         ensures bound { IfOk result (λ x. x.bound ≡ bound) }
     {
         let front = self.front(alloc, grm, sgraph, stable, conflict.state)?;
-        let plain = self.plain(alloc, grm, sgraph, stable, &front, conflict, bound)?;
+        let plain = self.plain(alloc, grm, sgraph, &front, conflict, bound)?;
         if bound == 0 || plain.is_ambiguous() {
             return Ok(plain);
         }
@@ -198,44 +199,49 @@ impl<StorageT: StorageIndex> Examples<StorageT> {
         alloc: Global,
         grm: &YaccGrammar<StorageT>,
         sgraph: &StateGraph<StorageT>,
-        stable: &StateTable<StorageT>,
         front: &Front<StorageT>,
         conflict: &Conflict<StorageT>,
         bound: usize,
     ) -> Result<Example<StorageT>, AllocError>
-        requires built { IsBuilt grm.now sgraph.now stable.now }
-        requires made { AreExamplesFor grm.now sgraph.now stable.now usize.MAX self.now }
+        requires parts { CanComplete grm.now sgraph.now usize.MAX self.now.firsts self.now.shortest }
         requires conflict { IsConflict grm.now sgraph.now (conflict_of StorageT.index conflict.now) }
         requires front { IsFrontTo StorageT.index grm.now sgraph.now conflict.now.state front.now }
         ensures example { IfOk result (IsExampleOf grm.now sgraph.now (conflict_of StorageT.index conflict.now)) }
         ensures bound { IfOk result (λ x. x.bound ≡ bound) }
     {
-        let (firsts, shortest) = (&self.firsts, &self.shortest);
-        let first = derive(
-            alloc,
-            grm,
-            firsts,
-            shortest,
-            sgraph,
-            &front.steps,
-            conflict.state,
-            &front.moves,
-            conflict.token,
-            conflict.one,
-        )?;
-        let second = derive(
-            alloc,
-            grm,
-            firsts,
-            shortest,
-            sgraph,
-            &front.steps,
-            conflict.state,
-            &front.moves,
-            conflict.token,
-            conflict.other,
-        )?;
+        let first = self.derivation(alloc, grm, sgraph, front, conflict, conflict.one)?;
+        let second = self.derivation(alloc, grm, sgraph, front, conflict, conflict.other)?;
         Example::new(alloc, &front.moves, first, second, true, bound)
+    }
+
+    // The derivation that begins with this access path, and goes on with the move at the conflict's token.
+    fn derivation(
+        &self,
+        alloc: Global,
+        grm: &YaccGrammar<StorageT>,
+        sgraph: &StateGraph<StorageT>,
+        front: &Front<StorageT>,
+        conflict: &Conflict<StorageT>,
+        next: Move<StorageT>,
+    ) -> Result<Vec<Move<StorageT>>, AllocError>
+        requires parts { CanComplete grm.now sgraph.now usize.MAX self.now.firsts self.now.shortest }
+        requires conflict { IsConflict grm.now sgraph.now (conflict_of StorageT.index conflict.now) }
+        requires front { IsFrontTo StorageT.index grm.now sgraph.now conflict.now.state front.now }
+        requires called { IsCalledFor StorageT.index grm.now sgraph.now conflict.now.state conflict.now.token next }
+        ensures { IfOk result (GoesOnBy StorageT.index grm.now front.now conflict.now.token next) }
+    {
+        derive(
+            alloc,
+            grm,
+            &self.firsts,
+            &self.shortest,
+            sgraph,
+            &front.steps,
+            conflict.state,
+            &front.moves,
+            conflict.token,
+            next,
+        )
     }
 
     // A shortest access path of the state, and minimal sentences' trees of its symbols.

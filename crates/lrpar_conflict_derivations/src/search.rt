@@ -1,5 +1,6 @@
 //! Configurations of two derivations with a common text, and the search over them.
-ghost use Rattle.std.specs.Prelude.{IfSome};
+ghost use Rattle.std.specs.Prelude.{◌<◌, IfSome};
+ghost use Rattle.lrpar_table_rows.specs.Table.{states_len};
 ghost use Rattle.lrpar_conflict_derivations.specs.Stored.{IsStateOf};
 
 use crate::access_paths::AccessPaths;
@@ -359,6 +360,23 @@ impl<StorageT: StorageIndex> Search<StorageT> {
         }
     }
 
+    // The states at the tops of both stacks, if the graph has them, and the table the first one.
+    fn states_of(
+        &self,
+        context: &Context<'_, StorageT>,
+        configuration: &Configuration<StorageT>,
+    ) -> Option<(StIdx<StorageT>, StIdx<StorageT>)>
+        ensures { IfSome result (λ states. StorageT.index states.0.0 < states_len context.now.table.now) }
+    {
+        let one = self.state_at(context, configuration.one)?;
+        let other = self.state_at(context, configuration.other)?;
+        if usize::from(one) < context.table.states_len() {
+            Some((one, other))
+        } else {
+            None
+        }
+    }
+
     // Adds the configurations that come by shifting a token: the conflict's one, if it wasn't shifted yet.
     fn shift_tokens(
         &mut self,
@@ -367,15 +385,9 @@ impl<StorageT: StorageIndex> Search<StorageT> {
         parent: usize,
         configuration: &Configuration<StorageT>,
     ) -> Result<(), AllocError> {
-        let (Some(state), Some(other)) = (
-            self.state_at(context, configuration.one),
-            self.state_at(context, configuration.other),
-        ) else {
+        let Some((state, other)) = self.states_of(context, configuration) else {
             return Ok(());
         };
-        if usize::from(state) >= context.table.states_len() {
-            return Ok(());
-        }
         let (tokens, actions) = context.table.actions_of(state);
         for (place, token) in tokens.iter().enumerate() {
             let is_next = configuration.past_conflict
@@ -406,15 +418,9 @@ impl<StorageT: StorageIndex> Search<StorageT> {
         parent: usize,
         configuration: &Configuration<StorageT>,
     ) -> Result<(), AllocError> {
-        let (Some(state), Some(other)) = (
-            self.state_at(context, configuration.one),
-            self.state_at(context, configuration.other),
-        ) else {
+        let Some((state, other)) = self.states_of(context, configuration) else {
             return Ok(());
         };
-        if usize::from(state) >= context.table.states_len() {
-            return Ok(());
-        }
         let (rules, states) = context.table.gotos_of(state);
         for (place, rule) in rules.iter().enumerate() {
             if place < states.len() && context.len_of(Symbol::Rule(*rule)) > 0 {

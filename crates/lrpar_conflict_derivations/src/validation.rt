@@ -71,6 +71,7 @@ fn path_moves<StorageT: StorageIndex>(
     requires shortest { AreShortest grm.now usize.MAX shortest.now }
     ensures { IfOk result (λ found. IfSome found (λ moves. AreMovesTo StorageT.index grm.now graph.now state steps.now moves.items)) }
 {
+    let _start = grm.start_prod();
     let _graph = graph.states_len();
     let _states = table.states_len();
     if !lead(table, steps, state) {

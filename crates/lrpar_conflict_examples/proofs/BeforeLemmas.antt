@@ -11,7 +11,8 @@ use Rattle.lrpar_conflict_examples.specs.Conflicts.{ConflictExampleOf}
 use Rattle.lrpar_conflict_examples.specs.ExamplesFit.{DerivesFrom}
 use Rattle.lrpar_conflict_examples.specs.Fits.{AreMovesOf, AreTokensOf}
 use Rattle.lrpar_conflict_examples.specs.Texts.{AreExampleTexts, IsExampleText}
-use Rattle.lrpar_conflict_examples.proofs.KnownLemmas.{leaves_known, tokens_of_tree}
+use Rattle.lrpar_conflict_derivations.proofs.TextLemmas.{tokens_of_tree}
+use Rattle.lrpar_conflict_examples.proofs.KnownLemmas.{leaves_known}
 
 -- the moves of a tree shift its text
 tokens_text : (g : Grammar) (moves : List MoveOf) (tree : Tree ℕ) → AreMovesOf g moves tree → tokens_in moves ≡ leaves tree

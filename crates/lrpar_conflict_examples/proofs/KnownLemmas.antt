@@ -1,14 +1,11 @@
 -- The tokens and productions of trees of a grammar's symbols are the grammar's.
-use Rattle.std.proofs.Common.{◌≡◌, ◌<◌, ◌∙◌, refl, sym, ap, subst, arith, inl, inr, ℕ, suc, List, [], ◌∷◌, ◌++◌}
+use Rattle.std.proofs.Common.{◌≡◌, ◌<◌, ◌∙◌, sym, ap, subst, arith, inl, inr, ℕ, suc, List, [], ◌∷◌}
 use Rattle.std.specs.List.{All, AllByRecursion}
 use Rattle.std.proofs.lemmas.Bool.{cases_lt}
-use Rattle.std.proofs.lemmas.List.{append-nil}
 use Rattle.lrpar_grammar_places.proofs.ListLemmas.{all_both}
 use Rattle.lrpar_grammar.specs.Grammar.{Grammar, GrammarSymbol, IsListedSymbol, IsWellFormed, Nonterminal, Terminal, end_token, prods_len, rules_len, start_prod, symbols_of, tokens_len}
 use Rattle.lrpar_grammar.specs.Tree.{Forest, Tree, Branch, Cons, Leaf, Nil, forest_leaves, leaves}
-use Rattle.lrpar_table_sentences.specs.Moves.{MoveOf, Makes, Takes, forest_moves, moves_of}
 use Rattle.lrpar_table_sentences.specs.Texts.{AreTreesOf, IsTreeOf}
-use Rattle.lrpar_conflict_derivations.specs.Texts.{tokens_in}
 use Rattle.lrpar_conflict_examples.specs.Fits.{AreTokensOf, IsSymbolOf}
 
 -- a listed symbol is one of the grammar
@@ -46,21 +43,3 @@ module _ (g : Grammar) (well : IsWellFormed g) where
     all_leaves_known (Cons t ts) [] fit known = absurd fit
     all_leaves_known (Cons t ts) (s ∷ ss) fit known =
         all_both (λ x. x < tokens_len g) (leaves t) (forest_leaves ts) (leaves_known t s fit.0 known.0) (all_leaves_known ts ss fit.1 known.1)
-
--- the moves of a tree shift its leaves
-shifts-append : (moves more : List MoveOf) → tokens_in (moves ++ more) ≡ tokens_in moves ++ tokens_in more
-shifts-append [] more = refl
-shifts-append (Takes t ∷ moves) more = ap (λ ts. t ∷ ts) (shifts-append moves more)
-shifts-append (Makes p ∷ moves) more = shifts-append moves more
-
-mutual
-  pub tokens_of_tree : (tree : Tree ℕ) → tokens_in (moves_of tree) ≡ leaves tree
-  tokens_of_tree (Leaf t) = refl
-  tokens_of_tree (Branch p children) =
-      shifts-append (forest_moves children) (Makes p ∷ []) ∙ append-nil (tokens_in (forest_moves children)) ∙ tokens_of_trees children
-
-  pub tokens_of_trees : (trees : Forest ℕ) → tokens_in (forest_moves trees) ≡ forest_leaves trees
-  tokens_of_trees Nil = refl
-  tokens_of_trees (Cons t ts) =
-      shifts-append (moves_of t) (forest_moves ts) ∙ ap (λ xs. xs ++ tokens_in (forest_moves ts)) (tokens_of_tree t)
-      ∙ ap (λ xs. leaves t ++ xs) (tokens_of_trees ts)

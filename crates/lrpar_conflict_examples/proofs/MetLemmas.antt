@@ -1,6 +1,6 @@
 -- The states that a parse can meet: marks of them, and the steps of a table.
-use Rattle.std.proofs.Common.{◌≡◌, ◌<◌, ◌≤◌, ◌+◌, ◌∙◌, refl, sym, ap, subst, inl, inr, arith, lit<, ℕ, Bool, true, false, cond, IsTrue, List, [], ◌∷◌, ◌++◌, All, Option, Some, get_or, length, map, replicate, set, slice_get, slice_index_or, take}
-use Rattle.std.specs.List.{Contains, flat_map, range_with_len, zip}
+use Rattle.std.proofs.Common.{◌≡◌, ◌<◌, ◌≤◌, ◌+◌, ◌∙◌, refl, sym, ap, subst, inl, inr, arith, lit<, ℕ, Bool, true, false, cond, IsTrue, List, [], ◌∷◌, ◌++◌, All, Option, Some, get_or, length, replicate, set, slice_get}
+use Rattle.std.specs.List.{Contains, flat_map, range_with_len}
 use Rattle.std.proofs.lemmas.Bool.{cases_eq, cases_lt, false≢true}
 use Rattle.std.proofs.lemmas.List.{append-nil, get_or-replicate, get_or-set_other, get_or-set_same, get_or_past, length-replicate, length-set}
 use Rattle.std.proofs.lemmas.Option.{slice_get-get_or}
@@ -11,27 +11,11 @@ use Rattle.std.proofs.Common.{zero-add}
 use Rattle.lrpar_grammar.specs.Tokens.{has}
 use Rattle.lrpar_table_first.specs.FirstRows.{row_at}
 use Rattle.lrpar_table_precedence.specs.Precedence.{PrecedenceLists}
-use Rattle.lrpar_table_rows.proofs.StoredLemmas.{entries_len, entry_at}
 use Rattle.lrpar_table_rows.specs.Table.{IsClosed, Table, TableAction, ShiftTo, ReduceBy, Accepts, Fails, action_of, actions_at, gotos_at, states_len}
 use Rattle.lrpar_table_build.proofs.MemberLemmas.{joined_has, joined_member, member_cases, member_none, range_has, range_member}
-use Rattle.lrpar_table_sentences.proofs.EdgeLemmas.{made_all, made_more}
 use Rattle.lrpar_table_sentences.specs.AccessLens.{IsStoredAt}
 use Rattle.lrpar_table_sentences.specs.Reachable.{is_marked}
 use Rattle.lrpar_conflict_examples.specs.Met.{AreMarks, AreMet, AreSteps, AreTakenAway, Goes, IsMet, IsStep, IsStepOf, MarksNext, Shifts, Starts, Steps, goto_steps, shift_step, shift_steps, steps_at, steps_below}
-
--- what is made of each entry of stored keys and values, one entry after the other
-module _ {K V X Y : Type 0} (number : K → ℕ) (value : V → X) (ks : List K) (vs : List V) (es : List (ℕ × X)) (paired : length vs ≡ length ks)
-    (is : map (λ e. (number e.0, value e.1)) (zip ks vs) ≡ es) (f : ℕ × X → List Y) (first : List Y) where
-  pub entry_more : (i : ℕ) (k : K) (v : V) (before after : List Y) → i < length ks → k ≡ slice_index_or ks i k → v ≡ slice_index_or vs i v
-      → before ≡ first ++ flat_map f (take i es) → after ≡ before ++ f (number k, value v) → after ≡ first ++ flat_map f (take (i + 1) es)
-  entry_more i k v before after below key at so_far put =
-      let there = entry_at number value ks vs es paired is i k v below key at in
-      made_more f es i (number k, value v) first before after there.0 there.1 so_far put
-
-  pub entry_all : (i : ℕ) (all : List Y) → length ks ≤ i → all ≡ first ++ flat_map f (take i es) → all ≡ first ++ flat_map f es
-  entry_all i all past so_far =
-      let len = entries_len number value ks vs es paired is in
-      made_all f es i first all (omega (arith, len, past)) so_far
 
 -- a marked state is in range
 marked_within : (marks : List Bool) (s : ℕ) → IsTrue (is_marked marks s) → s < length marks

@@ -4,7 +4,7 @@ use Rattle.std.proofs.Common.{◌≡◌, ◌<◌, ◌≤◌, ◌+◌, ◌∙◌,
 use Rattle.std.specs.List.{All, AllByRecursion, flat_map}
 use Rattle.std.proofs.lemmas.Grind.{flat_map-append}
 use Rattle.std.proofs.lemmas.List.Elements.{All-push}
-use Rattle.std.proofs.lemmas.List.{append-nil, append_assoc, map-append}
+use Rattle.std.proofs.lemmas.List.{append-nil, append_assoc, map-append, same_from_push}
 use Rattle.lrpar_grammar_places.specs.declared.span.PIdx.{PIdx}
 use Rattle.lrpar_grammar.specs.Grammar.{Grammar, GrammarSymbol, IsWellFormed, Nonterminal, Terminal, prods_len, symbols_of, tokens_len}
 use Rattle.lrpar_grammar.specs.Tree.{Forest, Tree, Branch, Cons, Leaf, Nil}
@@ -51,19 +51,6 @@ pub record Walk {S : Type 0} (index : S → ℕ) (g : Grammar) (waiting : List (
   pub each : AllByRecursion (IsRepresented index g) represented
   pub moves : rest ≡ flat_map represented_moves represented
   pub text : flat_map (represented_text index g) represented ++ done ≡ whole
-
--- two lists that are equal, each with one element appended, are equal in both parts
-last_same : {A : Type 0} (xs ys : List A) (x y : A) → xs ++ x ∷ [] ≡ ys ++ y ∷ [] → (xs ≡ ys) × (x ≡ y)
-last_same [] [] x y e = let same : x ≡ y = cc in (refl, same)
-last_same {A} [] (b ∷ ys) x y e =
-    absurd (omega (arith, ap (λ (l : List A). length l) e, length-append ys (y ∷ [])))
-last_same {A} (a ∷ xs) [] x y e =
-    absurd (omega (arith, ap (λ (l : List A). length l) e, length-append xs (x ∷ [])))
-last_same (a ∷ xs) (b ∷ ys) x y e =
-    let first : a ≡ b = cc in
-    let rest : xs ++ x ∷ [] ≡ ys ++ y ∷ [] = cc in
-    let more = last_same xs ys x y rest in
-    (ap (λ z. z ∷ xs) first ∙ ap (λ zs. b ∷ zs) more.0, more.1)
 
 -- a list whose image ends with one more element
 pub record Parts {A B : Type 0} (f : A → B) (xs : List A) (ys : List B) (y : B) : Type 0 where
@@ -237,7 +224,7 @@ module _ {S : Type 0} (index : S → ℕ) (g : Grammar) (well : IsWellFormed g) 
       → IsMoveOf g (move_of index m) × (Meets index g m old pieces left new → Walk index g new before (backward_text index g pieces) whole)
   met (Leaf x) (Take t) own moves text =
       let first = flat_map (represented_text index g) front in
-      let same = last_same (flat_map represented_moves front) before (Takes x) (Takes (index t.0)) moves in
+      let same = same_from_push (flat_map represented_moves front) before (Takes x) (Takes (index t.0)) moves in
       let token : x ≡ index t.0 = let last = same.1 in cc in (
         subst (λ n. n < tokens_len g) token (leaf_known g x own.0 own.1 own.2),
         λ meets. record {
@@ -252,12 +239,12 @@ module _ {S : Type 0} (index : S → ℕ) (g : Grammar) (well : IsWellFormed g) 
         },
       )
   met (Leaf x) (Make p) own moves text =
-      let same = last_same (flat_map represented_moves front) before (Takes x) (Makes (index p.0)) moves in
+      let same = same_from_push (flat_map represented_moves front) before (Takes x) (Makes (index p.0)) moves in
       let last = same.1 in
       absurd (cc)
   met (Branch q children) (Take t) own moves text =
       let first = flat_map represented_moves front in
-      let same = last_same (first ++ forest_moves children) before (Makes q) (Takes (index t.0)) (append_assoc first (forest_moves children) (Makes q ∷ []) ∙ moves) in
+      let same = same_from_push (first ++ forest_moves children) before (Makes q) (Takes (index t.0)) (append_assoc first (forest_moves children) (Makes q ∷ []) ∙ moves) in
       let last = same.1 in
       absurd (cc)
   met (Branch q children) (Make p) own moves text =
@@ -265,7 +252,7 @@ module _ {S : Type 0} (index : S → ℕ) (g : Grammar) (well : IsWellFormed g) 
       let n = index p.0 in
       let first = flat_map represented_moves front in
       let texts = flat_map (represented_text index g) front in
-      let same = last_same (first ++ forest_moves children) before (Makes q) (Makes n) (append_assoc first (forest_moves children) (Makes q ∷ []) ∙ moves) in
+      let same = same_from_push (first ++ forest_moves children) before (Makes q) (Makes n) (append_assoc first (forest_moves children) (Makes q ∷ []) ∙ moves) in
       let prod : q ≡ n = let last = same.1 in cc in
       let parts = node_parts g q children own.0 own.1 in
       let known = subst (λ m. m < prods_len g) prod parts.0 in

@@ -1,6 +1,6 @@
 -- The states that a parse can meet if precedences resolve conflicts: those that lie on a path of shifts and gotos from the start, without
 -- the shifts that precedences take away.
-use Rattle.std.specs.Prelude.{◌≡◌, ◌≢◌, ◌<◌, ◌↔◌, ◌&&◌, ◌||◌, ◌==◌, ℕ, All, Bool, true, false, Contains, IsTrue, List, [], ◌∷◌, ◌++◌, Option, Some, None, filter, length, map, not, if◌then◌else◌}
+use Rattle.std.specs.Prelude.{◌≡◌, ◌<◌, ◌↔◌, ◌&&◌, ◌||◌, ◌==◌, ℕ, All, Bool, true, false, Contains, IsTrue, List, [], ◌∷◌, ◌++◌, Option, Some, None, filter, length, map, not, if◌then◌else◌}
 use Rattle.std.specs.List.{flat_map, list_any, range_with_len}
 use Rattle.std.specs.Option.{is_none}
 use Rattle.lrpar_grammar.specs.Grammar.{Grammar}
@@ -127,14 +127,6 @@ goto_steps_of table s = goto_steps s (gotos_at table s)
 
 abbrev pub steps_of : List Bool → Table → ℕ → List (ℕ × ℕ)
 steps_of taken table s = shift_steps_of taken table s ++ goto_steps_of table s
-
--- what is stored for state s are its actions, and its gotos
-abbrev pub StoresActions : Table → ℕ → Type 0
-StoresActions table s =
-    (t : ℕ) (action : TableAction) → Contains (actions_at table s) (t, action) ↔ ((action_of table s t ≡ action) × (action ≢ Fails))
-
-abbrev pub StoresGotos : Table → ℕ → Type 0
-StoresGotos table s = (r next : ℕ) → Contains (gotos_at table s) (r, next) ↔ (goto_of table s r ≡ Some next)
 
 -- all steps of the states below n, state by state
 abbrev pub steps_at : Table → List (List Bool) → ℕ → List (ℕ × ℕ)

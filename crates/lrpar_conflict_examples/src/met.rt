@@ -7,7 +7,7 @@ ghost use Rattle.lrpar_table_rows.specs.PlainRows.{plain_action};
 ghost use Rattle.lrpar_table_rows.specs.Table.{states_len};
 ghost use Rattle.lrpar_table_sentences.specs.AccessLens.{IsStoredAt};
 ghost use Rattle.lrpar_table_sentences.specs.Reachable.{unmarked};
-ghost use Rattle.lrpar_conflict_examples.specs.Met.{AddsTokens, AreMarksByAny, AreMet, AreSteps, AreTakenAway, AreWithin, HasRoomOf, KeepsMarks, MarksNext, StepKeepsMarks, StoresActions, StoresGotos, goto_steps_of, loses_shift, shift_step, shift_steps_of, steps_of, take_away};
+ghost use Rattle.lrpar_conflict_examples.specs.Met.{AddsTokens, AreMarksByAny, AreMet, AreSteps, AreTakenAway, AreWithin, HasRoomOf, KeepsMarks, MarksNext, StepKeepsMarks, loses_shift, shift_step, steps_of, take_away};
 
 use lrpar_grammar::span::{PIdx, StIdx, StorageIndex, TIdx};
 use lrpar_grammar::token_set::TokenSet;
@@ -104,23 +104,8 @@ fn push_steps<StorageT: StorageIndex>(
     ensures edges { OnOk result (edges.new.items ≡ edges.old.items ++ steps_of taken.now.bits.items stable.now (StorageT.index s.0)) }
     ensures stored { OnOk result (IsStoredAt stable.now (StorageT.index s.0)) }
 {
-    push_shifts(edges, stable, s, taken)?;
-    push_gotos(edges, stable, s)
-}
-
-// Appends the steps by the state's shifts that aren't taken away.
-fn push_shifts<StorageT: StorageIndex>(
-    edges: &mut Vec<(usize, usize)>,
-    stable: &StateTable<StorageT>,
-    s: StIdx<StorageT>,
-    taken: &TokenSet,
-) -> Result<(), AllocError>
-    requires { StorageT.index s.0 < states_len stable.now }
-    ensures edges { OnOk result (edges.new.items ≡ edges.old.items ++ shift_steps_of taken.now.bits.items stable.now (StorageT.index s.0)) }
-    ensures stored { OnOk result (StoresActions stable.now (StorageT.index s.0)) }
-{
     let (tokens, actions) = stable.actions_of(s);
-    for (place, token) in tokens.iter().enumerate() {
+    'shifts: for (place, token) in tokens.iter().enumerate() {
         push_shift(
             edges,
             usize::from(s),
@@ -128,6 +113,10 @@ fn push_shifts<StorageT: StorageIndex>(
             actions[place],
             taken,
         )?;
+    }
+    let (rules, states) = stable.gotos_of(s);
+    'gotos: for (place, _) in rules.iter().enumerate() {
+        edges.push((usize::from(s), usize::from(states[place])))?;
     }
     Ok(())
 }
@@ -151,23 +140,6 @@ fn push_shift<StorageT: StorageIndex>(
         }
         Action::Reduce(_) | Action::Accept | Action::Error => Ok(()),
     }
-}
-
-// Appends the steps by the state's gotos.
-fn push_gotos<StorageT: StorageIndex>(
-    edges: &mut Vec<(usize, usize)>,
-    stable: &StateTable<StorageT>,
-    s: StIdx<StorageT>,
-) -> Result<(), AllocError>
-    requires { StorageT.index s.0 < states_len stable.now }
-    ensures edges { OnOk result (edges.new.items ≡ edges.old.items ++ goto_steps_of stable.now (StorageT.index s.0)) }
-    ensures stored { OnOk result (StoresGotos stable.now (StorageT.index s.0)) }
-{
-    let (rules, states) = stable.gotos_of(s);
-    for (place, _) in rules.iter().enumerate() {
-        edges.push((usize::from(s), usize::from(states[place])))?;
-    }
-    Ok(())
 }
 
 // For each state the tokens whose shift precedences take away.

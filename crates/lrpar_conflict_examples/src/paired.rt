@@ -1,6 +1,4 @@
 //! Which states of two tables the same paths of symbols lead to.
-ghost use Rattle.std.specs.Prelude.{◌<◌};
-ghost use Rattle.lrpar_table_rows.specs.Table.{states_len};
 
 use lrpar_grammar::span::{StIdx, StorageIndex};
 use lrpar_table_rows::table::{Action, StateTable};
@@ -75,21 +73,6 @@ impl<StorageT: StorageIndex> Pairs<StorageT> {
         if usize::from(state) >= one.states_len() || usize::from(paired) >= other.states_len() {
             return Ok(());
         }
-        self.follow_shifts(one, other, state, paired)?;
-        self.follow_gotos(one, other, state, paired)
-    }
-
-    // Adds those of shifts.
-    fn follow_shifts(
-        &mut self,
-        one: &StateTable<StorageT>,
-        other: &StateTable<StorageT>,
-        state: StIdx<StorageT>,
-        paired: StIdx<StorageT>,
-    ) -> Result<(), AllocError>
-        requires state { StorageT.index state.0 < states_len one.now }
-        requires paired { StorageT.index paired.0 < states_len other.now }
-    {
         let (tokens, actions) = one.actions_of(state);
         for (place, token) in tokens.iter().enumerate() {
             if let Action::Shift(next) = actions[place] {
@@ -100,20 +83,6 @@ impl<StorageT: StorageIndex> Pairs<StorageT> {
                 }
             }
         }
-        Ok(())
-    }
-
-    // Adds those of gotos.
-    fn follow_gotos(
-        &mut self,
-        one: &StateTable<StorageT>,
-        other: &StateTable<StorageT>,
-        state: StIdx<StorageT>,
-        paired: StIdx<StorageT>,
-    ) -> Result<(), AllocError>
-        requires state { StorageT.index state.0 < states_len one.now }
-        requires paired { StorageT.index paired.0 < states_len other.now }
-    {
         let (rules, states) = one.gotos_of(state);
         for (place, rule) in rules.iter().enumerate() {
             if usize::from(*rule) < other.rules_len() {

@@ -3,8 +3,9 @@ use Rattle.std.proofs.lemmas.List.{take_all}
 use Rattle.std.specs.List.{Contains}
 use Rattle.lrpar_grammar.specs.Symbols.{prod_numbers}
 use Rattle.lrpar_grammar_places.proofs.ListLemmas.{map-take_more}
+use Rattle.lrpar_table_items.proofs.ProdLemmas.{in_prods, listed_at}
 use Rattle.lrpar_conflict_derivations.specs.ClosureLinks.{IsLinkBelow, IsStep, links_of}
-use Rattle.lrpar_conflict_derivations.proofs.LinkLemmas.{below_link, in_prods, of_prods, prod_in, prods_more}
+use Rattle.lrpar_conflict_derivations.proofs.LinkLemmas.{below_link, prods_more}
 use Rattle.lrpar_conflict_derivations.proofs.MarkLemmas.{put_none, put_then, put_weaker}
 use Rattle.lrpar_conflict_derivations.proofs.closure_links.note_rule.Goals as goal
 
@@ -19,10 +20,9 @@ loop-pidx-init g c =
 pub note-requires-clause-core : goal.note-requires-clause-core
 note-requires-clause-core g c =
     let index = g.StorageT.StorageIndex.index in
-    let p = c.pidx-item.result in
-    let listed = prod_in index c.rule_to_prods-pidx-items.result.now c.loop-pidx.pidx-index p c.loop-pidx-test.true c.pidx-item.is in
     let known =
-    of_prods c.args.grm.now (index c.args.link.rule.0) (index p.0) (subst (λ (xs : List ℕ). Contains xs (index p.0)) c.rule_to_prods-pidx-items.ensures listed) in
+    listed_at index c.args.grm.now (index c.args.link.rule.0) c.rule_to_prods-pidx-items.result.now c.loop-pidx.pidx-index c.pidx-item.result
+    c.rule_to_prods-pidx-items.ensures c.loop-pidx-test.true c.pidx-item.is in
     (known.0, omega arith)
 
 pub loop-pidx-preserved : goal.loop-pidx-preserved
@@ -35,8 +35,7 @@ loop-pidx-preserved g c =
     let prods = c.rule_to_prods-pidx-items.result.now in
     let i = c.loop-pidx.pidx-index in
     let p = c.pidx-item.result in
-    let known =
-    of_prods grm r (index p.0) (subst (λ (xs : List ℕ). Contains xs (index p.0)) c.rule_to_prods-pidx-items.ensures (prod_in index prods i p c.loop-pidx-test.true c.pidx-item.is)) in
+    let known = listed_at index grm r prods i p c.rule_to_prods-pidx-items.ensures c.loop-pidx-test.true c.pidx-item.is in
     let Good = IsLinkBelow grm token c.args.at r asked in
     let first = links_of index c.args.found.now.links.items in
     let old = links_of index c.loop-pidx.found.links.items in
