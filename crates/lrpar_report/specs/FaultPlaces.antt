@@ -1,7 +1,6 @@
 -- The places of faults: the spans of the labels of their reports.
 use Rattle.std.specs.Prelude.{◌≡◌, ◌<◌, ◌≤◌, ◌+◌, ◌∷◌, ℕ, List, [], length}
 use Rattle.std.specs.Str.{IsCharBoundary}
-use Rattle.lrpar_grammar_places.specs.Facts.{LexemeFacts}
 use Rattle.lrpar_grammar_places.specs.Lines.{line_of}
 use Rattle.lrpar_grammar_places.specs.Span.{Extent}
 use Rattle.lrpar_grammar_reader.specs.declared.parts.GrammarFault.{GrammarFault}
@@ -118,12 +117,12 @@ abbrev pub IsPlaceBy : (List Extent → Type 0) → List ℕ → Extent → Type
 IsPlaceBy AreSpans text place = (spans : List Extent) × AreSpans spans × IsFirstPlace text spans place
 
 -- the report has the spans of the error
-abbrev pub ShowsError : {S L B C : Type 0} → (C → Extent) → (B → LexemeFacts) → List ℕ → LexParseError S L B C → Report → Type 0
-ShowsError place parts text error report = AreErrorSpans place (λ x. (parts x).span) text error (label_spans report)
+abbrev pub ShowsError : {S L B C : Type 0} → (C → Extent) → (B → Extent) → List ℕ → LexParseError S L B C → Report → Type 0
+ShowsError place span text error report = AreErrorSpans place span text error (label_spans report)
 
 -- the error is at the place of its spans
-abbrev pub IsErrorPlaced : {S L B C E : Type 0} → (C → Extent) → (B → LexemeFacts) → List ℕ → LexParseError S L B C → FaultPlace E → Type 0
-IsErrorPlaced place parts text error placed = IsPlaceBy (AreErrorSpans place (λ x. (parts x).span) text error) text placed.place
+abbrev pub IsErrorPlaced : {S L B C E : Type 0} → (C → Extent) → (B → Extent) → List ℕ → LexParseError S L B C → FaultPlace E → Type 0
+IsErrorPlaced place span text error placed = IsPlaceBy (AreErrorSpans place span text error) text placed.place
 
 -- the report has one label, at the character at a byte
 abbrev pub ShowsCharacter : List ℕ → ℕ → Report → Type 0

@@ -28,7 +28,7 @@ pub fn error_report<StorageT: StorageIndex, LexerTypesT: LexerTypes<StorageT = S
     error: &LexParseError<StorageT, LexerTypesT>,
 ) -> Result<Report, AllocError>
     ensures level { IfOk result (λ report. report.level ≡ Error) }
-    ensures spans { IfOk result (ShowsError LexerTypesT.LexErrorT.place LexerTypesT.LexemeT.parts text.now error.now) }
+    ensures spans { IfOk result (ShowsError LexerTypesT.LexErrorT.place (λ x. (LexerTypesT.LexemeT.parts x).span) text.now error.now) }
 {
     match error {
         LexParseError::LexError(error) => lexing_report(alloc, text, error),

@@ -62,7 +62,7 @@ pub fn placed_error<StorageT: StorageIndex, LexerTypesT: LexerTypes<StorageT = S
 ) -> Result<PlacedFault<LexParseError<StorageT, LexerTypesT>>, AllocError>
     ensures fault { IfOk result (λ placed. placed.fault ≡ error) }
     ensures part { IfOk result (λ placed. IsPartOf text.now placed.place) }
-    ensures place { IfOk result (IsErrorPlaced LexerTypesT.LexErrorT.place LexerTypesT.LexemeT.parts text.now error) }
+    ensures place { IfOk result (IsErrorPlaced LexerTypesT.LexErrorT.place (λ x. (LexerTypesT.LexemeT.parts x).span) text.now error) }
 {
     let report = error_report(alloc, data, text, &error)?;
     Ok(PlacedFault::new(text, &report, error))
