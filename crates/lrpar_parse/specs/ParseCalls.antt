@@ -29,6 +29,10 @@ use Rattle.lrpar_parse.specs.declared.fault.ParseFault.{ParseFault}
 abbrev pub ExpectsNext : {S X R C : Type 0} → (S → ℕ) → (X → LexemeParts S) → Parser R → (List (Result X C) → Type 0) → Result (Expected S C) ParseFault → Type 0
 ExpectsNext index parts parser lexes result = Expects index (facts_by index parts) parser.checked lexes result
 
+-- the answer of the run over these lexemes: an entry that represents the tree, if the run accepts, and the errors
+abbrev pub RunsTo : {S X R L C E Z : Type 0} → (S → ℕ) → (X → LexemeParts S) → (R → Asked X → List (List PlainStep) → Type 0) → Parser R → Building X E → List X → Option E × Vec (LexParseError S L X C) Z → Type 0
+RunsTo index parts allows parser builds lexemes = IsTreeAnswer (subject index parts allows parser) builds lexemes
+
 module _ {S X R C : Type 0} (index : S → ℕ) (parts : X → LexemeParts S) (allows : R → Asked X → List (List PlainStep) → Type 0) (parser : Parser R) (lexes : List (Result X C) → Type 0) where
   -- a parse to a value that two functions make of the tree, one for lexemes and one for rules
   abbrev pub GetsMapped : {V L Y Z : Type 0} → (X → V → Type 0) → (RIdx S → Vec V Y → V → Type 0) → Result (Option V × Vec (LexParseError S L X C) Z) ParseFault → Type 0
@@ -42,10 +46,6 @@ module _ {S X R C : Type 0} (index : S → ℕ) (parts : X → LexemeParts S) (a
   -- a parse to an entry that represents the tree
   abbrev pub GetsEntry : {E L Z : Type 0} → Building X E → Result (Option E × Vec (LexParseError S L X C) Z) ParseFault → Type 0
   GetsEntry builds result = ParsesTo (subject index parts allows parser) lexes (IsOfTree builds parser.checked) result
-
-  -- the run over these lexemes to such an entry, and its errors
-  abbrev pub RunsTo : {E L Z : Type 0} → Building X E → List X → Option E × Vec (LexParseError S L X C) Z → Type 0
-  RunsTo builds lexemes answer = IsTreeAnswer (subject index parts allows parser) builds lexemes answer
 
   -- a parse to a value that actions make of the tree
   abbrev pub GetsActed : {V K P L Z : Type 0} → (ℕ → ℕ → K → Extent → List (AStackType X V) → P → V → Type 0) → (ℕ → V → Type 0) → K → P → Result (Option V × Vec (LexParseError S L X C) Z) ParseFault → Type 0
