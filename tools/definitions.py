@@ -3,7 +3,8 @@
 
 What comes before the page's first part is kept. Each crate is a part, each file of its specs a part below it, in the order in which
 `Lib.antt` names them, and each definition that users reach (tools/public.py) a row: its name, and the comment above it. Definitions that
-follow one another under one comment share a row. With --check nothing is written, and the status is 1 if the page isn't the one that would be written."""
+follow one another under one comment share a row. With --check nothing is written, and the status is 1 if the page isn't the one that
+would be written."""
 
 import re
 import sys

@@ -11,8 +11,9 @@ CLAUSE = re.compile(r"^\s*(?:requires|ensures)\b\*?")
 BLOCK = re.compile(r"^(?:pub )?(impl|trait|struct|enum|fn)\b")
 USE = re.compile(r"^ *pub use (.*?);", re.M | re.S)
 TYPE = re.compile(r"^pub (?:struct|enum|trait) (\w+)", re.M)
-GHOST = re.compile(r"^\s*ghost (?!use)")
+GHOST = re.compile(r"^[ ]*ghost (?!use)", re.M)
 GHOST_USE = re.compile(r"^\s*(?:pub |ghost )?use Rattle\.(\w+)\.specs\.([\w.]+?)\.\{(.*?)\}", re.M | re.S)
+WHOLE_USE = re.compile(r"^\s*(?:ghost )?use Rattle\.(\w+)\.specs\.([\w.]+) as (\w+)", re.M)
 MEANT = re.compile(r" {0,2}(?:abbrev |unfoldable )?(?:pub )?(?:record |data )?(?!use |mod )([^\s:({=]+)")
 WORD = re.compile(r"[^\s(){}\[\],.;:λ→×|]+")
 # The crates that users name beside `lrpar`: all their public functions are for users.
@@ -45,13 +46,15 @@ def end_of(text, start):
     return len(text)
 
 
-def owner_of(line):
-    """What the block that starts in this line belongs to: the type of an `impl`, a trait, or nothing. Only a trait's members are public
-    without a word."""
-    head = re.sub(r"<[^<>]*>", "", re.sub(r"<[^<>]*>", "", re.sub(r"<[^<>]*>", "", line)))
+def owner_of(head):
+    """What the block with this head belongs to: the type of an `impl`, a trait, or nothing. Only a trait's members are public without a
+    word."""
+    before = ""
+    while before != head:
+        before, head = head, re.sub(r"<[^<>]*>", "", head)
     if match := re.match(r"(?:pub )?trait (\w+)", head):
         return match.group(1), True
-    if match := re.match(r"impl (\w+)", head):
+    if match := re.match(r"impl\s*(\w+)", head):
         return match.group(1), False
     return None, False
 
@@ -63,7 +66,7 @@ def clauses_of(path):
     function, place, owner, is_public, found = "", 0, (None, False), False, []
     for number, line in enumerate(text.splitlines(keepends=True), 1):
         if BLOCK.match(line):
-            owner = owner_of(line)
+            owner = owner_of(text[place:].partition("{")[0])
         if match := FUNCTION.match(line):
             function = f"{path.stem}::{match.group(2)}:{number}"
             is_public = match.group(1) == "pub " or owner[1]
@@ -126,17 +129,22 @@ def stated_by_users():
             if crate in ALSO_NAMED or path.stem == "laws":
                 texts.setdefault(path, []).extend(clause[2] for clause in clauses_of(path) if clause[4])
     for path, found in texts.items():
-        ghosts = [line for line in path.read_text().splitlines() if GHOST.match(line)]
+        text = path.read_text()
+        ghosts = [text[match.start() : end_of(text, match.start())] for match in GHOST.finditer(text)]
         yield path, " ".join(found + ghosts)
 
 
 def named_in(text):
-    """The definitions of other files that a text names by its `use` lines: for each name its crate and its file of specs."""
-    return {
-        name.split(" as ")[-1].strip(): (crate, file)
-        for crate, file, names in GHOST_USE.findall(text)
-        for name in names.split(",")
-    }
+    """The definitions of other files that a text names by its `use` lines: for each name its crate, its file of specs and its own name."""
+    named = {}
+    for crate, file, names in GHOST_USE.findall(text):
+        for name in names.split(","):
+            own, _, other = name.strip().partition(" as ")
+            named[other or own] = (crate, file, own)
+    for crate, file, alias in WHOLE_USE.findall(text):
+        for name in re.findall(rf"(?<![\w.]){alias}\.([^\s(){{}}\[\],.;:]+)", text):
+            named[name] = named.get(name, (crate, file, name))
+    return named
 
 
 @functools.lru_cache(maxsize=None)
@@ -160,14 +168,14 @@ def reached():
     found, left = set(), set()
     for path, text in stated_by_users():
         named = named_in(path.read_text())
-        left |= {(*named[word], word) for word in WORD.findall(text) if word in named}
+        left |= {named[word] for word in WORD.findall(text) if word in named}
     while left:
         crate, file, name = left.pop()
         named, own = meant_in(crate, file)
-        if name in named and name not in own:
-            left.add((*named[name], name))
         if name in own:
             found.add((crate, file, name))
-            words = {(*named[word], word) for word in own[name] if word in named}
-            left |= (words | {(crate, file, word) for word in own[name] if word in own}) - found
+            words = {(crate, file, word) if word in own else named.get(word) for word in own[name]}
+            left |= words - found - {None}
+        elif name in named:
+            left.add(named[name])
     return found
