@@ -12,36 +12,21 @@ use lrpar_grammar_reader::parts::{RulePart, TokenPart};
 pub(super) fn rules_fit(rules: &[RulePart], src: &str) -> bool
     ensures { IsTrue result ↔ All (λ rule. IsPartOf src.now rule.span) rules.now }
 {
-    for rule in rules {
-        if !is_part(rule.span, src) {
-            return false;
-        }
-    }
-    true
+    rules.iter().all(|rule| is_part(rule.span, src))
 }
 
 // Whether the places of all tokens lie in the text.
 pub(super) fn tokens_fit(tokens: &[TokenPart], src: &str) -> bool
     ensures { IsTrue result ↔ All (λ token. IsPartOf src.now token.span) tokens.now }
 {
-    for token in tokens {
-        if !is_part(token.span, src) {
-            return false;
-        }
-    }
-    true
+    tokens.iter().all(|token| is_part(token.span, src))
 }
 
 // Whether the places of all productions fit the text.
 pub(super) fn prods_fit<StorageT: StorageIndex>(prods: &[SplitProd<StorageT>], src: &str) -> bool
     ensures { IsTrue result ↔ ProdsFit StorageT.index src.now prods.now }
 {
-    for prod in prods {
-        if !prod_fits(prod, src) {
-            return false;
-        }
-    }
-    true
+    prods.iter().all(|prod| prod_fits(prod, src))
 }
 
 // Whether the places of a production fit the text.
@@ -58,12 +43,7 @@ fn prod_fits<StorageT: StorageIndex>(prod: &SplitProd<StorageT>, src: &str) -> b
 fn are_parts_of_lines(spans: &[Span], src: &str) -> bool
     ensures { IsTrue result ↔ All (IsPartOfLine src.now) spans.now }
 {
-    for span in spans {
-        if !is_part_of_line(*span, src) {
-            return false;
-        }
-    }
-    true
+    spans.iter().all(|span| is_part_of_line(*span, src))
 }
 
 // Whether each part ends at or before the start of the next.
