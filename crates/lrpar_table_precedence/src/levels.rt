@@ -30,24 +30,16 @@ pub(crate) fn are_within<StorageT: StorageIndex>(
 fn all_tokens_within<StorageT: StorageIndex>(levels: &[Level<StorageT>], tokens: usize) -> bool
     ensures { IsTrue result ↔ HaveTokensBelow StorageT.index tokens levels.now }
 {
-    for level in levels {
-        if !are_tokens_within(&level.tokens, tokens) {
-            return false;
-        }
-    }
-    true
+    levels
+        .iter()
+        .all(|level| are_tokens_within(&level.tokens, tokens))
 }
 
 // Whether each token is below the number.
 fn are_tokens_within<StorageT: StorageIndex>(level: &[TIdx<StorageT>], tokens: usize) -> bool
     ensures { IsTrue result ↔ AreBelow StorageT.index tokens level.now }
 {
-    for token in level {
-        if usize::from(*token) >= tokens {
-            return false;
-        }
-    }
-    true
+    level.iter().all(|token| usize::from(*token) < tokens)
 }
 
 // Whether each production and each level that it names are below these numbers.
@@ -58,13 +50,7 @@ fn all_named_within<StorageT: StorageIndex>(
 ) -> bool
     ensures { IsTrue result ↔ AreNamedBelow StorageT.index prods levels named.now }
 {
-    for entry in named {
-        let (prod, level) = *entry;
-        if usize::from(prod) >= prods || level >= levels {
-            return false;
-        }
-    }
-    true
+    named.iter().all(|(prod, level)| usize::from(*prod) < prods && *level < levels)
 }
 
 // The tokens of the levels, each with its precedence.
