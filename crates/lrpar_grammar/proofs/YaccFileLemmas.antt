@@ -1,5 +1,5 @@
 -- Names that a grammar doesn't know, one word after another.
-use Rattle.std.proofs.Common.{◌≡◌, ◌<◌, ◌+◌, not, true, false, cond, ℕ, List, ◌∷◌, length, drop, get_or, map, bytes_eq, option_map, Option, Some, ap, sym, ◌∙◌}
+use Rattle.std.proofs.Common.{◌≡◌, ◌<◌, ◌+◌, not, true, false, cond, ℕ, List, length, drop, get_or, map, bytes_eq, option_map, Option, Some, ap, sym, ◌∙◌}
 use Rattle.std.specs.List.{find, list_any}
 use Rattle.std.proofs.lemmas.List.{drop_more}
 use Rattle.lrpar_grammar_places.specs.Span.{Extent}

@@ -1,11 +1,11 @@
 -- Levels: numbers within range, the entries of their tokens, and the last token of a list of symbols.
-use Rattle.std.proofs.Common.{◌≡◌, ◌<◌, ◌≤◌, ◌+◌, ◌++◌, ◌∷◌, ◌∙◌, ◌↔◌, ℕ, zero, suc, Bool, true, false, IsTrue, List, [], Option, Some, None, All, Result, Ok, Err, IfErr, IsErrAnd, refl, sym, ap, subst, arith, get_or, length, map, nat_eq, option_map, take, unwrap_or, slice_index_or}
+use Rattle.std.proofs.Common.{◌≡◌, ◌<◌, ◌+◌, ◌++◌, ◌∷◌, ◌∙◌, ◌↔◌, ℕ, zero, suc, Bool, true, false, IsTrue, List, [], Option, Some, None, All, Result, Ok, Err, IfErr, IsErrAnd, refl, sym, ap, subst, arith, get_or, length, map, nat_eq, option_map, take, unwrap_or, slice_index_or}
 use Rattle.std.specs.List.{flat_map, range_with_len}
 use Rattle.std.specs.Map.{keys_of, lookup}
 use Rattle.std.specs.Option.{option_and_then, option_or}
-use Rattle.std.proofs.lemmas.List.{append-nil, get_or-map, length-map, take_all}
+use Rattle.std.proofs.lemmas.List.{append-nil, get_or-map, length-map}
 use Rattle.std.proofs.lemmas.List.Concat.{flat_map-append}
-use Rattle.std.proofs.lemmas.List.Elements.{All-append, All-map, All-more, All-nil}
+use Rattle.std.proofs.lemmas.List.Elements.{All-append, All-map, All-nil}
 use Rattle.lrpar_grammar_places.specs.declared.span.PIdx.{PIdx}
 use Rattle.lrpar_grammar_places.specs.declared.span.Symbol.{Symbol}
 use Rattle.lrpar_grammar_places.specs.declared.span.Symbol.TheVariants.{Rule, Token}
@@ -34,15 +34,6 @@ pub All-unmap : {X Y : Type 0} (P : Y → Type 0) (f : X → Y) (xs : List X) �
 All-unmap P f xs all k d below =
     let inside : k < length (map f xs) = omega (arith, below, length-map xs f) in
     subst P (get_or-map f xs k d (f d) below) (all k (f d) inside)
-
--- what holds of each element so far, and of the next one, holds of one more element
-pub all_more : {X : Type 0} (P : X → Type 0) (xs : List X) (i : ℕ) (x : X) → All P (take i xs) → i < length xs → x ≡ slice_index_or xs i x → P x
-    → All P (take (i + 1) xs)
-all_more P xs i x so_far below is here = All-more P xs i x below so_far (subst P is here)
-
--- once all were tested, it holds of all
-pub all_tested : {X : Type 0} (P : X → Type 0) (xs : List X) (i : ℕ) → All P (take i xs) → length xs ≤ i → IsTrue true ↔ All P xs
-all_tested P xs i so_far end = (λ h. subst (All P) (take_all i xs end) so_far, λ all. refl)
 
 -- one more symbol that is a token
 last_more_token : (w : List GrammarSymbol) (t : ℕ) → last_token (w ++ Terminal t ∷ []) ≡ Some t
