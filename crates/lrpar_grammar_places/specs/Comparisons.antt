@@ -5,12 +5,8 @@ use Rattle.std.specs.Ordering.{nat_cmp}
 use Rattle.std.specs.Hash as fed
 use Rattle.std.specs.declared.cmp.PartialEq as equality
 use Rattle.lrpar_grammar_places.specs.Span.{Extent}
-use Rattle.lrpar_grammar_places.specs.declared.span.PIdx.{PIdx}
-use Rattle.lrpar_grammar_places.specs.declared.span.RIdx.{RIdx}
-use Rattle.lrpar_grammar_places.specs.declared.span.StIdx.{StIdx}
 use Rattle.lrpar_grammar_places.specs.declared.span.Symbol.{Symbol}
 use Rattle.lrpar_grammar_places.specs.declared.span.Symbol.TheVariants.{Rule, Token}
-use Rattle.lrpar_grammar_places.specs.declared.span.TIdx.{TIdx}
 use Rattle.lrpar_grammar_places.specs.declared.text_range.TextRange.{TextRange}
 
 -- values are equal and ordered as their numbers are
@@ -60,21 +56,9 @@ symbol_input input (Token t) = fed.isize (pos 1) ++ input t.0
 abbrev pub Hashing : Type 0 → Type 0
 Hashing X = record { eq : X → X → Bool; hash_input : X → List (List ℕ) }
 
--- for a rule a hasher is fed what it is fed for the storage number in it
-abbrev pub RulesHashBy : {S : Type 0} → (S → List (List ℕ)) → equality.Ghosts (RIdx S) → Hashing (RIdx S) → Type 0
-RulesHashBy input e h = HashesAs (λ x. input x.0) e.eq h.hash_input
-
--- and so it is for a production
-abbrev pub ProdsHashBy : {S : Type 0} → (S → List (List ℕ)) → equality.Ghosts (PIdx S) → Hashing (PIdx S) → Type 0
-ProdsHashBy input e h = HashesAs (λ x. input x.0) e.eq h.hash_input
-
--- and for a token
-abbrev pub TokensHashBy : {S : Type 0} → (S → List (List ℕ)) → equality.Ghosts (TIdx S) → Hashing (TIdx S) → Type 0
-TokensHashBy input e h = HashesAs (λ x. input x.0) e.eq h.hash_input
-
--- and for a state
-abbrev pub StatesHashBy : {S : Type 0} → (S → List (List ℕ)) → equality.Ghosts (StIdx S) → Hashing (StIdx S) → Type 0
-StatesHashBy input e h = HashesAs (λ x. input x.0) e.eq h.hash_input
+-- for a value that holds a number, a hasher is fed what it is fed for the number
+abbrev pub HashesByNumber : {X S : Type 0} → (S → List (List ℕ)) → equality.Ghosts X → Hashing X → (X → S) → Type 0
+HashesByNumber input e h number = HashesAs (λ x. input (number x)) e.eq h.hash_input
 
 -- for a symbol a hasher is fed which of the two it is, and then what it is fed for the storage number
 abbrev pub SymbolsHashBy : {S : Type 0} → (S → List (List ℕ)) → equality.Ghosts (Symbol S) → Hashing (Symbol S) → Type 0
