@@ -1,5 +1,5 @@
 -- What the calls of a grammar take and give, as it is stored: numbers of productions and tokens, symbols, names and texts.
-use Rattle.std.specs.Prelude.{◌≡◌, ◌↔◌, ◌++◌, ℕ, All, IsErrOf, List, Option, Result, String, Vec, length, map, option_map, position, slice_get, string_bytes}
+use Rattle.std.specs.Prelude.{◌≡◌, ◌↔◌, ℕ, All, IsErrOf, List, Option, Result, Vec, length, map, option_map, position, slice_get, string_bytes}
 use Rattle.std.specs.Borrow.{Bor}
 use Rattle.std.specs.List.{range_with_len}
 use Rattle.std.specs.Str.{bytes_eq}
@@ -12,10 +12,6 @@ use Rattle.lrpar_grammar_reader.specs.declared.parts.TokenPart.{TokenPart}
 use Rattle.lrpar_grammar_reader.specs.Grammar.{Grammar, IsListedSymbol, end_token, rules_len, symbols_of}
 use Rattle.lrpar_grammar_reader.specs.Parts.{IsFirstFault, grammar_of, parts_of, token_name_of}
 use Rattle.lrpar_grammar_reader.specs.Symbols.{symbol_of}
-
--- the text was appended
-abbrev pub Appends : {A : Type 0} → String A → String A → List ℕ → Type 0
-Appends old new text = string_bytes new ≡ string_bytes old ++ text
 
 -- texts by their bytes
 abbrev pub texts_in : List (Bor (List ℕ)) → List (List ℕ)

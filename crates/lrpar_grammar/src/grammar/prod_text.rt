@@ -2,7 +2,8 @@
 ghost use Rattle.std.specs.Prelude.{◌≡◌, ◌<◌, IfOk, OnOk, string_bytes};
 ghost use Rattle.lrpar_grammar_reader.specs.Symbols.{symbol_of};
 ghost use Rattle.lrpar_grammar.specs.ProdText.{prod_text, quote_for, quoted_name, symbol_text};
-ghost use Rattle.lrpar_grammar.specs.Stored.{Appends, IsListedIn};
+ghost use Rattle.lrpar_grammar_places.specs.Strings.{Appends};
+ghost use Rattle.lrpar_grammar.specs.Stored.{IsListedIn};
 
 use super::value::YaccGrammar;
 use lrpar_grammar_places::span::{PIdx, StorageIndex, Symbol};
