@@ -21,12 +21,10 @@ pub const INPUTS: &[&str] = &["levels", "input"];
 pub fn outcome(
     out: &mut Printed,
     alloc: Global,
-    subject: Option<Subject<'_, '_, '_>>,
+    subject: Subject<'_, '_, '_>,
     case: Case<'_, '_>,
 ) -> Result<(), Fault> {
-    let Some(Subject { case: _, tables }) = subject else {
-        return Err(Fault::Line(case.number, "a table in front is wanted"));
-    };
+    let Subject { case: _, tables } = subject;
     let grm = tables.by_rows.grm();
     let levels = number_at(case, "levels", 1)?;
     let input = case.text(alloc, "input")?;

@@ -25,12 +25,10 @@ pub const INPUTS: &[&str] = &["states", "feed", "lexemes"];
 pub fn outcome(
     out: &mut Printed,
     alloc: Global,
-    subject: Option<Subject<'_, '_, '_>>,
+    subject: Subject<'_, '_, '_>,
     case: Case<'_, '_>,
 ) -> Result<(), Fault> {
-    let Some(Subject { case: _, tables }) = subject else {
-        return Err(Fault::Line(case.number, "a table in front is wanted"));
-    };
+    let Subject { case: _, tables } = subject;
     let (mut by_rows, mut by_entries) = (Printed::new(alloc), Printed::new(alloc));
     expected_by(&mut by_rows, alloc, case, &tables.by_rows)?;
     expected_by(&mut by_entries, alloc, case, &tables.by_entries)?;

@@ -5,26 +5,15 @@ use lrpar_grammar::span::{StIdx, StorageIndex, TIdx};
 use lrpar_table::check::ParserData;
 use lrpar_table::table::{Action, Conflicts, StateGraph, StateTable};
 use std::alloc::Global;
-use test_case_lines::cases::Case;
-use test_case_lines::fault::Fault;
 use test_case_lines::names::{rule_name, token_name};
 use test_case_lines::printed::Printed;
 
 /// The item sets and the rows of the tables that the case is about.
-pub fn outcome(
-    out: &mut Printed,
-    alloc: Global,
-    subject: Option<Subject<'_, '_, '_>>,
-    case: Case<'_, '_>,
-) -> Result<(), Fault> {
-    let Some(subject) = subject else {
-        return Err(Fault::Line(case.number, "a table in front is wanted"));
-    };
+pub fn outcome(out: &mut Printed, alloc: Global, subject: Subject<'_, '_, '_>) {
     let (mut by_rows, mut by_entries) = (Printed::new(alloc), Printed::new(alloc));
     push_data(&mut by_rows, &subject.tables.by_rows);
     push_data(&mut by_entries, &subject.tables.by_entries);
     push_agreed(out, &by_rows, &by_entries);
-    Ok(())
 }
 
 /// Adds what comes by full rows; and below it what comes by stored entries, if that is something else.

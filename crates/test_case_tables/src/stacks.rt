@@ -17,12 +17,9 @@ pub const INPUTS: &[&str] = &["states", "tokens"];
 pub fn outcome(
     out: &mut Printed,
     alloc: Global,
-    subject: Option<Subject<'_, '_, '_>>,
+    subject: Subject<'_, '_, '_>,
     case: Case<'_, '_>,
 ) -> Result<(), Fault> {
-    let Some(subject) = subject else {
-        return Err(Fault::Line(case.number, "a table in front is wanted"));
-    };
     let states = states_of(alloc, case)?;
     let (mut by_rows, mut by_entries) = (Printed::new(alloc), Printed::new(alloc));
     push_by(&mut by_rows, alloc, case, &subject.tables.by_rows, &states)?;

@@ -59,11 +59,11 @@ pub(crate) fn outcome<R: Files>(
         "parts" => parts::outcome(out, alloc, case),
         "spelled" => spelled::outcome(out, alloc, case),
         "build" => built::outcome(out, alloc, case),
-        "rows" => rows::outcome(out, alloc, subject, case),
         "check" => checks::outcome(out, alloc, subject, case),
-        "stack" => stacks::outcome(out, alloc, subject, case),
-        "expected" => expected::outcome(out, alloc, subject, case),
-        "chain" => chain::outcome(out, alloc, subject, case),
+        "rows" | "stack" | "expected" | "chain" => match subject {
+            Some(subject) => outcome_of_table(out, alloc, subject, case),
+            None => Err(Fault::Line(case.number, "a table in front is wanted")),
+        },
         "precedence" => precedence::outcome(out, rt, alloc, case),
         "full" => refusals::outcome_of_rows(out, alloc, case),
         "stored" => refusals::outcome_of_entries(out, alloc, case),
@@ -73,5 +73,23 @@ pub(crate) fn outcome<R: Files>(
         "fault" => faults::outcome(out, alloc, case),
         "examples" => examples::outcome(out, rt, alloc, case),
         _ => Err(Fault::Line(case.number, "a kind of case that isn't known")),
+    }
+}
+
+// Writes what comes of a case about the table in front of it.
+fn outcome_of_table(
+    out: &mut Printed,
+    alloc: Global,
+    subject: Subject<'_, '_, '_>,
+    case: Case<'_, '_>,
+) -> Result<(), Fault> {
+    match case.kind {
+        "rows" => {
+            rows::outcome(out, alloc, subject);
+            Ok(())
+        }
+        "stack" => stacks::outcome(out, alloc, subject, case),
+        "expected" => expected::outcome(out, alloc, subject, case),
+        _ => chain::outcome(out, alloc, subject, case),
     }
 }
