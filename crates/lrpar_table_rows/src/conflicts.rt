@@ -101,28 +101,22 @@ impl<StorageT: StorageIndex> Conflicts<StorageT> {
     pub fn fit(&self, grm: &YaccGrammar<StorageT>) -> bool
         ensures { IsTrue result ↔ ConflictsFit grm.now self.now }
     {
-        all_reductions_fit(&self.rr, grm) && all_shifts_fit(&self.sr, grm)
+        self.all_reductions_fit(grm) && self.all_shifts_fit(grm)
     }
-}
 
-// Whether the reduce/reduce conflicts fit the grammar.
-fn all_reductions_fit<StorageT: StorageIndex>(
-    conflicts: &[(
-        TIdx<StorageT>,
-        PIdx<StorageT>,
-        PIdx<StorageT>,
-        StIdx<StorageT>,
-    )],
-    grm: &YaccGrammar<StorageT>,
-) -> bool
-    ensures { IsTrue result ↔ AllReductionsFit StorageT.index grm.now conflicts.now }
-{
-    for conflict in conflicts {
-        if !reductions_fit(*conflict, grm) {
-            return false;
-        }
+    // Whether the reduce/reduce conflicts fit the grammar.
+    fn all_reductions_fit(&self, grm: &YaccGrammar<StorageT>) -> bool
+        ensures { IsTrue result ↔ AllReductionsFit grm.now self.now }
+    {
+        self.rr.iter().all(|conflict| reductions_fit(*conflict, grm))
     }
-    true
+
+    // Whether the shift/reduce conflicts fit the grammar.
+    fn all_shifts_fit(&self, grm: &YaccGrammar<StorageT>) -> bool
+        ensures { IsTrue result ↔ AllShiftsFit grm.now self.now }
+    {
+        self.sr.iter().all(|conflict| shift_fits(*conflict, grm))
+    }
 }
 
 // Whether the reduce/reduce conflict fits the grammar.
@@ -141,21 +135,6 @@ fn reductions_fit<StorageT: StorageIndex>(
     usize::from(token) < grm.tokens_len()
         && usize::from(first) < grm.prods_len()
         && usize::from(second) < grm.prods_len()
-}
-
-// Whether the shift/reduce conflicts fit the grammar.
-fn all_shifts_fit<StorageT: StorageIndex>(
-    conflicts: &[(TIdx<StorageT>, PIdx<StorageT>, StIdx<StorageT>)],
-    grm: &YaccGrammar<StorageT>,
-) -> bool
-    ensures { IsTrue result ↔ AllShiftsFit StorageT.index grm.now conflicts.now }
-{
-    for conflict in conflicts {
-        if !shift_fits(*conflict, grm) {
-            return false;
-        }
-    }
-    true
 }
 
 // Whether the shift/reduce conflict fits the grammar.
