@@ -7,7 +7,7 @@ use Rattle.lrpar_grammar_places.specs.declared.span.StIdx.{StIdx}
 use Rattle.lrpar_grammar_places.specs.declared.span.TIdx.{TIdx}
 use Rattle.lrpar_table_rows.specs.PlainRows.{action_entry, goto_entry, plain_action, plain_goto, plain_rows, sparse_table_of}
 use Rattle.lrpar_table_rows.specs.Rows.{AreRows, IsActionRow, IsGotoRow, kept_entry, row_actions, row_gotos, table_of, unless_error}
-use Rattle.lrpar_table_rows.specs.Table.{AreEntries, Fails, IsActionEntry, IsActionWithin, IsGotoEntry, IsGotoWithin, IsTable, Table, TableAction, action_of, actions_at, goto_of, gotos_at, states_len}
+use Rattle.lrpar_table_rows.specs.Table.{AreActionsWithin, AreEntries, AreGotosWithin, Fails, IsActionEntry, IsActionWithin, IsGotoEntry, IsGotoWithin, IsTable, StoresActions, StoresGotos, Table, TableAction, action_of, actions_at, goto_of, gotos_at, states_len}
 use Rattle.lrpar_table_rows.specs.declared.rows.Action.{Action}
 use Rattle.lrpar_table_rows.specs.declared.rows.SparseRows.{SparseRows}
 use Rattle.lrpar_table_rows.specs.declared.rows.TableRows.{TableRows}
@@ -107,6 +107,22 @@ GoesWithin index table s r = IsGotoWithin (states_len table) (goto_of table (ind
 abbrev pub AreActionsAt : {S : Type 0} → (S → ℕ) → Table → StIdx S → List (TIdx S) → List (Action S) → Type 0
 AreActionsAt index table s tokens actions = map (action_entry index) (zip tokens actions) ≡ actions_at table (index s.0)
 
+-- what is stored for the state are its actions but errors
+abbrev pub StoresActionsAt : {S : Type 0} → (S → ℕ) → Table → StIdx S → Type 0
+StoresActionsAt index table s = StoresActions table (index s.0)
+
+-- each action that is stored for the state is a right entry
+abbrev pub ActionsFit : {S : Type 0} → (S → ℕ) → Table → StIdx S → Type 0
+ActionsFit index table s = AreActionsWithin table (index s.0)
+
 -- these are the gotos that are stored for the state, with their rules
 abbrev pub AreGotosAt : {S : Type 0} → (S → ℕ) → Table → StIdx S → List (RIdx S) → List (StIdx S) → Type 0
 AreGotosAt index table s rules states = map (goto_entry index) (zip rules states) ≡ gotos_at table (index s.0)
+
+-- what is stored for the state are its gotos
+abbrev pub StoresGotosAt : {S : Type 0} → (S → ℕ) → Table → StIdx S → Type 0
+StoresGotosAt index table s = StoresGotos table (index s.0)
+
+-- each goto that is stored for the state is a right entry
+abbrev pub GotosFit : {S : Type 0} → (S → ℕ) → Table → StIdx S → Type 0
+GotosFit index table s = AreGotosWithin table (index s.0)

@@ -1,7 +1,7 @@
 //! Shift/reduce and reduce/reduce conflicts that were met, and resolved, when a table was built.
 ghost use Rattle.std.specs.Prelude.{◌≡◌, ◌↔◌, IsTrue, length};
 ghost use Rattle.lrpar_table_rows.specs.ConflictsFit.{AllReductionsFit, AllShiftsFit, ConflictsFit, ReductionsFit, ShiftFits};
-ghost use Rattle.lrpar_table_rows.specs.PlainConflicts.{reduce_reduce_of, reductions_of, shift_reduce_of, shifts_of};
+ghost use Rattle.lrpar_table_rows.specs.PlainConflicts.{AreReductions, AreShifts, reduce_reduce_of, reductions_of, shift_reduce_of, shifts_of};
 
 use lrpar_grammar::grammar::YaccGrammar;
 use lrpar_grammar::span::{PIdx, StIdx, StorageIndex, TIdx};
@@ -69,14 +69,14 @@ impl<StorageT: StorageIndex> Conflicts<StorageT> {
         PIdx<StorageT>,
         StIdx<StorageT>,
     )]
-        ensures { reductions_of StorageT.index result.now ≡ self.now.reduce_reduce }
+        ensures { AreReductions StorageT.index self.now result.now }
     {
         &self.rr
     }
 
     /// The shift/reduce conflicts, as token, production and state, in the order in which they were given.
     pub fn sr_conflicts(&self) -> &[(TIdx<StorageT>, PIdx<StorageT>, StIdx<StorageT>)]
-        ensures { shifts_of StorageT.index result.now ≡ self.now.shift_reduce }
+        ensures { AreShifts StorageT.index self.now result.now }
     {
         &self.sr
     }

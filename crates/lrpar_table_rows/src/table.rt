@@ -1,8 +1,8 @@
 //! State tables: the actions and gotos of an LR automaton. A table is made of rows, and then only read.
 ghost use Rattle.std.specs.Prelude.{◌≡◌, ◌<◌, ◌≤◌, ◌↔◌, IfOk, IsErrOf, length};
 ghost use Rattle.std.specs.Option.{option_map};
-ghost use Rattle.lrpar_table_rows.specs.StoredRows.{AreActionsAt, AreGotosAt, GoesWithin, HasActionsOf, HasGotosOf, IsActionAt, IsGotoAt, IsTableOfRows, IsTableOfSparse, MakeTable, ShiftsWithin, StoreTable};
-ghost use Rattle.lrpar_table_rows.specs.Table.{ActionsAscend, AreActionsWithin, AreGotosWithin, FailsPastStates, FailsPastTokens, GotosAscend, HasNoGotoPastRules, HasNoGotoPastStates, IsClosed, StoresActions, StoresGotos, entries_len, states_len, with_resolved};
+ghost use Rattle.lrpar_table_rows.specs.StoredRows.{ActionsFit, AreActionsAt, AreGotosAt, GoesWithin, GotosFit, HasActionsOf, HasGotosOf, IsActionAt, IsGotoAt, IsTableOfRows, IsTableOfSparse, MakeTable, ShiftsWithin, StoreTable, StoresActionsAt, StoresGotosAt};
+ghost use Rattle.lrpar_table_rows.specs.Table.{ActionsAscend, FailsPastStates, FailsPastTokens, GotosAscend, HasNoGotoPastRules, HasNoGotoPastStates, IsClosed, entries_len, states_len, with_resolved};
 ghost use Rattle.lrpar_table_rows.specs.declared.fault.TableFault.TheVariants.{BadIndex};
 
 pub use crate::conflicts::Conflicts;
@@ -204,9 +204,9 @@ impl<StorageT: StorageIndex> StateTable<StorageT> {
         requires { StorageT.index s.0 < states_len self.now }
         ensures entries { AreActionsAt StorageT.index self.now s result.0.now result.1.now }
         ensures actions { length result.1.now ≡ length result.0.now }
-        ensures exact { StoresActions self.now (StorageT.index s.0) }
+        ensures exact { StoresActionsAt StorageT.index self.now s }
         ensures ascending { ActionsAscend self.now (StorageT.index s.0) }
-        ensures within { AreActionsWithin self.now (StorageT.index s.0) }
+        ensures within { ActionsFit StorageT.index self.now s }
     {
         self.actions.row(usize::from(s))
     }
@@ -217,9 +217,9 @@ impl<StorageT: StorageIndex> StateTable<StorageT> {
         requires { StorageT.index s.0 < states_len self.now }
         ensures entries { AreGotosAt StorageT.index self.now s result.0.now result.1.now }
         ensures states { length result.1.now ≡ length result.0.now }
-        ensures exact { StoresGotos self.now (StorageT.index s.0) }
+        ensures exact { StoresGotosAt StorageT.index self.now s }
         ensures ascending { GotosAscend self.now (StorageT.index s.0) }
-        ensures within { AreGotosWithin self.now (StorageT.index s.0) }
+        ensures within { GotosFit StorageT.index self.now s }
     {
         self.gotos.row(usize::from(s))
     }
