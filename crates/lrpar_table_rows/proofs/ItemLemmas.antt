@@ -241,3 +241,8 @@ same_item_order index cmp law x y =
 pub same_core_order : {S : Type 0} (index : S → ℕ) (cmp : S → S → Ordering) → ((a b : S) → cmp a b ≡ nat_cmp (index a) (index b))
     → (x y : PIdx S × ℕ) → ordering_then (cmp x.0.0 y.0.0) (nat_cmp x.1 y.1) ≡ core_cmp (core_of index x) (core_of index y)
 same_core_order index cmp law x y = ap (λ (o : Ordering). ordering_then o (nat_cmp x.1 y.1)) (law x.0.0 y.0.0)
+
+-- cores that compare equal are the same, since each index has its own number
+pub cores_exactly : {S : Type 0} (index : S → ℕ) (at_index : ℕ → S) (cmp : S → S → Ordering) → ((x : S) → at_index (index x) ≡ x)
+    → ((a b : S) → cmp a b ≡ nat_cmp (index a) (index b)) → (x y : PIdx S × ℕ) → ordering_then (cmp x.0.0 y.0.0) (nat_cmp x.1 y.1) ≡ Equal → x ≡ y
+cores_exactly index at_index cmp law cmp_law = cores_compare_exactly index (exact_index index at_index law) cmp cmp_law

@@ -7,8 +7,8 @@ use Rattle.std.specs.declared.cmp.Ordering.{Ordering}
 use Rattle.std.specs.declared.cmp.Ordering.TheVariants.{Less, Equal}
 use Rattle.std.specs.declared.vec.Vec.{Vec}
 use Rattle.std.proofs.lemmas.Cmp.{nat_cmp_total, tied_itself}
-use Rattle.std.proofs.lemmas.List.{append-nil, append_assoc, drop_all, map-append}
-use Rattle.std.proofs.lemmas.List.Elements.{Contains-append_cases, Contains-append_left, Contains-append_right, Contains-push, Contains-push_cases, recursion_from_All, All-head, All-push, All-tail}
+use Rattle.std.proofs.lemmas.List.{append-nil, append_assoc, drop_all, length-map, map-append}
+use Rattle.std.proofs.lemmas.List.Elements.{Contains-append_cases, Contains-append_left, Contains-append_right, Contains-push, Contains-push_cases, recursion_from_All, All-head, All-push, All-tail, length_all_zip}
 use Rattle.lrpar_grammar_places.specs.declared.span.PIdx.{PIdx}
 use Rattle.lrpar_grammar_places.specs.declared.span.TIdx.{TIdx}
 use Rattle.lrpar_table_rows.specs.Ascending.{HaveSame, IsOnlyPlace}
@@ -412,3 +412,12 @@ pub made_same : {E : Type 0} (made : Result (List ItemOf) E) (xs ys : List ItemO
     → IfOk made (λ set. HaveSame set ys)
 made_same (Ok set) xs ys is same = subst (λ (items : List ItemOf). HaveSame items ys) (sym is) same
 made_same (Err fault) xs ys is same = tt
+
+-- runs with the same lookaheads, of as many cores, have the same items
+pub runs_made : {S Z Y : Type 0} (cores : List (PIdx S × ℕ)) (runs : Vec (Vec (TIdx S) Z) Y) (made : List (List (TIdx S))) (items : List (PIdx S × ℕ × TIdx S))
+    → AllZip HaveSame made (tokens_of runs.items) → length runs.items ≡ length cores → HaveSame (run_items cores (tokens_of runs.items)) items
+    → (length made ≡ length cores) × HaveSame (run_items cores made) items
+runs_made cores runs made items all paired same = (
+  length_all_zip HaveSame made (tokens_of runs.items) all ∙ length-map runs.items (λ run. run.items) ∙ paired,
+  same_trans (run_items cores made) (run_items cores (tokens_of runs.items)) items (same_runs cores made (tokens_of runs.items) all) same,
+)

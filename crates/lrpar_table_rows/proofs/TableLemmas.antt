@@ -31,6 +31,10 @@ parts_are index rows actions gotos resolved none states actions_are gotos_are =
     ap (map (map (goto_entry index))) gotos_are ∙ map-map (λ row. row.items) (map (goto_entry index)) rows.gotos.items in
     cc
 
+-- the number of the rows of actions is the number of states
+pub states_of : {S : Type 0} (index : S → ℕ) (rows : TableRows S) (n : ℕ) → n ≡ rows.actions.len → n ≡ length (plain_rows index rows).actions
+states_of index rows n is = is ∙ rows.actions.ok.0 ∙ sym (length-map rows.actions.items (λ row. map (plain_action index) row.items))
+
 -- the sparse rows that are made of full rows make their table
 pub stored_are : {S : Type 0} (index : S → ℕ) (rows : TableRows S) (states : ℕ)
     (actions : Vec (Vec (TIdx S × Action S) Global) Global) (gotos : Vec (Vec (RIdx S × StIdx S) Global) Global)

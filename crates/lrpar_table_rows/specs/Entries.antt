@@ -1,8 +1,11 @@
 -- Rows that lie one after the other in one list, with a list of the places where they begin.
-use Rattle.std.specs.Prelude.{◌≡◌, ◌<◌, ◌≤◌, ◌+◌, ◌-◌, ℕ, List, [], Contains, MatchOption, Option, length, map, slice_index, slice_index_or, slice_range, zip}
-use Rattle.std.specs.List.{range_with_len}
+use Rattle.std.specs.Prelude.{◌≡◌, ◌<◌, ◌≤◌, ◌+◌, ◌-◌, ℕ, All, Bool, true, false, List, [], Contains, MatchBool, MatchOption, Option, length, map, slice_index, slice_index_or, slice_range, zip}
+use Rattle.std.specs.Fn.{FnReturnsAt}
+use Rattle.std.specs.List.{Any, range_with_len}
 use Rattle.std.specs.List.Sorted.{IsStrictlyIncreasing}
 use Rattle.std.specs.declared.vec.Vec.{Vec}
+use denote.Param.Members.{Shared}
+use denote.Ref.{Bor}
 
 -- the rows of xs, where row s begins at place s of `starts`, and the last of `starts` is where the last row ends
 abbrev pub cut : {X : Type 0} → List ℕ → List X → List (List X)
@@ -59,3 +62,8 @@ FindsEntry number entries key found =
 abbrev pub FindsKey : {K : Type 0} → (K → ℕ) → List K → ℕ → Option ℕ → Type 0
 FindsKey number keys sought found =
     MatchOption found (¬ (Contains (map number keys) sought)) (λ place. (place < length keys) × (slice_index (map number keys) place ≡ sought))
+
+-- whether the function returns true for each row
+abbrev pub TestsEach : {F X Z : Type 0} → Shared F (Bor (List X) × Unit {0}) Bool → F → List (Vec X Z) → Bool → Type 0
+TestsEach calls test rows result =
+    MatchBool result (All (λ row. FnReturnsAt calls test row.items true) rows) (Any (λ row. FnReturnsAt calls test row.items false) rows)

@@ -27,11 +27,13 @@ HaveNumbers limit rows =
     (length rows.gotos ≡ length rows.actions) × (rows.start < length rows.actions) × (length rows.actions ≤ limit)
     × (rows.tokens ≤ limit) × (rows.rules ≤ limit)
 
--- each row has its length, with states in range
-abbrev pub HaveRightRows : Rows → Type 0
-HaveRightRows rows =
-    All (IsActionRow rows.tokens (length rows.actions)) rows.actions
-    × All (IsGotoRow rows.rules (length rows.actions)) rows.gotos
+-- each row of actions has an action for each token, with states in range
+abbrev pub HaveActionRows : Rows → Type 0
+HaveActionRows rows = All (IsActionRow rows.tokens (length rows.actions)) rows.actions
+
+-- each row of gotos has an optional state for each rule, in range
+abbrev pub HaveGotoRows : Rows → Type 0
+HaveGotoRows rows = All (IsGotoRow rows.rules (length rows.actions)) rows.gotos
 
 -- each state has its two rows; every state that they name is one of the table, and so is the start state; the numbers of
 -- states, tokens and rules are at most `limit`
@@ -41,8 +43,8 @@ pub record AreRows (limit : ℕ) (rows : Rows) : Type 0 where
   pub tokens_fit : rows.tokens ≤ limit
   pub rules_fit : rows.rules ≤ limit
   pub start_within : rows.start < length rows.actions
-  pub action_rows : All (IsActionRow rows.tokens (length rows.actions)) rows.actions
-  pub goto_rows : All (IsGotoRow rows.rules (length rows.actions)) rows.gotos
+  pub action_rows : HaveActionRows rows
+  pub goto_rows : HaveGotoRows rows
 
 -- the entry that is kept for an element, with the element's number; or none
 abbrev pub kept_entry : {A B : Type 0} → (A → Option B) → ℕ × A → Option (ℕ × B)

@@ -1,5 +1,5 @@
 -- Item sets and state graphs by the indexes of code: index turns those into numbers.
-use Rattle.std.specs.Prelude.{◌<◌, ◌↔◌, ℕ, List, map}
+use Rattle.std.specs.Prelude.{◌≡◌, ◌<◌, ◌↔◌, ℕ, List, map}
 use Rattle.std.specs.List.{AllZip, Contains}
 use Rattle.std.specs.List.Sorted.{IsStrictlySortedBy}
 use Rattle.std.specs.declared.vec.Vec.{Vec}
@@ -23,9 +23,13 @@ HasItemsOfRows index rows set = HaveSame set (set_of_rows index rows)
 abbrev pub HaveItemsOf : {S Z Y X : Type 0} → (S → ℕ) → Vec (Vec (PIdx S × ℕ × TIdx S) Z) Y → Vec (List ItemOf) X → Type 0
 HaveItemsOf index rows sets = AllZip HaveSame sets.items (graph_of_rows index rows)
 
--- each state has the items of its row, and no others
-abbrev pub StatesHaveItemsOf : {S Z Y : Type 0} → (S → ℕ) → Vec (Vec (PIdx S × ℕ × TIdx S) Z) Y → Graph → Type 0
-StatesHaveItemsOf index rows graph = (s p k t : ℕ) → HasItem graph s p k t ↔ HasItem (graph_of_rows index rows) s p k t
+-- the graph is made of the rows: each state has the items of its row, and no others
+abbrev pub IsMadeOf : {S Z Y : Type 0} → (S → ℕ) → Vec (Vec (PIdx S × ℕ × TIdx S) Z) Y → Graph → Type 0
+IsMadeOf index rows graph = (s p k t : ℕ) → HasItem graph s p k t ↔ HasItem (graph_of_rows index rows) s p k t
+
+-- these are the items of the state
+abbrev pub AreItemsAt : {S : Type 0} → (S → ℕ) → Graph → StIdx S → List ItemOf → Type 0
+AreItemsAt index graph s items = items ≡ items_of graph (index s.0)
 
 -- the item is in the set
 abbrev pub HasItemIn : {S : Type 0} → (S → ℕ) → List ItemOf → PIdx S → ℕ → TIdx S → Type 0

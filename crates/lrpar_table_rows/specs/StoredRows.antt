@@ -6,8 +6,8 @@ use Rattle.lrpar_grammar_places.specs.declared.span.RIdx.{RIdx}
 use Rattle.lrpar_grammar_places.specs.declared.span.StIdx.{StIdx}
 use Rattle.lrpar_grammar_places.specs.declared.span.TIdx.{TIdx}
 use Rattle.lrpar_table_rows.specs.PlainRows.{action_entry, goto_entry, plain_action, plain_goto, plain_rows, sparse_table_of}
-use Rattle.lrpar_table_rows.specs.Rows.{IsActionRow, IsGotoRow, kept_entry, row_actions, row_gotos, table_of, unless_error}
-use Rattle.lrpar_table_rows.specs.Table.{AreEntries, Fails, IsActionEntry, IsActionWithin, IsGotoEntry, IsGotoWithin, Table, TableAction, action_of, actions_at, goto_of, gotos_at, states_len}
+use Rattle.lrpar_table_rows.specs.Rows.{AreRows, IsActionRow, IsGotoRow, kept_entry, row_actions, row_gotos, table_of, unless_error}
+use Rattle.lrpar_table_rows.specs.Table.{AreActionsWithin, AreEntries, AreGotosWithin, Fails, IsActionEntry, IsActionWithin, IsGotoEntry, IsGotoWithin, IsTable, StoresActions, StoresGotos, Table, TableAction, action_of, actions_at, goto_of, gotos_at, states_len}
 use Rattle.lrpar_table_rows.specs.declared.rows.Action.{Action}
 use Rattle.lrpar_table_rows.specs.declared.rows.SparseRows.{SparseRows}
 use Rattle.lrpar_table_rows.specs.declared.rows.TableRows.{TableRows}
@@ -19,22 +19,6 @@ plain_actions index row = map (plain_action index) row
 -- the gotos of a full row
 abbrev pub plain_gotos : {S : Type 0} → (S → ℕ) → List (Option (StIdx S)) → List (Option ℕ)
 plain_gotos index row = map (plain_goto index) row
-
--- each row has an action for each token, with states in range
-abbrev pub AreActionRows : {S Z : Type 0} → (S → ℕ) → ℕ → ℕ → List (Vec (Action S) Z) → Type 0
-AreActionRows index tokens states rows = All (λ row. IsActionRow tokens states (plain_actions index row.items)) rows
-
--- each row has an optional state for each rule, in range
-abbrev pub AreGotoRows : {S Z : Type 0} → (S → ℕ) → ℕ → ℕ → List (Vec (Option (StIdx S)) Z) → Type 0
-AreGotoRows index rules states rows = All (λ row. IsGotoRow rules states (plain_gotos index row.items)) rows
-
--- the state of each shift is in range
-abbrev pub AreShiftsWithin : {S : Type 0} → (S → ℕ) → ℕ → List (Action S) → Type 0
-AreShiftsWithin index states row = All (λ action. IsActionWithin states (plain_action index action)) row
-
--- each state to go to is in range
-abbrev pub AreStatesWithin : {S : Type 0} → (S → ℕ) → ℕ → List (Option (StIdx S)) → Type 0
-AreStatesWithin index states row = All (λ goto. IsGotoWithin states (plain_goto index goto)) row
 
 -- no row is longer than the limit
 abbrev pub AreRowsUpTo : {X Z : Type 0} → ℕ → List (Vec X Z) → Type 0
@@ -77,21 +61,13 @@ IsSparseActionRow index tokens states row = AreEntries (IsActionEntry tokens sta
 abbrev pub IsSparseGotoRow : {S : Type 0} → (S → ℕ) → ℕ → ℕ → List (RIdx S × StIdx S) → Type 0
 IsSparseGotoRow index rules states row = AreEntries (IsGotoEntry rules states) (map (goto_entry index) row)
 
--- those of each row are
-abbrev pub AreSparseActionRows : {S Z : Type 0} → (S → ℕ) → ℕ → ℕ → List (Vec (TIdx S × Action S) Z) → Type 0
-AreSparseActionRows index tokens states rows = All (λ row. IsSparseActionRow index tokens states row.items) rows
+-- the full rows make a table: each state has its two rows, and all is in range
+abbrev pub MakeTable : {S : Type 0} → (S → ℕ) → ℕ → TableRows S → Type 0
+MakeTable index limit rows = AreRows limit (plain_rows index rows)
 
--- those of each row are
-abbrev pub AreSparseGotoRows : {S Z : Type 0} → (S → ℕ) → ℕ → ℕ → List (Vec (RIdx S × StIdx S) Z) → Type 0
-AreSparseGotoRows index rules states rows = All (λ row. IsSparseGotoRow index rules states row.items) rows
-
--- each entry of a sparse row of actions is in range, and none is an error
-abbrev pub AreActionEntries : {S : Type 0} → (S → ℕ) → ℕ → ℕ → List (TIdx S × Action S) → Type 0
-AreActionEntries index tokens states row = All (λ entry. IsActionEntry tokens states (action_entry index entry)) row
-
--- each entry of a sparse row of gotos is in range
-abbrev pub AreGotoEntries : {S : Type 0} → (S → ℕ) → ℕ → ℕ → List (RIdx S × StIdx S) → Type 0
-AreGotoEntries index rules states row = All (λ entry. IsGotoEntry rules states (goto_entry index entry)) row
+-- the sparse rows store a table: the entries of each state ascend, and all is in range
+abbrev pub StoreTable : {S : Type 0} → (S → ℕ) → ℕ → SparseRows S → Type 0
+StoreTable index limit rows = IsTable limit (sparse_table_of index rows)
 
 -- the table is that of the full rows
 abbrev pub IsTableOfRows : {S : Type 0} → (S → ℕ) → TableRows S → Table → Type 0
@@ -131,6 +107,22 @@ GoesWithin index table s r = IsGotoWithin (states_len table) (goto_of table (ind
 abbrev pub AreActionsAt : {S : Type 0} → (S → ℕ) → Table → StIdx S → List (TIdx S) → List (Action S) → Type 0
 AreActionsAt index table s tokens actions = map (action_entry index) (zip tokens actions) ≡ actions_at table (index s.0)
 
+-- what is stored for the state are its actions but errors
+abbrev pub StoresActionsAt : {S : Type 0} → (S → ℕ) → Table → StIdx S → Type 0
+StoresActionsAt index table s = StoresActions table (index s.0)
+
+-- each action that is stored for the state is a right entry
+abbrev pub ActionsFit : {S : Type 0} → (S → ℕ) → Table → StIdx S → Type 0
+ActionsFit index table s = AreActionsWithin table (index s.0)
+
 -- these are the gotos that are stored for the state, with their rules
 abbrev pub AreGotosAt : {S : Type 0} → (S → ℕ) → Table → StIdx S → List (RIdx S) → List (StIdx S) → Type 0
 AreGotosAt index table s rules states = map (goto_entry index) (zip rules states) ≡ gotos_at table (index s.0)
+
+-- what is stored for the state are its gotos
+abbrev pub StoresGotosAt : {S : Type 0} → (S → ℕ) → Table → StIdx S → Type 0
+StoresGotosAt index table s = StoresGotos table (index s.0)
+
+-- each goto that is stored for the state is a right entry
+abbrev pub GotosFit : {S : Type 0} → (S → ℕ) → Table → StIdx S → Type 0
+GotosFit index table s = AreGotosWithin table (index s.0)

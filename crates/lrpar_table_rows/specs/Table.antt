@@ -127,11 +127,13 @@ HasNumbers limit table =
     (length table.actions ≡ table.states) × (length table.gotos ≡ table.states) × (table.start < table.states)
     × (table.states ≤ limit) × (table.tokens ≤ limit) × (table.rules ≤ limit)
 
--- the entries of each state ascend, and each is a right entry
-abbrev pub HasRightEntries : Table → Type 0
-HasRightEntries table =
-    All (AreEntries (IsActionEntry table.tokens table.states)) table.actions
-    × All (AreEntries (IsGotoEntry table.rules table.states)) table.gotos
+-- the actions of each state are right entries, which ascend
+abbrev pub HasRightActions : Table → Type 0
+HasRightActions table = All (AreEntries (IsActionEntry table.tokens table.states)) table.actions
+
+-- the gotos of each state are right entries, which ascend
+abbrev pub HasRightGotos : Table → Type 0
+HasRightGotos table = All (AreEntries (IsGotoEntry table.rules table.states)) table.gotos
 
 -- each state has its two lists of entries; every state that they name is one of the table, and so is the start state; the
 -- numbers of states, tokens and rules are at most `limit`
@@ -142,8 +144,8 @@ pub record IsTable (limit : ℕ) (table : Table) : Type 0 where
   pub tokens_fit : table.tokens ≤ limit
   pub rules_fit : table.rules ≤ limit
   pub start_within : table.start < table.states
-  pub actions : All (AreEntries (IsActionEntry table.tokens table.states)) table.actions
-  pub gotos : All (AreEntries (IsGotoEntry table.rules table.states)) table.gotos
+  pub actions : HasRightActions table
+  pub gotos : HasRightGotos table
 
 -- the start state is one of the table, and so is each state that a shift or a goto leads to
 pub record IsClosed (table : Table) : Type 0 where

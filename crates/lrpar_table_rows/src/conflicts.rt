@@ -1,7 +1,7 @@
 //! Shift/reduce and reduce/reduce conflicts that were met, and resolved, when a table was built.
 ghost use Rattle.std.specs.Prelude.{◌≡◌, ◌↔◌, IsTrue, length};
 ghost use Rattle.lrpar_table_rows.specs.ConflictsFit.{AllReductionsFit, AllShiftsFit, ConflictsFit, ReductionsFit, ShiftFits};
-ghost use Rattle.lrpar_table_rows.specs.PlainConflicts.{reduce_reduce_of, reductions_of, shift_reduce_of, shifts_of};
+ghost use Rattle.lrpar_table_rows.specs.PlainConflicts.{AreReductions, AreShifts, reduce_reduce_of, reductions_of, shift_reduce_of, shifts_of};
 
 use lrpar_grammar::grammar::YaccGrammar;
 use lrpar_grammar::span::{PIdx, StIdx, StorageIndex, TIdx};
@@ -69,14 +69,14 @@ impl<StorageT: StorageIndex> Conflicts<StorageT> {
         PIdx<StorageT>,
         StIdx<StorageT>,
     )]
-        ensures { reductions_of StorageT.index result.now ≡ self.now.reduce_reduce }
+        ensures { AreReductions StorageT.index self.now result.now }
     {
         &self.rr
     }
 
     /// The shift/reduce conflicts, as token, production and state, in the order in which they were given.
     pub fn sr_conflicts(&self) -> &[(TIdx<StorageT>, PIdx<StorageT>, StIdx<StorageT>)]
-        ensures { shifts_of StorageT.index result.now ≡ self.now.shift_reduce }
+        ensures { AreShifts StorageT.index self.now result.now }
     {
         &self.sr
     }
@@ -101,28 +101,22 @@ impl<StorageT: StorageIndex> Conflicts<StorageT> {
     pub fn fit(&self, grm: &YaccGrammar<StorageT>) -> bool
         ensures { IsTrue result ↔ ConflictsFit grm.now self.now }
     {
-        all_reductions_fit(&self.rr, grm) && all_shifts_fit(&self.sr, grm)
+        self.all_reductions_fit(grm) && self.all_shifts_fit(grm)
     }
-}
 
-// Whether the reduce/reduce conflicts fit the grammar.
-fn all_reductions_fit<StorageT: StorageIndex>(
-    conflicts: &[(
-        TIdx<StorageT>,
-        PIdx<StorageT>,
-        PIdx<StorageT>,
-        StIdx<StorageT>,
-    )],
-    grm: &YaccGrammar<StorageT>,
-) -> bool
-    ensures { IsTrue result ↔ AllReductionsFit StorageT.index grm.now conflicts.now }
-{
-    for conflict in conflicts {
-        if !reductions_fit(*conflict, grm) {
-            return false;
-        }
+    // Whether the reduce/reduce conflicts fit the grammar.
+    fn all_reductions_fit(&self, grm: &YaccGrammar<StorageT>) -> bool
+        ensures { IsTrue result ↔ AllReductionsFit grm.now self.now }
+    {
+        self.rr.iter().all(|conflict| reductions_fit(*conflict, grm))
     }
-    true
+
+    // Whether the shift/reduce conflicts fit the grammar.
+    fn all_shifts_fit(&self, grm: &YaccGrammar<StorageT>) -> bool
+        ensures { IsTrue result ↔ AllShiftsFit grm.now self.now }
+    {
+        self.sr.iter().all(|conflict| shift_fits(*conflict, grm))
+    }
 }
 
 // Whether the reduce/reduce conflict fits the grammar.
@@ -141,21 +135,6 @@ fn reductions_fit<StorageT: StorageIndex>(
     usize::from(token) < grm.tokens_len()
         && usize::from(first) < grm.prods_len()
         && usize::from(second) < grm.prods_len()
-}
-
-// Whether the shift/reduce conflicts fit the grammar.
-fn all_shifts_fit<StorageT: StorageIndex>(
-    conflicts: &[(TIdx<StorageT>, PIdx<StorageT>, StIdx<StorageT>)],
-    grm: &YaccGrammar<StorageT>,
-) -> bool
-    ensures { IsTrue result ↔ AllShiftsFit StorageT.index grm.now conflicts.now }
-{
-    for conflict in conflicts {
-        if !shift_fits(*conflict, grm) {
-            return false;
-        }
-    }
-    true
 }
 
 // Whether the shift/reduce conflict fits the grammar.

@@ -1,10 +1,11 @@
 //! Full rows: whether they are those of a table, and which of their entries are stored.
 ghost use Rattle.std.specs.Prelude.{◌<◌, ◌≤◌, ◌↔◌, IsTrue, IfOk, OnOk, length};
-ghost use Rattle.lrpar_table_rows.specs.Rows.{AreRows, HaveRightRows, HaveNumbers, IsActionRow, IsGotoRow};
+ghost use Rattle.lrpar_table_rows.specs.Rows.{HaveActionRows, HaveGotoRows, HaveNumbers, IsActionRow, IsGotoRow};
 ghost use Rattle.lrpar_table_rows.specs.Table.{IsActionWithin, IsGotoWithin};
 ghost use Rattle.lrpar_table_rows.specs.PlainRows.{plain_action, plain_goto, plain_rows};
-ghost use Rattle.lrpar_table_rows.specs.StoredRows.{AppendsAction, AppendsGoto, AreActionRows, AreActionsOf, AreActionsOfRows, AreGotoRows, AreGotosOf, AreGotosOfRows, AreRowsUpTo, AreShiftsWithin, AreStatesWithin, plain_actions, plain_gotos};
+ghost use Rattle.lrpar_table_rows.specs.StoredRows.{AppendsAction, AppendsGoto, AreActionsOf, AreActionsOfRows, AreGotosOf, AreGotosOfRows, AreRowsUpTo, MakeTable, plain_actions, plain_gotos};
 
+use crate::each::all_rows;
 use crate::numbers::can_number;
 use crate::rows::{Action, TableRows};
 use lrpar_grammar::span::{RIdx, StIdx, StorageIndex, TIdx};
@@ -12,9 +13,9 @@ use std::alloc::{AllocError, Global};
 
 /// Whether the rows are those of a table.
 pub(crate) fn are_rows<StorageT: StorageIndex>(rows: &TableRows<StorageT>) -> bool
-    ensures { IsTrue result ↔ AreRows StorageT.limit (plain_rows StorageT.index rows.now) }
+    ensures { IsTrue result ↔ MakeTable StorageT.index StorageT.limit rows.now }
 {
-    are_numbers(rows) && are_entries(rows)
+    are_numbers(rows) && have_action_rows(rows) && have_goto_rows(rows)
 }
 
 /// Whether there are as many rows of both kinds, `StorageT` can number all states, tokens and rules, and the start state is one
@@ -30,30 +31,12 @@ fn are_numbers<StorageT: StorageIndex>(rows: &TableRows<StorageT>) -> bool
         && can_number::<StorageT>(rows.rules)
 }
 
-/// Whether each row has the right length, with states in range.
-fn are_entries<StorageT: StorageIndex>(rows: &TableRows<StorageT>) -> bool
-    ensures { IsTrue result ↔ HaveRightRows (plain_rows StorageT.index rows.now) }
+/// Whether each row of actions has an action for each token, with states in range.
+fn have_action_rows<StorageT: StorageIndex>(rows: &TableRows<StorageT>) -> bool
+    ensures { IsTrue result ↔ HaveActionRows (plain_rows StorageT.index rows.now) }
 {
-    let actions = rows.actions.as_slice();
-    let gotos = rows.gotos.as_slice();
-    let states = actions.len();
-    are_action_rows(actions, rows.tokens, states) && are_goto_rows(gotos, rows.rules, states)
-}
-
-/// Whether each row has an action for each token, with states in range.
-fn are_action_rows<StorageT: StorageIndex>(
-    rows: &[Vec<Action<StorageT>>],
-    tokens: usize,
-    states: usize,
-) -> bool
-    ensures { IsTrue result ↔ AreActionRows StorageT.index tokens states rows.now }
-{
-    for row in rows {
-        if !is_action_row(row, tokens, states) {
-            return false;
-        }
-    }
-    true
+    let (tokens, states) = (rows.tokens, rows.actions.len());
+    all_rows(&rows.actions, |row| is_action_row(row, tokens, states))
 }
 
 /// Whether the row has an action for each token, with states in range.
@@ -64,19 +47,7 @@ fn is_action_row<StorageT: StorageIndex>(
 ) -> bool
     ensures { IsTrue result ↔ IsActionRow tokens states (plain_actions StorageT.index row.now) }
 {
-    row.len() == tokens && are_actions_within(row, states)
-}
-
-/// Whether the state of each shift is below `states`.
-fn are_actions_within<StorageT: StorageIndex>(row: &[Action<StorageT>], states: usize) -> bool
-    ensures { IsTrue result ↔ AreShiftsWithin StorageT.index states row.now }
-{
-    for action in row {
-        if !is_action_within(*action, states) {
-            return false;
-        }
-    }
-    true
+    row.len() == tokens && row.iter().all(|action| is_action_within(*action, states))
 }
 
 /// Whether the action's state, if it is a shift, is below `states`.
@@ -89,20 +60,12 @@ fn is_action_within<StorageT: StorageIndex>(action: Action<StorageT>, states: us
     }
 }
 
-/// Whether each row has an optional state for each rule, in range.
-fn are_goto_rows<StorageT: StorageIndex>(
-    rows: &[Vec<Option<StIdx<StorageT>>>],
-    rules: usize,
-    states: usize,
-) -> bool
-    ensures { IsTrue result ↔ AreGotoRows StorageT.index rules states rows.now }
+/// Whether each row of gotos has an optional state for each rule, in range.
+fn have_goto_rows<StorageT: StorageIndex>(rows: &TableRows<StorageT>) -> bool
+    ensures { IsTrue result ↔ HaveGotoRows (plain_rows StorageT.index rows.now) }
 {
-    for row in rows {
-        if !is_goto_row(row, rules, states) {
-            return false;
-        }
-    }
-    true
+    let (rules, states) = (rows.rules, rows.actions.len());
+    all_rows(&rows.gotos, |row| is_goto_row(row, rules, states))
 }
 
 /// Whether the row has an optional state for each rule, in range.
@@ -113,19 +76,7 @@ fn is_goto_row<StorageT: StorageIndex>(
 ) -> bool
     ensures { IsTrue result ↔ IsGotoRow rules states (plain_gotos StorageT.index row.now) }
 {
-    row.len() == rules && are_gotos_within(row, states)
-}
-
-/// Whether each state to go to is below `states`.
-fn are_gotos_within<StorageT: StorageIndex>(row: &[Option<StIdx<StorageT>>], states: usize) -> bool
-    ensures { IsTrue result ↔ AreStatesWithin StorageT.index states row.now }
-{
-    for goto in row {
-        if !is_goto_within(*goto, states) {
-            return false;
-        }
-    }
-    true
+    row.len() == rules && row.iter().all(|goto| is_goto_within(*goto, states))
 }
 
 /// Whether the state to go to, if there is one, is below `states`.

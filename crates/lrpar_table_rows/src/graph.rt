@@ -1,9 +1,9 @@
 //! State graphs: the sets of LR(1) items of the states of an LR automaton.
 ghost use Rattle.std.specs.Prelude.{◌≡◌, ◌<◌, ◌≤◌, ◌↔◌, IsTrue, IfErr, IfOk, IsErrOf, length};
-ghost use Rattle.lrpar_table_rows.specs.Graph.{graph_len, items_of};
+ghost use Rattle.lrpar_table_rows.specs.Graph.{graph_len};
 ghost use Rattle.lrpar_table_rows.specs.Runs.{TokensAscend};
-ghost use Rattle.lrpar_table_rows.specs.StoredItems.{AreCoresAt, AreKernelCoresAt, AreLookaheadsAt, CoresAscend, HasCoreAt, HasItemAt, HaveItemsOf, ItemsAscendAt, StatesHaveItemsOf};
-ghost use Rattle.lrpar_table_rows.specs.declared.fault.TableFault.{TableFault};
+ghost use Rattle.lrpar_table_rows.specs.StoredItems.{AreCoresAt, AreItemsAt, AreKernelCoresAt, AreLookaheadsAt, CoresAscend, HasCoreAt, HasItemAt, HaveItemsOf, IsMadeOf, ItemsAscendAt};
+ghost use Rattle.lrpar_table_rows.specs.declared.fault.TableFault.TheVariants.{BadIndex};
 
 use crate::fault::TableFault;
 pub use crate::item_iter::Items;
@@ -51,8 +51,8 @@ impl<StorageT: StorageIndex> StateGraph<StorageT> {
         rows: Vec<Vec<(PIdx<StorageT>, usize, TIdx<StorageT>)>>,
     ) -> Result<Self, TableFault>
         ensures states { IfOk result (λ graph. graph_len graph ≡ length rows.items) }
-        ensures items { IfOk result (StatesHaveItemsOf StorageT.index rows) }
-        ensures refused { IsErrOf result TableFault.BadIndex ↔ (StorageT.limit < length rows.items) }
+        ensures items { IfOk result (IsMadeOf StorageT.index rows) }
+        ensures refused { IsErrOf result BadIndex ↔ (StorageT.limit < length rows.items) }
     {
         if can_number::<StorageT>(rows.len()) {
             Ok(StateGraph {
@@ -67,8 +67,8 @@ impl<StorageT: StorageIndex> StateGraph<StorageT> {
     /// `StorageT` has numbers. No memory is allocated.
     pub fn from_sets(sets: Vec<ItemSet<StorageT>>) -> Result<Self, TableFault>
         ensures made { IfOk result (λ graph. graph ≡ sets.items) }
-        ensures refused { IfErr result (λ fault. fault ≡ TableFault.BadIndex) }
-        ensures exact { IsErrOf result TableFault.BadIndex ↔ (StorageT.limit < length sets.items) }
+        ensures refused { IfErr result (λ fault. fault ≡ BadIndex) }
+        ensures exact { IsErrOf result BadIndex ↔ (StorageT.limit < length sets.items) }
     {
         if can_number::<StorageT>(sets.len()) {
             Ok(StateGraph { sets })
@@ -116,7 +116,7 @@ impl<StorageT: StorageIndex> StateGraph<StorageT> {
     /// The LR(1) items of state `s`, ascending, each once.
     pub fn items(&self, s: StIdx<StorageT>) -> Items<'_, StorageT>
         requires { StorageT.index s.0 < graph_len self.now }
-        ensures all { result ≡ items_of self.now (StorageT.index s.0) }
+        ensures all { AreItemsAt StorageT.index self.now s result }
         ensures ascending { ItemsAscendAt StorageT.index self.now s }
     {
         self.sets[usize::from(s)].items()

@@ -5,6 +5,7 @@ mod ascending;
 mod bases;
 pub mod condition;
 mod conflicts;
+mod each;
 mod entries;
 mod fault;
 mod full;

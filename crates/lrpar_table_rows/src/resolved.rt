@@ -1,6 +1,6 @@
 //! Conflicts of a shift and a reduction that precedences resolved when a table was built.
 ghost use Rattle.std.specs.Prelude.{◌≡◌, ◌==◌, [], length};
-ghost use Rattle.lrpar_table_rows.specs.PlainConflicts.{resolved_of};
+ghost use Rattle.lrpar_table_rows.specs.PlainConflicts.{AreResolved, resolved_of};
 
 use lrpar_grammar::span::{PIdx, StIdx, StorageIndex, TIdx};
 pub use lrpar_table_precedence::precedence::Resolution;
@@ -38,7 +38,7 @@ impl<StorageT: StorageIndex> Model for Resolved<StorageT> {
 impl<StorageT: StorageIndex> Resolved<StorageT> {
     /// The resolved conflicts of this list. The numbers aren't checked.
     pub fn new(conflicts: Vec<ResolvedConflict<StorageT>>) -> Self
-        ensures { result ≡ resolved_of StorageT.index conflicts.items }
+        ensures { AreResolved StorageT.index conflicts result }
     {
         Resolved { conflicts }
     }

@@ -2,9 +2,10 @@
 ghost use Rattle.std.specs.Prelude.{◌↔◌, IsTrue};
 ghost use Rattle.lrpar_table_rows.specs.Entries.{KeysAscend};
 ghost use Rattle.lrpar_table_rows.specs.PlainRows.{action_entry, goto_entry, sparse_table_of};
-ghost use Rattle.lrpar_table_rows.specs.StoredRows.{AreActionEntries, AreGotoEntries, AreSparseActionRows, AreSparseGotoRows, IsSparseActionRow, IsSparseGotoRow};
-ghost use Rattle.lrpar_table_rows.specs.Table.{HasRightEntries, HasNumbers, IsActionEntry, IsGotoEntry, IsTable};
+ghost use Rattle.lrpar_table_rows.specs.StoredRows.{IsSparseActionRow, IsSparseGotoRow, StoreTable};
+ghost use Rattle.lrpar_table_rows.specs.Table.{HasNumbers, HasRightActions, HasRightGotos, IsActionEntry, IsGotoEntry};
 
+use crate::each::all_rows;
 use crate::key::Key;
 use crate::numbers::can_number;
 use crate::rows::{Action, SparseRows};
@@ -12,9 +13,9 @@ use lrpar_grammar::span::{RIdx, StIdx, StorageIndex, TIdx};
 
 /// Whether the rows are those of a table.
 pub(crate) fn is_sparse_table<StorageT: StorageIndex>(rows: &SparseRows<StorageT>) -> bool
-    ensures { IsTrue result ↔ IsTable StorageT.limit (sparse_table_of StorageT.index rows.now) }
+    ensures { IsTrue result ↔ StoreTable StorageT.index StorageT.limit rows.now }
 {
-    has_sparse_numbers(rows) && are_entries(rows)
+    has_sparse_numbers(rows) && has_right_actions(rows) && has_right_gotos(rows)
 }
 
 /// Whether there is a row of both kinds for each state, `StorageT` can number all states, tokens and rules, and the start state
@@ -30,28 +31,12 @@ fn has_sparse_numbers<StorageT: StorageIndex>(rows: &SparseRows<StorageT>) -> bo
         && can_number::<StorageT>(rows.rules)
 }
 
-/// Whether each row has entries that ascend, all in range, and no errors among them.
-fn are_entries<StorageT: StorageIndex>(rows: &SparseRows<StorageT>) -> bool
-    ensures { IsTrue result ↔ HasRightEntries (sparse_table_of StorageT.index rows.now) }
+/// Whether each row of actions has tokens that ascend, all in range, and no errors.
+fn has_right_actions<StorageT: StorageIndex>(rows: &SparseRows<StorageT>) -> bool
+    ensures { IsTrue result ↔ HasRightActions (sparse_table_of StorageT.index rows.now) }
 {
-    are_action_rows(&rows.actions, rows.tokens, rows.states)
-        && are_goto_rows(&rows.gotos, rows.rules, rows.states)
-}
-
-/// Whether each row has tokens that ascend, with actions other than errors, all in range.
-fn are_action_rows<StorageT: StorageIndex>(
-    rows: &[Vec<(TIdx<StorageT>, Action<StorageT>)>],
-    tokens: usize,
-    states: usize,
-) -> bool
-    ensures { IsTrue result ↔ AreSparseActionRows StorageT.index tokens states rows.now }
-{
-    for row in rows {
-        if !is_action_row(row, tokens, states) {
-            return false;
-        }
-    }
-    true
+    let (tokens, states) = (rows.tokens, rows.states);
+    all_rows(&rows.actions, |row| is_action_row(row, tokens, states))
 }
 
 /// Whether the row has tokens that ascend, with actions other than errors, all in range.
@@ -62,23 +47,7 @@ fn is_action_row<StorageT: StorageIndex>(
 ) -> bool
     ensures { IsTrue result ↔ IsSparseActionRow StorageT.index tokens states row.now }
 {
-    ascends(row) && are_action_entries(row, tokens, states)
-}
-
-/// Whether each entry has an action other than an error, and is in range.
-fn are_action_entries<StorageT: StorageIndex>(
-    row: &[(TIdx<StorageT>, Action<StorageT>)],
-    tokens: usize,
-    states: usize,
-) -> bool
-    ensures { IsTrue result ↔ AreActionEntries StorageT.index tokens states row.now }
-{
-    for entry in row {
-        if !is_action_entry(entry.0, entry.1, tokens, states) {
-            return false;
-        }
-    }
-    true
+    ascends(row) && row.iter().all(|entry| is_action_entry(entry.0, entry.1, tokens, states))
 }
 
 /// Whether the token is below `tokens`, the action isn't an error, and its state, if it has one, is below `states`.
@@ -98,20 +67,12 @@ fn is_action_entry<StorageT: StorageIndex>(
         }
 }
 
-/// Whether each row has rules that ascend, with states to go to, all in range.
-fn are_goto_rows<StorageT: StorageIndex>(
-    rows: &[Vec<(RIdx<StorageT>, StIdx<StorageT>)>],
-    rules: usize,
-    states: usize,
-) -> bool
-    ensures { IsTrue result ↔ AreSparseGotoRows StorageT.index rules states rows.now }
+/// Whether each row of gotos has rules that ascend, all in range.
+fn has_right_gotos<StorageT: StorageIndex>(rows: &SparseRows<StorageT>) -> bool
+    ensures { IsTrue result ↔ HasRightGotos (sparse_table_of StorageT.index rows.now) }
 {
-    for row in rows {
-        if !is_goto_row(row, rules, states) {
-            return false;
-        }
-    }
-    true
+    let (rules, states) = (rows.rules, rows.states);
+    all_rows(&rows.gotos, |row| is_goto_row(row, rules, states))
 }
 
 /// Whether the row has rules that ascend, with states to go to, all in range.
@@ -122,23 +83,7 @@ fn is_goto_row<StorageT: StorageIndex>(
 ) -> bool
     ensures { IsTrue result ↔ IsSparseGotoRow StorageT.index rules states row.now }
 {
-    ascends(row) && are_goto_entries(row, rules, states)
-}
-
-/// Whether each entry is in range.
-fn are_goto_entries<StorageT: StorageIndex>(
-    row: &[(RIdx<StorageT>, StIdx<StorageT>)],
-    rules: usize,
-    states: usize,
-) -> bool
-    ensures { IsTrue result ↔ AreGotoEntries StorageT.index rules states row.now }
-{
-    for entry in row {
-        if !is_goto_entry(entry.0, entry.1, rules, states) {
-            return false;
-        }
-    }
-    true
+    ascends(row) && row.iter().all(|entry| is_goto_entry(entry.0, entry.1, rules, states))
 }
 
 /// Whether the rule is below `rules`, and the state below `states`.

@@ -1,11 +1,9 @@
 //! State tables: the actions and gotos of an LR automaton. A table is made of rows, and then only read.
 ghost use Rattle.std.specs.Prelude.{◌≡◌, ◌<◌, ◌≤◌, ◌↔◌, IfOk, IsErrOf, length};
 ghost use Rattle.std.specs.Option.{option_map};
-ghost use Rattle.lrpar_table_rows.specs.Rows.{AreRows};
-ghost use Rattle.lrpar_table_rows.specs.StoredRows.{AreActionsAt, AreGotosAt, GoesWithin, HasActionsOf, HasGotosOf, IsActionAt, IsGotoAt, IsTableOfRows, IsTableOfSparse, ShiftsWithin};
-ghost use Rattle.lrpar_table_rows.specs.Table.{ActionsAscend, AreActionsWithin, AreGotosWithin, FailsPastStates, FailsPastTokens, GotosAscend, HasNoGotoPastRules, HasNoGotoPastStates, IsClosed, IsTable, StoresActions, StoresGotos, entries_len, states_len, with_resolved};
-ghost use Rattle.lrpar_table_rows.specs.PlainRows.{plain_rows, sparse_table_of};
-ghost use Rattle.lrpar_table_rows.specs.declared.fault.TableFault.{TableFault};
+ghost use Rattle.lrpar_table_rows.specs.StoredRows.{ActionsFit, AreActionsAt, AreGotosAt, GoesWithin, GotosFit, HasActionsOf, HasGotosOf, IsActionAt, IsGotoAt, IsTableOfRows, IsTableOfSparse, MakeTable, ShiftsWithin, StoreTable, StoresActionsAt, StoresGotosAt};
+ghost use Rattle.lrpar_table_rows.specs.Table.{ActionsAscend, FailsPastStates, FailsPastTokens, GotosAscend, HasNoGotoPastRules, HasNoGotoPastStates, IsClosed, entries_len, states_len, with_resolved};
+ghost use Rattle.lrpar_table_rows.specs.declared.fault.TableFault.TheVariants.{BadIndex};
 
 pub use crate::conflicts::Conflicts;
 use crate::entries::Entries;
@@ -71,11 +69,11 @@ impl<StorageT: StorageIndex> StateTable<StorageT> {
     /// any allocation. It returns `Memory` if an allocation fails: the entries are stored apart from the rows. Every entry of
     /// the rows is read a few times; then the rows are dropped.
     pub fn from_rows(alloc: Global, rows: TableRows<StorageT>) -> Result<Self, TableFault>
-        ensures made { IfOk result (λ _. AreRows StorageT.limit (plain_rows StorageT.index rows)) }
+        ensures made { IfOk result (λ _. MakeTable StorageT.index StorageT.limit rows) }
         ensures table { IfOk result (IsTableOfRows StorageT.index rows) }
         ensures actions { IfOk result (HasActionsOf StorageT.index rows) }
         ensures gotos { IfOk result (HasGotosOf StorageT.index rows) }
-        ensures refused { IsErrOf result TableFault.BadIndex ↔ ¬ (AreRows StorageT.limit (plain_rows StorageT.index rows)) }
+        ensures refused { IsErrOf result BadIndex ↔ ¬ (MakeTable StorageT.index StorageT.limit rows) }
     {
         if !are_rows(&rows) {
             return Err(TableFault::BadIndex);
@@ -91,9 +89,9 @@ impl<StorageT: StorageIndex> StateTable<StorageT> {
     /// decided before any allocation. It returns `Memory` if an allocation fails. Time and memory grow with states and
     /// entries, and not with tokens and rules.
     pub fn from_sparse(alloc: Global, rows: SparseRows<StorageT>) -> Result<Self, TableFault>
-        ensures made { IfOk result (λ _. IsTable StorageT.limit (sparse_table_of StorageT.index rows)) }
+        ensures made { IfOk result (λ _. StoreTable StorageT.index StorageT.limit rows) }
         ensures table { IfOk result (IsTableOfSparse StorageT.index rows) }
-        ensures refused { IsErrOf result TableFault.BadIndex ↔ ¬ (IsTable StorageT.limit (sparse_table_of StorageT.index rows)) }
+        ensures refused { IsErrOf result BadIndex ↔ ¬ (StoreTable StorageT.index StorageT.limit rows) }
     {
         if !is_sparse_table(&rows) {
             return Err(TableFault::BadIndex);
@@ -206,9 +204,9 @@ impl<StorageT: StorageIndex> StateTable<StorageT> {
         requires { StorageT.index s.0 < states_len self.now }
         ensures entries { AreActionsAt StorageT.index self.now s result.0.now result.1.now }
         ensures actions { length result.1.now ≡ length result.0.now }
-        ensures exact { StoresActions self.now (StorageT.index s.0) }
+        ensures exact { StoresActionsAt StorageT.index self.now s }
         ensures ascending { ActionsAscend self.now (StorageT.index s.0) }
-        ensures within { AreActionsWithin self.now (StorageT.index s.0) }
+        ensures within { ActionsFit StorageT.index self.now s }
     {
         self.actions.row(usize::from(s))
     }
@@ -219,9 +217,9 @@ impl<StorageT: StorageIndex> StateTable<StorageT> {
         requires { StorageT.index s.0 < states_len self.now }
         ensures entries { AreGotosAt StorageT.index self.now s result.0.now result.1.now }
         ensures states { length result.1.now ≡ length result.0.now }
-        ensures exact { StoresGotos self.now (StorageT.index s.0) }
+        ensures exact { StoresGotosAt StorageT.index self.now s }
         ensures ascending { GotosAscend self.now (StorageT.index s.0) }
-        ensures within { AreGotosWithin self.now (StorageT.index s.0) }
+        ensures within { GotosFit StorageT.index self.now s }
     {
         self.gotos.row(usize::from(s))
     }
@@ -232,7 +230,7 @@ fn of_rows<StorageT: StorageIndex>(
     alloc: Global,
     rows: TableRows<StorageT>,
 ) -> Result<StateTable<StorageT>, AllocError>
-    requires { AreRows StorageT.limit (plain_rows StorageT.index rows) }
+    requires { MakeTable StorageT.index StorageT.limit rows }
     ensures { IfOk result (IsTableOfRows StorageT.index rows) }
 {
     let states = rows.actions.len();
@@ -255,7 +253,7 @@ fn of_sparse<StorageT: StorageIndex>(
     alloc: Global,
     rows: SparseRows<StorageT>,
 ) -> Result<StateTable<StorageT>, AllocError>
-    requires { IsTable StorageT.limit (sparse_table_of StorageT.index rows) }
+    requires { StoreTable StorageT.index StorageT.limit rows }
     ensures { IfOk result (IsTableOfSparse StorageT.index rows) }
 {
     let actions = Entries::from_rows(alloc, &rows.actions)?;

@@ -1,16 +1,10 @@
 use Rattle.std.proofs.Common.{◌≡◌, ◌++◌, ◌+◌, ◌∷◌, ◌∙◌, [], ap, arith, subst, sym, take}
 use Rattle.std.proofs.lemmas.List.{take_all, take_more}
 use Rattle.lrpar_table_rows.specs.PlainItems.{AreBegunOf}
-use Rattle.lrpar_table_rows.proofs.ItemLemmas.{begun_more, begun_no_more, cores_compare_exactly, exact_index}
+use Rattle.lrpar_table_rows.proofs.ItemLemmas.{begun_more, begun_no_more, cores_exactly}
 use Rattle.lrpar_grammar_places.proofs.FaultLemmas.{no_value}
 use Rattle.lrpar_table_rows.proofs.runs.begun_of.Goals as goal
 use Rattle.lrpar_table_rows.proofs.runs.begun_of.Goals.{then-core-gt0+in_ok-push, else-core-gt0}
-
-pub from_vec-requires : goal.from_vec-requires
-from_vec-requires g c =
-    let exact =
-    exact_index g.StorageT.StorageIndex.index g.StorageT.StorageIndex.at_index g.met.StorageT.StorageIndex.at_index_law in
-    record { exact = cores_compare_exactly g.StorageT.StorageIndex.index exact g.StorageT.Ord.cmp g.met.StorageT.StorageIndex.cmp_law }
 
 pub loop-core-preserved : goal.loop-core-preserved
 loop-core-preserved g c =
@@ -39,3 +33,8 @@ returns g c = λ p k.
 
 pub returns-in_err-push : goal.returns-in_err-push
 returns-in_err-push g c = no_value c.from_residual.result _ _ c.from_residual.ensures.1
+
+pub from_vec-requires : goal.from_vec-requires
+from_vec-requires g c =
+    let laws = g.met.StorageT.StorageIndex in
+    record { exact = cores_exactly g.StorageT.StorageIndex.index g.StorageT.StorageIndex.at_index g.StorageT.Ord.cmp laws.at_index_law laws.cmp_law }

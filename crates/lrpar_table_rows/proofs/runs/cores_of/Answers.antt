@@ -1,7 +1,7 @@
 use Rattle.std.proofs.Common.{◌≡◌, ◌++◌, ◌+◌, ◌∷◌, [], map, take}
 use Rattle.std.proofs.lemmas.List.{map-append, take_all, take_more}
 use Rattle.lrpar_table_rows.specs.Ascending.{HaveSame}
-use Rattle.lrpar_table_rows.proofs.ItemLemmas.{HaveSame-push, core_part, cores_compare_exactly, cores_from_same, cores_same_by_test, exact_index}
+use Rattle.lrpar_table_rows.proofs.ItemLemmas.{HaveSame-push, core_part, cores_exactly, cores_from_same, cores_same_by_test, exact_index}
 use Rattle.lrpar_grammar_places.proofs.FaultLemmas.{no_value}
 use Rattle.lrpar_table_rows.proofs.runs.cores_of.Goals as goal
 
@@ -13,9 +13,8 @@ push_new-requires g c =
 
 pub from_vec-requires : goal.from_vec-requires
 from_vec-requires g c =
-    let exact =
-    exact_index g.StorageT.StorageIndex.index g.StorageT.StorageIndex.at_index g.met.StorageT.StorageIndex.at_index_law in
-    record { exact = cores_compare_exactly g.StorageT.StorageIndex.index exact g.StorageT.Ord.cmp g.met.StorageT.StorageIndex.cmp_law }
+    let laws = g.met.StorageT.StorageIndex in
+    record { exact = cores_exactly g.StorageT.StorageIndex.index g.StorageT.StorageIndex.at_index g.StorageT.Ord.cmp laws.at_index_law laws.cmp_law }
 
 pub loop-item-preserved : goal.loop-item-preserved
 loop-item-preserved g c =

@@ -2,16 +2,10 @@ use Rattle.std.proofs.Common.{◌≡◌, ◌<◌, ◌++◌, ◌+◌, ◌∷◌, 
 use Rattle.std.proofs.lemmas.List.{take_all, take_more}
 use Rattle.lrpar_table_rows.specs.PlainItems.{AreCoresOf}
 use Rattle.lrpar_table_rows.specs.Runs.{core_items, items_of_rows}
-use Rattle.lrpar_table_rows.proofs.ItemLemmas.{cores_compare_exactly, exact_index}
+use Rattle.lrpar_table_rows.proofs.ItemLemmas.{cores_exactly}
 use Rattle.lrpar_table_rows.proofs.RunLemmas.{cores_more, cores_no_more, row_more}
 use Rattle.lrpar_table_rows.proofs.runs.cores_of_rows.Goals as goal
 use Rattle.lrpar_table_rows.proofs.runs.cores_of_rows.Goals.{then-some-gt0+in_ok-push, else-some-gt0}
-
-pub from_vec-requires : goal.from_vec-requires
-from_vec-requires g c =
-    let exact =
-    exact_index g.StorageT.StorageIndex.index g.StorageT.StorageIndex.at_index g.met.StorageT.StorageIndex.at_index_law in
-    record { exact = cores_compare_exactly g.StorageT.StorageIndex.index exact g.StorageT.Ord.cmp g.met.StorageT.StorageIndex.cmp_law }
 
 pub loop-row-preserved : goal.loop-row-preserved
 loop-row-preserved g c =
@@ -39,3 +33,8 @@ returns g c = λ p k.
     let are : AreCoresOf (items_of_rows c.args.rows.now) c.loop-row.cores.items = rw all at c.loop-row.invariant in
     let same = c.from_vec.ensures.same (p, k) in
     (λ h. (are p k).0 (same.0 h), λ h. same.1 ((are p k).1 h))
+
+pub from_vec-requires : goal.from_vec-requires
+from_vec-requires g c =
+    let laws = g.met.StorageT.StorageIndex in
+    record { exact = cores_exactly g.StorageT.StorageIndex.index g.StorageT.StorageIndex.at_index g.StorageT.Ord.cmp laws.at_index_law laws.cmp_law }

@@ -1,10 +1,9 @@
-use Rattle.std.proofs.Common.{◌≡◌, ◌++◌, ◌+◌, ◌∷◌, ◌∙◌, [], arith, subst, sym, take}
-use Rattle.std.proofs.lemmas.List.{length-map, take_all, take_more}
-use Rattle.std.proofs.lemmas.List.Elements.{length_all_zip}
+use Rattle.std.proofs.Common.{◌≡◌, ◌++◌, ◌+◌, ◌∷◌, [], arith, subst, sym, take}
+use Rattle.std.proofs.lemmas.List.{take_all, take_more}
 use Rattle.lrpar_table_rows.specs.Ascending.{HaveSame}
 use Rattle.lrpar_table_rows.specs.Runs.{run_items, tokens_of}
 use Rattle.lrpar_table_rows.proofs.ItemLemmas.{HaveSame-push}
-use Rattle.lrpar_table_rows.proofs.RunLemmas.{core_known, same_runs, same_trans}
+use Rattle.lrpar_table_rows.proofs.RunLemmas.{core_known, runs_made}
 use Rattle.lrpar_table_rows.proofs.runs.runs_of.Goals as goal
 
 pub loop-item-init : goal.loop-item-init
@@ -30,16 +29,9 @@ loop-item-preserved g c =
           c.in_ok-put_token.ensures.same),
     )
 
-pub returns-clause-paired : goal.returns-clause-paired
-returns-clause-paired g c =
-    length_all_zip HaveSame c.in_ok-made.made.items (tokens_of c.loop-item.runs.items) c.in_ok-made.ensures.same
-    ∙ length-map c.loop-item.runs.items (λ run. run.items) ∙ c.loop-item.invariant.0
-
-pub returns-clause-same : goal.returns-clause-same
-returns-clause-same g c =
-    let cores = c.args.cores.now in
-    let items = c.args.items.now in
-    let all = take_all c.loop-item.item-index items c.loop-item-test.false in
-    let same : HaveSame (run_items cores (tokens_of c.loop-item.runs.items)) items = rw all at c.loop-item.invariant.1 in
-    same_trans (run_items cores c.in_ok-made.made.items) (run_items cores (tokens_of c.loop-item.runs.items)) items
-    (same_runs cores c.in_ok-made.made.items (tokens_of c.loop-item.runs.items) c.in_ok-made.ensures.same) same
+pub returns : goal.returns
+returns g c =
+    let all = take_all c.loop-item.item-index c.args.items.now c.loop-item-test.false in
+    let made =
+    runs_made c.args.cores.now c.loop-item.runs c.in_ok-made.made.items c.args.items.now c.in_ok-made.ensures.same c.loop-item.invariant.0 (rw all at c.loop-item.invariant.1) in
+    record { paired = made.0; sorted = c.in_ok-made.ensures.sorted; same = made.1 }

@@ -1,9 +1,8 @@
 use Rattle.std.proofs.Common.{◌≡◌, ◌++◌, ◌+◌, ◌∷◌, ◌∙◌, [], ap, arith, subst, sym, take}
-use Rattle.std.proofs.lemmas.List.{length-map, take_all, take_more}
-use Rattle.std.proofs.lemmas.List.Elements.{length_all_zip}
+use Rattle.std.proofs.lemmas.List.{take_all, take_more}
 use Rattle.lrpar_table_rows.specs.Ascending.{HaveSame}
 use Rattle.lrpar_table_rows.specs.Runs.{core_items, items_of_rows, run_items, tokens_of}
-use Rattle.lrpar_table_rows.proofs.RunLemmas.{row_known, row_more, same_more, same_runs, same_trans}
+use Rattle.lrpar_table_rows.proofs.RunLemmas.{row_known, row_more, runs_made, same_more}
 use Rattle.lrpar_table_rows.proofs.runs.runs_of_rows.Goals as goal
 
 pub loop-row-init : goal.loop-row-init
@@ -33,16 +32,9 @@ loop-row-preserved g c =
           (same_more old (items_of_rows (take i rows)) new (core_items (row.0, row.1) tokens) c.loop-row.invariant.1 pushed),
     )
 
-pub returns-clause-paired : goal.returns-clause-paired
-returns-clause-paired g c =
-    length_all_zip HaveSame c.in_ok-made.made.items (tokens_of c.loop-row.runs.items) c.in_ok-made.ensures.same
-    ∙ length-map c.loop-row.runs.items (λ run. run.items) ∙ c.loop-row.invariant.0
-
-pub returns-clause-same : goal.returns-clause-same
-returns-clause-same g c =
-    let cores = c.args.cores.now in
-    let rows = c.args.rows.now in
-    let all = take_all c.loop-row.row-index rows c.loop-row-test.false in
-    let same : HaveSame (run_items cores (tokens_of c.loop-row.runs.items)) (items_of_rows rows) = rw all at c.loop-row.invariant.1 in
-    same_trans (run_items cores c.in_ok-made.made.items) (run_items cores (tokens_of c.loop-row.runs.items)) (items_of_rows rows)
-    (same_runs cores c.in_ok-made.made.items (tokens_of c.loop-row.runs.items) c.in_ok-made.ensures.same) same
+pub returns : goal.returns
+returns g c =
+    let all = take_all c.loop-row.row-index c.args.rows.now c.loop-row-test.false in
+    let made =
+    runs_made c.args.cores.now c.loop-row.runs c.in_ok-made.made.items (items_of_rows c.args.rows.now) c.in_ok-made.ensures.same c.loop-row.invariant.0 (rw all at c.loop-row.invariant.1) in
+    record { paired = made.0; sorted = c.in_ok-made.ensures.sorted; same = made.1 }

@@ -3,21 +3,10 @@ use Rattle.lrpar_table_rows.proofs.EntryLemmas.{actions_exact, actions_good}
 use Rattle.lrpar_table_rows.proofs.RowLemmas.{image_of_row}
 use Rattle.lrpar_table_rows.proofs.table.StateTable.actions_of.Goals as goal
 
-pub returns-clause-entries : goal.returns-clause-entries
-returns-clause-entries g c =
-    let index = g.StorageT.StorageIndex.index in
-    rw (← c.self.view_is)
-    (image_of_row (action_entry index) c.self.inside.actions _ c.from.result (index c.args.s.0) c.row.ensures.entries c.from.ensures)
-
-pub returns-clause-exact : goal.returns-clause-exact
-returns-clause-exact g c = rw (← c.self.view_is) (actions_exact g.StorageT.StorageIndex.limit _ c.self.invariant (g.StorageT.StorageIndex.index c.args.s.0))
-
-pub returns-clause-ascending : goal.returns-clause-ascending
-returns-clause-ascending g c =
-    let good = actions_good g.StorageT.StorageIndex.limit _ c.self.invariant (g.StorageT.StorageIndex.index c.args.s.0) in
-    rw (← c.self.view_is) good.ascending
-
-pub returns-clause-within : goal.returns-clause-within
-returns-clause-within g c =
-    let good = actions_good g.StorageT.StorageIndex.limit _ c.self.invariant (g.StorageT.StorageIndex.index c.args.s.0) in
-    rw (← c.self.view_is) good.each
+pub returns : goal.returns
+returns g c =
+    let s = g.StorageT.StorageIndex.index c.args.s.0 in
+    let entries = image_of_row (action_entry g.StorageT.StorageIndex.index) c.self.inside.actions _ c.from.result s c.row.ensures.entries c.from.ensures in
+    let good = actions_good g.StorageT.StorageIndex.limit _ c.self.invariant s in
+    let exact = actions_exact g.StorageT.StorageIndex.limit _ c.self.invariant s in
+    rw (← c.self.view_is) (record { entries = entries; actions = c.row.ensures.values; exact = exact; ascending = good.ascending; within = good.each })
