@@ -1,5 +1,5 @@
 -- First(w, a) for the tokens a of a set, computed from First(w, d) for the dummy lookahead d.
-use Rattle.std.proofs.Common.{◌≡◌, ◌<◌, ◌+◌, ◌||◌, ◌&&◌, ◌↔◌, ◌⊎◌, ◌∙◌, refl, sym, subst, inl, inr, arith, ℕ, Bool, true, false, List, [], ◌∷◌, All, length, nat_lt, IsTrue}
+use Rattle.std.proofs.Common.{◌≡◌, ◌<◌, ◌+◌, ◌||◌, ◌&&◌, ◌↔◌, ◌⊎◌, ◌∙◌, ap, refl, sym, subst, inl, inr, arith, ℕ, Bool, true, false, List, [], ◌∷◌, All, length, nat_lt, IsTrue}
 use Rattle.std.proofs.lemmas.Bool.{and_from, and_parts, lt-ltb, ltb-true, or_cases, or_left, or_right}
 use Rattle.std.proofs.lemmas.List.{append-nil}
 use Rattle.std.proofs.lemmas.List.Elements.{All-head, All-tail}
@@ -63,13 +63,22 @@ module _ (g : Grammar) (well : IsWellFormed g) (rows : List (List Bool)) (firsts
         | inr rest ↦ inr (rest.0, subst (λ x. IsTrue (has after x)) (sym rest.1) h.1)
       ]
 
-  module _ (after front old middle : List Bool) (some : (a : ℕ) × IsTrue (has after a))
-      (begun : (t : ℕ) → has front t ≡ begins (dummy_lookahead g) rows w t)
-      (put : (t : ℕ) → has middle t ≡ (has old t || (nat_lt t (dummy_lookahead g) && has front t))) where
+  module _ (after none front old middle : List Bool) (n : ℕ) (some : (a : ℕ) × IsTrue (has after a)) (marked : n ≡ dummy_lookahead g)
+      (cleared : (t : ℕ) → has none t ≡ false) (added : (t : ℕ) → has front t ≡ (has none t || begins n rows w t))
+      (put_below : (t : ℕ) → has middle t ≡ (has old t || (nat_lt t n && has front t))) where
+    -- the scratch set has what the symbols begin with
+    begun : (t : ℕ) → has front t ≡ begins (dummy_lookahead g) rows w t
+    begun t = added t ∙ ap (λ b. b || begins n rows w t) (cleared t) ∙ ap (λ k. begins k rows w t) marked
+
+    -- its tokens were added
+    put : (t : ℕ) → has middle t ≡ (has old t || (nat_lt t (dummy_lookahead g) && has front t))
+    put t = put_below t ∙ ap (λ k. has old t || (nat_lt t k && has front t)) marked
+
     -- if the symbols aren't nullable, what they begin with is all
-    pub added_before : has front (dummy_lookahead g) ≡ false
+    pub added_before : has front n ≡ false
         → (t : ℕ) → IsTrue (has middle t) ↔ (IsTrue (has old t) ⊎ IsFirstBefore g after w t)
-    added_before ends t =
+    added_before none_left t =
+        let ends : has front (dummy_lookahead g) ≡ false = ap (has front) (sym marked) ∙ none_left in
         let parts = united old front middle (dummy_lookahead g) t (put t) in (
           λ h. elim (parts.0 h) [
             | inl before ↦ inl before
@@ -86,12 +95,13 @@ module _ (g : Grammar) (well : IsWellFormed g) (rows : List (List Bool)) (firsts
         )
 
     -- if they are nullable, the set's tokens are added, too
-    pub added_through : (new : List Bool) → length after ≡ dummy_lookahead g + 1 → has front (dummy_lookahead g) ≡ true
-        → ((t : ℕ) → has new t ≡ (has middle t || (nat_lt t (dummy_lookahead g + 1) && has after t)))
+    pub added_through : (new : List Bool) → length after ≡ dummy_lookahead g + 1 → has front n ≡ true
+        → ((t : ℕ) → has new t ≡ (has middle t || (nat_lt t (n + 1) && has after t)))
         → (t : ℕ) → IsTrue (has new t) ↔ (IsTrue (has old t) ⊎ IsFirstBefore g after w t)
-    added_through new wide through more t =
+    added_through new wide left more_below t =
+        let through : has front (dummy_lookahead g) ≡ true = ap (has front) (sym marked) ∙ left in
         let parts = united old front middle (dummy_lookahead g) t (put t) in
-        let all = united middle after new (dummy_lookahead g + 1) t (more t) in
+        let all = united middle after new (dummy_lookahead g + 1) t (more_below t ∙ ap (λ k. has middle t || (nat_lt t (k + 1) && has after t)) marked) in
         let nothing = (begins_is (dummy_lookahead g)).0 (sym (begun (dummy_lookahead g)) ∙ through) in (
           λ h. elim (all.0 h) [
             | inl early ↦

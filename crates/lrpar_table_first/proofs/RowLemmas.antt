@@ -7,7 +7,7 @@ use Rattle.lrpar_grammar_places.specs.declared.span.Symbol.{Symbol}
 use Rattle.lrpar_grammar.specs.Grammar.{GrammarSymbol, Nonterminal, Terminal}
 use Rattle.lrpar_grammar.specs.Symbols.{symbol_of}
 use Rattle.lrpar_grammar_places.proofs.ListLemmas.{All-map-at}
-use Rattle.lrpar_table_first.specs.FirstRows.{begins, row_at, rows_of}
+use Rattle.lrpar_table_first.specs.FirstRows.{IsSymbolBelow, begins, row_at, rows_of}
 use Rattle.lrpar_grammar.specs.Tokens.{has}
 use Rattle.lrpar_grammar.specs.declared.token_set.TokenSet.{TokenSet}
 
@@ -69,3 +69,19 @@ pub symbol_below : {S : Type 0} (index : S → ℕ) (P : GrammarSymbol → Type 
     → All P (map (symbol_of index) symbols) → i < length symbols → symbol ≡ get_or symbols i symbol → symbol ≡ shown → P (symbol_of index shown)
 symbol_below index P symbols i symbol shown all within is shows =
     subst (λ s. P (symbol_of index s)) (sym is ∙ shows) (All-map-at P (symbol_of index) symbols all i symbol within)
+
+-- where the walk meets a rule, by the set that is read for the rule: the symbols from there on, the rule's row, and what was added
+pub rule_met : {S : Type 0} (index : S → ℕ) (dummy : ℕ) (sets : List TokenSet) (symbols : List (Symbol S)) (i : ℕ) (symbol : Symbol S) (r : ℕ) (set : TokenSet)
+    (front new : List Bool) → All (IsSymbolBelow (length sets) dummy) (map (symbol_of index) symbols) → i < length symbols → symbol ≡ get_or symbols i symbol
+    → symbol_of index symbol ≡ Nonterminal r → set ≡ get_or sets r set → ((t : ℕ) → has new t ≡ (has front t || (nat_lt t dummy && has set.bits.items t)))
+    → (drop i (map (symbol_of index) symbols) ≡ Nonterminal r ∷ drop (i + 1) (map (symbol_of index) symbols)) × (row_at (rows_of sets) r ≡ set.bits.items)
+    × ((t : ℕ) → has new t ≡ (has front t || (nat_lt t dummy && has (row_at (rows_of sets) r) t)))
+rule_met index dummy sets symbols i symbol r set front new all within is shown read put =
+    let rest = drop (i + 1) (map (symbol_of index) symbols) in
+    let below = symbol_below index (IsSymbolBelow (length sets) dummy) symbols i symbol symbol all within is refl in
+    let low : r < length sets = subst (IsSymbolBelow (length sets) dummy) shown below in
+    let row = row_is sets r set low read in (
+      symbols_from index symbols i symbol within is ∙ ap (λ s. s ∷ rest) shown,
+      row,
+      λ t. put t ∙ ap (λ bits. has front t || (nat_lt t dummy && has bits t)) (sym row),
+    )

@@ -3,7 +3,7 @@ use Rattle.lrpar_grammar.specs.Grammar.{Nonterminal}
 use Rattle.lrpar_grammar.specs.Symbols.{symbol_of}
 use Rattle.lrpar_table_first.specs.FirstRows.{IsSymbolBelow, rows_of}
 use Rattle.lrpar_grammar.specs.Tokens.{has}
-use Rattle.lrpar_table_first.proofs.RowLemmas.{row_is, symbol_below, symbols_from, walk_on, walk_rule, walk_token, wide_at}
+use Rattle.lrpar_table_first.proofs.RowLemmas.{rule_met, symbol_below, symbols_from, walk_on, walk_rule, walk_token, wide_at}
 use Rattle.lrpar_table_first.proofs.first.add_first.Goals as goal
 
 pub insert-requires : goal.insert-requires
@@ -54,38 +54,23 @@ unite_below-grown-requires-clause-other g c =
 pub returns-then-not-contains-clause-tokens : goal.returns-then-not-contains-clause-tokens
 returns-then-not-contains-clause-tokens g c =
     let index = g.StorageT.StorageIndex.index in
-    let sets = c.args.sets.now in
-    let dummy = c.args.dummy in
-    let symbols = map (symbol_of index) c.args.symbols.now in
-    let i = c.loop-symbol.symbol-index in
-    let r = c.from-in-Rule.result in
-    let front = c.loop-symbol.front.bits.items in
-    let low = symbol_below index (IsSymbolBelow (length sets) dummy) c.args.symbols.now i c.symbol-item.result _ c.requires.rules
-    c.loop-symbol-test.true c.symbol-item.is c.in-Rule.is in
-    let row = row_is sets r c.index-sets-from.result (omega (arith, low, c.from-in-Rule.ensures)) c.index-sets-from.is in
-    let at = symbols_from index c.args.symbols.now i c.symbol-item.result c.loop-symbol-test.true c.symbol-item.is
-    ∙ ap (λ s. symbol_of index s ∷ drop (i + 1) symbols) c.in-Rule.is ∙ ap (λ n. Nonterminal n ∷ drop (i + 1) symbols) (sym c.from-in-Rule.ensures) in
-    let put = λ (t : ℕ). c.unite_below-grown.ensures.tokens t ∙ ap (λ b. has front t || (nat_lt t dummy && has b t)) (sym row) in
-    let none = ap (λ b. has b dummy) row ∙ sym c.contains.ensures ∙ c.if-not-contains.true in
-    walk_rule dummy (rows_of sets) symbols i c.args.front.now.bits.items front c.unite_below-grown.new.self.bits.items c.loop-symbol.invariant.1 r
-    (drop (i + 1) symbols) at none put
+    let met =
+    rule_met index c.args.dummy c.args.sets.now c.args.symbols.now c.loop-symbol.symbol-index c.symbol-item.result c.from-in-Rule.result c.index-sets-from.result
+    c.loop-symbol.front.bits.items c.unite_below-grown.new.self.bits.items c.requires.rules c.loop-symbol-test.true c.symbol-item.is
+    (ap (symbol_of index) c.in-Rule.is ∙ ap Nonterminal (sym c.from-in-Rule.ensures)) c.index-sets-from.is c.unite_below-grown.ensures.tokens in
+    walk_rule c.args.dummy (rows_of c.args.sets.now) (map (symbol_of index) c.args.symbols.now) c.loop-symbol.symbol-index c.args.front.now.bits.items
+    c.loop-symbol.front.bits.items c.unite_below-grown.new.self.bits.items c.loop-symbol.invariant.1 c.from-in-Rule.result _ met.0
+    (ap (λ bits. has bits c.args.dummy) met.1 ∙ sym c.contains.ensures ∙ c.if-not-contains.true) met.2
 
 pub loop-symbol-preserved : goal.loop-symbol-preserved
 loop-symbol-preserved g c =
     let index = g.StorageT.StorageIndex.index in
-    let sets = c.args.sets.now in
-    let dummy = c.args.dummy in
-    let symbols = map (symbol_of index) c.args.symbols.now in
-    let i = c.loop-symbol.symbol-index in
-    let r = c.from-in-Rule.result in
-    let front = c.loop-symbol.front.bits.items in
-    let low = symbol_below index (IsSymbolBelow (length sets) dummy) c.args.symbols.now i c.symbol-item.result _ c.requires.rules
-    c.loop-symbol-test.true c.symbol-item.is c.in-Rule.is in
-    let row = row_is sets r c.index-sets-from.result (omega (arith, low, c.from-in-Rule.ensures)) c.index-sets-from.is in
-    let at = symbols_from index c.args.symbols.now i c.symbol-item.result c.loop-symbol-test.true c.symbol-item.is
-    ∙ ap (λ s. symbol_of index s ∷ drop (i + 1) symbols) c.in-Rule.is ∙ ap (λ n. Nonterminal n ∷ drop (i + 1) symbols) (sym c.from-in-Rule.ensures) in
-    let put = λ (t : ℕ). c.unite_below-grown.ensures.tokens t ∙ ap (λ b. has front t || (nat_lt t dummy && has b t)) (sym row) in
-    let through = ap (λ b. has b dummy) row ∙ sym c.contains.ensures ∙ c.if-not-contains.false in (
+    let met =
+    rule_met index c.args.dummy c.args.sets.now c.args.symbols.now c.loop-symbol.symbol-index c.symbol-item.result c.from-in-Rule.result c.index-sets-from.result
+    c.loop-symbol.front.bits.items c.unite_below-grown.new.self.bits.items c.requires.rules c.loop-symbol-test.true c.symbol-item.is
+    (ap (symbol_of index) c.in-Rule.is ∙ ap Nonterminal (sym c.from-in-Rule.ensures)) c.index-sets-from.is c.unite_below-grown.ensures.tokens in (
       c.unite_below-grown.ensures.room ∙ c.loop-symbol.invariant.0,
-      walk_on dummy (rows_of sets) symbols i c.args.front.now.bits.items front c.unite_below-grown.new.self.bits.items c.loop-symbol.invariant.1 r at through put,
+      walk_on c.args.dummy (rows_of c.args.sets.now) (map (symbol_of index) c.args.symbols.now) c.loop-symbol.symbol-index c.args.front.now.bits.items
+          c.loop-symbol.front.bits.items c.unite_below-grown.new.self.bits.items c.loop-symbol.invariant.1 c.from-in-Rule.result met.0
+          (ap (λ bits. has bits c.args.dummy) met.1 ∙ sym c.contains.ensures ∙ c.if-not-contains.false) met.2,
     )

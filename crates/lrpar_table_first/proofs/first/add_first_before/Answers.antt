@@ -20,40 +20,16 @@ returns-then-not-has_any-clause-tokens g c =
 pub returns-else-contains-clause-tokens : goal.returns-else-contains-clause-tokens
 returns-else-contains-clause-tokens g c =
     let grm = c.args.grm.now in
-    let rows = rows_of c.args.sets.now in
-    let w = map (symbol_of g.StorageT.StorageIndex.index) c.args.symbols.now in
-    let after = c.args.after.now.bits.items in
-    let front = c.add_first.new.front.bits.items in
-    let old = c.args.set.now.bits.items in
-    let middle = c.unite_below-new.new.self.bits.items in
-    let marked : c.tokens_len-dummy.result ≡ dummy_lookahead grm = c.tokens_len-dummy.ensures.len in
-    let free = symbols_below (rules_len grm) (tokens_len grm) w c.requires.symbols in
-    let begun : (t : ℕ) → has front t ≡ begins (dummy_lookahead grm) rows w t =
-    λ t. c.add_first.ensures.tokens t ∙ ap (λ b. b || begins c.tokens_len-dummy.result rows w t) (c.clear.ensures.none t) ∙ ap (λ n. begins n rows w t) marked in
-    let put : (t : ℕ) → has middle t ≡ (has old t || (nat_lt t (dummy_lookahead grm) && has front t)) =
-    λ t. c.unite_below-new.ensures.tokens t ∙ ap (λ n. has old t || (nat_lt t n && has front t)) marked in
-    let some = c.has_any.ensures.0 c.if-not-has_any.false in
-    let ends : has front (dummy_lookahead grm) ≡ false = ap (has front) (sym marked) ∙ sym c.contains.ensures ∙ c.if-contains.false in
-    added_before grm c.requires.firsts.0 rows c.requires.firsts.1 w free after front old middle some begun put ends
+    let free = symbols_below (rules_len grm) (tokens_len grm) (map (symbol_of g.StorageT.StorageIndex.index) c.args.symbols.now) c.requires.symbols in
+    added_before grm c.requires.firsts.0 (rows_of c.args.sets.now) c.requires.firsts.1 _ free c.args.after.now.bits.items c.clear.new.self.bits.items
+    c.add_first.new.front.bits.items c.args.set.now.bits.items c.unite_below-new.new.self.bits.items _ (c.has_any.ensures.0 c.if-not-has_any.false)
+    c.tokens_len-dummy.ensures.len c.clear.ensures.none c.add_first.ensures.tokens c.unite_below-new.ensures.tokens (sym c.contains.ensures ∙ c.if-contains.false)
 
 pub returns-then-contains-clause-tokens : goal.returns-then-contains-clause-tokens
 returns-then-contains-clause-tokens g c =
     let grm = c.args.grm.now in
-    let rows = rows_of c.args.sets.now in
-    let w = map (symbol_of g.StorageT.StorageIndex.index) c.args.symbols.now in
-    let after = c.args.after.now.bits.items in
-    let front = c.add_first.new.front.bits.items in
-    let old = c.args.set.now.bits.items in
-    let middle = c.unite_below-new.new.self.bits.items in
-    let marked : c.tokens_len-dummy.result ≡ dummy_lookahead grm = c.tokens_len-dummy.ensures.len in
-    let free = symbols_below (rules_len grm) (tokens_len grm) w c.requires.symbols in
-    let begun : (t : ℕ) → has front t ≡ begins (dummy_lookahead grm) rows w t =
-    λ t. c.add_first.ensures.tokens t ∙ ap (λ b. b || begins c.tokens_len-dummy.result rows w t) (c.clear.ensures.none t) ∙ ap (λ n. begins n rows w t) marked in
-    let put : (t : ℕ) → has middle t ≡ (has old t || (nat_lt t (dummy_lookahead grm) && has front t)) =
-    λ t. c.unite_below-new.ensures.tokens t ∙ ap (λ n. has old t || (nat_lt t n && has front t)) marked in
-    let some = c.has_any.ensures.0 c.if-not-has_any.false in
-    let through : has front (dummy_lookahead grm) ≡ true = ap (has front) (sym marked) ∙ sym c.contains.ensures ∙ c.if-contains.true in
-    let new = c.unite_below-more.new.self.bits.items in
-    let more : (t : ℕ) → has new t ≡ (has middle t || (nat_lt t (dummy_lookahead grm + 1) && has after t)) =
-    λ t. c.unite_below-more.ensures.tokens t ∙ ap (λ n. has middle t || (nat_lt t (n + 1) && has after t)) marked in
-    added_through grm c.requires.firsts.0 rows c.requires.firsts.1 w free after front old middle some begun put new c.requires.after through more
+    let free = symbols_below (rules_len grm) (tokens_len grm) (map (symbol_of g.StorageT.StorageIndex.index) c.args.symbols.now) c.requires.symbols in
+    added_through grm c.requires.firsts.0 (rows_of c.args.sets.now) c.requires.firsts.1 _ free c.args.after.now.bits.items c.clear.new.self.bits.items
+    c.add_first.new.front.bits.items c.args.set.now.bits.items c.unite_below-new.new.self.bits.items _ (c.has_any.ensures.0 c.if-not-has_any.false)
+    c.tokens_len-dummy.ensures.len c.clear.ensures.none c.add_first.ensures.tokens c.unite_below-new.ensures.tokens c.unite_below-more.new.self.bits.items
+    c.requires.after (sym c.contains.ensures ∙ c.if-contains.true) c.unite_below-more.ensures.tokens
