@@ -6,7 +6,7 @@ use Rattle.lrpar_grammar_places.specs.declared.span.RIdx.{RIdx}
 use Rattle.lrpar_grammar_places.specs.declared.span.StIdx.{StIdx}
 use Rattle.lrpar_grammar_places.specs.declared.span.TIdx.{TIdx}
 use Rattle.lrpar_table_rows.specs.PlainRows.{action_entry, goto_entry, plain_action, plain_goto, plain_rows, sparse_table_of}
-use Rattle.lrpar_table_rows.specs.Rows.{AreRows, IsActionRow, IsGotoRow, kept_entry, row_actions, row_gotos, table_of, unless_error}
+use Rattle.lrpar_table_rows.specs.Rows.{AreRows, kept_entry, row_actions, row_gotos, table_of, unless_error}
 use Rattle.lrpar_table_rows.specs.Table.{AreActionsWithin, AreEntries, AreGotosWithin, Fails, IsActionEntry, IsActionWithin, IsGotoEntry, IsGotoWithin, IsTable, StoresActions, StoresGotos, Table, TableAction, action_of, actions_at, goto_of, gotos_at, states_len}
 use Rattle.lrpar_table_rows.specs.declared.rows.Action.{Action}
 use Rattle.lrpar_table_rows.specs.declared.rows.SparseRows.{SparseRows}

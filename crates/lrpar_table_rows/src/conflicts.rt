@@ -108,7 +108,9 @@ impl<StorageT: StorageIndex> Conflicts<StorageT> {
     fn all_reductions_fit(&self, grm: &YaccGrammar<StorageT>) -> bool
         ensures { IsTrue result ↔ AllReductionsFit grm.now self.now }
     {
-        self.rr.iter().all(|conflict| reductions_fit(*conflict, grm))
+        self.rr
+            .iter()
+            .all(|conflict| reductions_fit(*conflict, grm))
     }
 
     // Whether the shift/reduce conflicts fit the grammar.

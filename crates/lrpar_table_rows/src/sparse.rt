@@ -47,7 +47,10 @@ fn is_action_row<StorageT: StorageIndex>(
 ) -> bool
     ensures { IsTrue result ↔ IsSparseActionRow StorageT.index tokens states row.now }
 {
-    ascends(row) && row.iter().all(|entry| is_action_entry(entry.0, entry.1, tokens, states))
+    ascends(row)
+        && row
+            .iter()
+            .all(|entry| is_action_entry(entry.0, entry.1, tokens, states))
 }
 
 /// Whether the token is below `tokens`, the action isn't an error, and its state, if it has one, is below `states`.
@@ -83,7 +86,10 @@ fn is_goto_row<StorageT: StorageIndex>(
 ) -> bool
     ensures { IsTrue result ↔ IsSparseGotoRow StorageT.index rules states row.now }
 {
-    ascends(row) && row.iter().all(|entry| is_goto_entry(entry.0, entry.1, rules, states))
+    ascends(row)
+        && row
+            .iter()
+            .all(|entry| is_goto_entry(entry.0, entry.1, rules, states))
 }
 
 /// Whether the rule is below `rules`, and the state below `states`.

@@ -1,9 +1,8 @@
-use Rattle.std.proofs.Common.{◌≡◌, ◌+◌, ◌||◌, ◌&&◌, ◌∙◌, ℕ, nat_lt, true, false, inl, inr, sym, ap, map}
+use Rattle.std.proofs.Common.{◌∙◌, true, false, inl, inr, sym, map}
 use Rattle.std.proofs.lemmas.Bool.{false≢true}
 use Rattle.lrpar_grammar.specs.Grammar.{rules_len, tokens_len}
 use Rattle.lrpar_grammar.specs.Symbols.{symbol_of}
-use Rattle.lrpar_table_first.specs.FirstRows.{begins, dummy_lookahead, rows_of}
-use Rattle.lrpar_grammar.specs.Tokens.{has}
+use Rattle.lrpar_table_first.specs.FirstRows.{rows_of}
 use Rattle.lrpar_table_first.proofs.BeforeLemmas.{added_before, added_through, symbols_below}
 use Rattle.lrpar_table_first.proofs.first.add_first_before.Goals as goal
 

@@ -1,5 +1,5 @@
 use Rattle.std.proofs.Common.{map, rules, tests}
-use Rattle.lrpar_table_rows.specs.PlainRows.{plain_goto, plain_rows}
+use Rattle.lrpar_table_rows.specs.PlainRows.{plain_goto}
 use Rattle.lrpar_table_rows.specs.Rows.{IsGotoRow}
 use Rattle.lrpar_table_rows.proofs.Mapped.{rows_by_test}
 use Rattle.lrpar_table_rows.proofs.TableLemmas.{states_of}

@@ -1,4 +1,4 @@
-use Rattle.std.proofs.Common.{◌≡◌, ℕ, None, false, slice_index_or, [], sym, subst}
+use Rattle.std.proofs.Common.{◌≡◌, false, sym, subst}
 use Rattle.lrpar_table_rows.specs.PlainRows.{plain_rows}
 use Rattle.lrpar_table_rows.specs.StoredRows.{HasActionsOf, HasGotosOf, MakeTable}
 use Rattle.lrpar_grammar_places.proofs.FaultLemmas.{no_value}
