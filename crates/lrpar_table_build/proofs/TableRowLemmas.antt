@@ -11,7 +11,7 @@ use Rattle.lrpar_grammar.specs.Grammar.{Grammar, rules_len, start_prod, tokens_l
 use Rattle.lrpar_table_precedence.specs.Precedence.{PrecedenceLists}
 use Rattle.lrpar_table_precedence.specs.declared.precedence.Resolution.{Resolution}
 use Rattle.lrpar_table_precedence.specs.declared.precedence.Resolution.TheVariants.{Shift, Reduce, Error}
-use Rattle.lrpar_table_rows.specs.Table.{AreEntries, ConflictLists, IsActionEntry, IsActionWithin, IsGotoEntry, IsTable, ResolvedOf, Table, TableAction, ShiftTo, ReduceBy, Accepts, Fails, action_of, actions_at, goto_of, with_resolved}
+use Rattle.lrpar_table_rows.specs.Table.{AreEntries, ConflictLists, IsActionEntry, IsActionWithin, IsGotoEntry, IsTable, ResolvedOf, Table, TableAction, ShiftTo, ReduceBy, Accepts, Fails, action_of, actions_at, goto_of}
 use Rattle.lrpar_table_rows.proofs.EntryLemmas.{entry_found}
 use Rattle.lrpar_table_items.specs.StateRows.{action_rows, goto_rows, table_of_states, table_with}
 use Rattle.lrpar_table_items.specs.States.{AreStateRows, StateOf, state_at}
@@ -177,16 +177,3 @@ module _ (g : Grammar) (states : List StateOf) where
             action_entries;
         gotos = All-map_at (AreEntries (IsGotoEntry (rules_len g) (length states))) (λ (state : StateOf). state.gotos) states _ goto_entries;
       }
-
--- other resolved conflicts don't change what a table is
-pub with_resolved_is : (limit : ℕ) (table : Table) (others : List ResolvedOf) → IsTable limit table → IsTable limit (with_resolved table others)
-with_resolved_is limit table others is = record {
-  actions_len = is.actions_len;
-  gotos_len = is.gotos_len;
-  states_fit = is.states_fit;
-  tokens_fit = is.tokens_fit;
-  rules_fit = is.rules_fit;
-  start_within = is.start_within;
-  actions = is.actions;
-  gotos = is.gotos;
-}

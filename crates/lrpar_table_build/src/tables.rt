@@ -1,10 +1,10 @@
 //! The state graph and the table of states: of the canonical collection, and of any item sets.
-ghost use Rattle.std.specs.Prelude.{◌≡◌, ◌≢◌, ◌<◌, ◌≤◌, IfErr, IfOk, OnOk, length};
+ghost use Rattle.std.specs.Prelude.{◌≡◌, ◌≢◌, ◌<◌, ◌≤◌, IfErr, IfOk, length};
 ghost use Rattle.lrpar_table_rows.specs.Graph.{graph_len};
 ghost use Rattle.lrpar_table_rows.specs.PlainRows.{sparse_table_of};
 ghost use Rattle.lrpar_table_rows.specs.Table.{IsTable};
 ghost use Rattle.lrpar_table_build.specs.Built.{AreBuiltBy, HaveStates};
-ghost use Rattle.lrpar_table_build.specs.Stored.{AppendsReduceReduce, AppendsResolved, AppendsUnresolved, AreActions, AreActionsBySome, AreConflicts, AreGotos, AreResolved, AreStatesOf, HasItemsOf, HasRows, HaveNoAcceptReduce, HaveRows, IsFaultOf, IsTableOf, conflicts_of};
+ghost use Rattle.lrpar_table_build.specs.Stored.{AreActionsBySome, AreActionsOf, AreGotos, AreRowsOf, AreStatesOf, AreTablesOf, HasItemsOf, HaveNoAcceptReduce, HaveRows, HaveRowsWithin, HaveValidRows, IsFaultOf, IsTableOf, conflicts_of};
 ghost use Rattle.lrpar_table_items.specs.declared.fault.BuildFault.TheVariants.{Memory};
 ghost use Rattle.lrpar_table_rows.specs.declared.fault.TableFault.{TableFault};
 
@@ -13,11 +13,11 @@ use lrpar_grammar::span::{RIdx, StIdx, StorageIndex, TIdx};
 use lrpar_table_items::fault::BuildFault;
 use lrpar_table_items::item_rows::item_sets;
 use lrpar_table_items::item_set::State;
-use lrpar_table_items::resolution::{ReduceReduce, ShiftReduce};
+use lrpar_table_items::resolution::{FoundConflicts, ReduceReduce, ShiftReduce};
 use lrpar_table_items::state_row::state_row;
 use lrpar_table_precedence::precedences::Precedences;
 use lrpar_table_rows::table::{
-    Action, Conflicts, Resolved, ResolvedConflict, SparseRows, StateGraph, StateTable, TableFault,
+    Action, Conflicts, Resolved, SparseRows, StateGraph, StateTable, TableFault,
 };
 use std::alloc::{AllocError, Global};
 
@@ -45,7 +45,7 @@ pub(crate) fn tables<StorageT: StorageIndex>(
     ensures refused { IfErr result (IsFaultOf StorageT.index grm.now states.items) }
 {
     let _start = grm.start_prod();
-    state_tables(alloc, grm, precedences, states)
+    graph_and_table(alloc, grm, precedences, states)
 }
 
 /// The item sets of any states, canonical or merged, and the table of them, with the actions after conflict resolution by the precedences,
@@ -68,13 +68,30 @@ pub fn state_tables<StorageT: StorageIndex>(
     ensures none { IfOk result (λ _. HaveNoAcceptReduce StorageT.index grm.now states.items) }
     ensures refused { IfErr result (IsFaultOf StorageT.index grm.now states.items) }
 {
+    graph_and_table(alloc, grm, precedences, states)
+}
+
+// The item sets of the states, and the table of them.
+#[tactic(auto, using(lrpar_grammar_places::proofs::FaultLemmas::no_value))]
+fn graph_and_table<StorageT: StorageIndex>(
+    alloc: Global,
+    grm: &YaccGrammar<StorageT>,
+    precedences: &Precedences,
+    states: Vec<State<StorageT>>,
+) -> Result<(StateGraph<StorageT>, StateTable<StorageT>), BuildFault>
+    requires { HaveRowsWithin StorageT.index StorageT.limit grm.now states.items }
+    ensures made { IfOk result (AreTablesOf StorageT.index precedences.now grm.now states.items) }
+    ensures refused { IfErr result (IsFaultOf StorageT.index grm.now states.items) }
+{
     let (actions, conflicts, resolved) = all_actions(alloc, grm, precedences, &states)?;
     let graph = graph_of(alloc, grm, &states)?;
-    let table = table_of_states(alloc, grm, states, actions, conflicts)?;
+    let rows = sparse_rows(alloc, grm, states, actions, conflicts)?;
+    let table = table_of(alloc, rows)?;
     Ok((graph, table.with_resolved(resolved)))
 }
 
 // The actions of each state but errors, the conflicts of the states, if any are left, and those that are resolved.
+#[tactic(auto, using(lrpar_grammar_places::proofs::FaultLemmas::no_value))]
 fn all_actions<StorageT: StorageIndex>(
     alloc: Global,
     grm: &YaccGrammar<StorageT>,
@@ -90,45 +107,35 @@ fn all_actions<StorageT: StorageIndex>(
 >
     requires rows { HaveRows StorageT.index grm.now states.now }
     requires fit { length states.now ≤ StorageT.limit }
-    ensures rows { IfOk result (λ made. AreActions StorageT.index precedences.now grm.now states.now made.0) }
-    ensures conflicts { IfOk result (λ made. AreConflicts StorageT.index precedences.now grm.now states.now made.1) }
-    ensures resolved { IfOk result (λ made. AreResolved StorageT.index precedences.now grm.now states.now made.2) }
-    ensures none { IfOk result (λ _. HaveNoAcceptReduce StorageT.index grm.now states.now) }
+    ensures made { IfOk result (AreActionsOf StorageT.index precedences.now grm.now states.now) }
     ensures refused { IfErr result (IsFaultOf StorageT.index grm.now states.now) }
 {
-    let mut rr = Vec::new(alloc);
-    let mut sr = Vec::new(alloc);
-    let mut resolved = Vec::new(alloc);
-    let rows = rows_of_actions(
-        alloc,
-        grm,
-        precedences,
-        states,
-        &mut rr,
-        &mut sr,
-        &mut resolved,
-    )?;
-    Ok((rows, conflicts_of(rr, sr), Resolved::new(resolved)))
+    let mut found = FoundConflicts::new(alloc);
+    let rows = rows_of_actions(alloc, grm, precedences, states, &mut found)?;
+    let FoundConflicts {
+        reduce_reduce,
+        shift_reduce,
+        resolved,
+    } = found;
+    Ok((
+        rows,
+        conflicts_of(reduce_reduce, shift_reduce),
+        Resolved::new(resolved),
+    ))
 }
 
-// The actions of each state but errors. The reduce/reduce conflicts are appended to `rr`, the shift/reduce conflicts that the
-// precedences don't resolve to `sr`, and those that they resolve to `resolved`.
+// The actions of each state but errors. The conflicts of the states are appended to those found.
+#[tactic(auto, using(lrpar_grammar_places::proofs::FaultLemmas::no_value))]
 fn rows_of_actions<StorageT: StorageIndex>(
     alloc: Global,
     grm: &YaccGrammar<StorageT>,
     precedences: &Precedences,
     states: &[State<StorageT>],
-    rr: &mut Vec<ReduceReduce<StorageT>>,
-    sr: &mut Vec<ShiftReduce<StorageT>>,
-    resolved: &mut Vec<ResolvedConflict<StorageT>>,
+    found: &mut FoundConflicts<StorageT>,
 ) -> Result<Vec<ActionRow<StorageT>>, BuildFault>
     requires rows { HaveRows StorageT.index grm.now states.now }
     requires fit { length states.now ≤ StorageT.limit }
-    ensures rows { IfOk result (AreActions StorageT.index precedences.now grm.now states.now) }
-    ensures rr { OnOk result (AppendsReduceReduce StorageT.index grm.now states.now rr.old rr.new) }
-    ensures sr { OnOk result (AppendsUnresolved StorageT.index precedences.now grm.now states.now sr.old sr.new) }
-    ensures resolved { OnOk result (AppendsResolved StorageT.index precedences.now grm.now states.now resolved.old resolved.new) }
-    ensures none { IfOk result (λ _. HaveNoAcceptReduce StorageT.index grm.now states.now) }
+    ensures rows { IfOk result (AreRowsOf StorageT.index precedences.now grm.now states.now found.old found.new) }
     ensures refused { IfErr result (IsFaultOf StorageT.index grm.now states.now) }
 {
     let mut rows = Vec::with_capacity(alloc, states.len())?;
@@ -142,9 +149,7 @@ fn rows_of_actions<StorageT: StorageIndex>(
             &sidx,
             &state.items,
             &state.shifts,
-            rr,
-            sr,
-            resolved,
+            found,
         )?;
         rows.push(row)?;
     }
@@ -170,6 +175,7 @@ fn graph_of<StorageT: StorageIndex>(
 }
 
 // The gotos of each state.
+#[tactic(auto, using(lrpar_grammar_places::proofs::FaultLemmas::no_value))]
 fn rows_of_gotos<StorageT: StorageIndex>(
     alloc: Global,
     states: Vec<State<StorageT>>,
@@ -197,25 +203,22 @@ fn conflicts_of<StorageT: StorageIndex>(
     }
 }
 
-// The table of the states with these actions and conflicts.
-fn table_of_states<StorageT: StorageIndex>(
+// The rows of the table of the states with these actions and conflicts.
+#[tactic(auto, using(lrpar_grammar_places::proofs::FaultLemmas::no_value))]
+fn sparse_rows<StorageT: StorageIndex>(
     alloc: Global,
     grm: &YaccGrammar<StorageT>,
     states: Vec<State<StorageT>>,
     actions: Vec<ActionRow<StorageT>>,
     conflicts: Option<Conflicts<StorageT>>,
-) -> Result<StateTable<StorageT>, BuildFault>
-    requires rows { HaveRows StorageT.index grm.now states.items }
-    requires some { 0 < length states.items }
-    requires fit { length states.items ≤ StorageT.limit }
+) -> Result<SparseRows<StorageT>, AllocError>
+    requires states { HaveRowsWithin StorageT.index StorageT.limit grm.now states.items }
     requires actions { AreActionsBySome StorageT.index grm.now states.items actions }
-    ensures table { IfOk result (HasRows StorageT.index grm.now states.items actions conflicts) }
-    ensures valid { IfOk result (IsTable StorageT.limit) }
-    ensures refused { IfErr result (λ fault. fault ≡ Memory) }
+    ensures { IfOk result (HaveValidRows StorageT.index StorageT.limit grm.now states.items actions conflicts) }
 {
     let len = states.len();
     let gotos = rows_of_gotos(alloc, states)?;
-    let rows = SparseRows {
+    Ok(SparseRows {
         start: StIdx(StorageT::from_index(0).unwrap()),
         states: len,
         tokens: grm.tokens_len(),
@@ -223,8 +226,7 @@ fn table_of_states<StorageT: StorageIndex>(
         actions,
         gotos,
         conflicts,
-    };
-    table_of(alloc, rows)
+    })
 }
 
 // The table of rows that are those of a table.

@@ -9,8 +9,11 @@ use Rattle.std.proofs.lemmas.List.Concat.{flat_map-append}
 use Rattle.std.proofs.lemmas.List.Elements.{filter_map-append}
 use Rattle.lrpar_grammar_places.proofs.ListLemmas.{map-take_more, range_more}
 use Rattle.lrpar_table_precedence.specs.Precedence.{PrecedenceLists, resolution_of}
+use Rattle.lrpar_table_rows.specs.PlainConflicts.{reduce_reduce_of, resolved_conflict_of, shift_reduce_of}
 use Rattle.lrpar_table_rows.specs.Table.{ReduceReduce, ShiftReduce}
 use Rattle.lrpar_table_items.specs.Resolution.{AscendFrom, reduce_conflicts_at, resolution_with, resolutions, unresolved}
+use Rattle.lrpar_table_items.specs.StoredRows.{AddsConflicts}
+use Rattle.lrpar_table_items.specs.declared.resolution.FoundConflicts.{FoundConflicts}
 
 -- the conflicts with the first production, with one more production
 pub conflicts_more : {X Y : Type 0} (view : Y → ReduceReduce) (f : X → ℕ) (s t p : ℕ) (later : List X) (i : ℕ) (x : X) (made pushed : List Y) (y : Y)
@@ -73,3 +76,25 @@ unresolved-append lists (x ∷ xs) ys =
 
 pub resolutions-append : (lists : PrecedenceLists) (xs ys : List ShiftReduce) → resolutions lists (xs ++ ys) ≡ resolutions lists xs ++ resolutions lists ys
 resolutions-append lists xs ys = filter_map-append (resolution_with lists) xs ys
+
+-- no conflicts are added
+pub adds_none : {S : Type 0} (index : S → ℕ) (lists : PrecedenceLists) (found : FoundConflicts S) → AddsConflicts index lists [] [] found found
+adds_none index lists found = record { reduce_reduce = sym (append-nil _); shift_reduce = sym (append-nil _); decided = sym (append-nil _) }
+
+-- the conflicts of each number below an end are added, and those of one more number
+pub adds_more : {S : Type 0} (index : S → ℕ) (lists : PrecedenceLists) (reduces : ℕ → List ReduceReduce) (shifts : ℕ → List ShiftReduce) (n : ℕ)
+    (base made new : FoundConflicts S)
+    → AddsConflicts index lists (flat_map reduces (range_with_len 0 n)) (flat_map shifts (range_with_len 0 n)) base made
+    → AddsConflicts index lists (reduces n) (shifts n) made new
+    → AddsConflicts index lists (flat_map reduces (range_with_len 0 (n + 1))) (flat_map shifts (range_with_len 0 (n + 1))) base new
+adds_more index lists reduces shifts n base made new so_far more = record {
+  reduce_reduce =
+      joined_more (reduce_reduce_of index) reduces n made.reduce_reduce.items new.reduce_reduce.items
+      (map (reduce_reduce_of index) base.reduce_reduce.items) so_far.reduce_reduce more.reduce_reduce;
+  shift_reduce =
+      joined_kept (shift_reduce_of index) (unresolved lists) (unresolved-append lists) shifts n made.shift_reduce.items new.shift_reduce.items
+      (map (shift_reduce_of index) base.shift_reduce.items) so_far.shift_reduce more.shift_reduce;
+  decided =
+      joined_kept (resolved_conflict_of index) (resolutions lists) (resolutions-append lists) shifts n made.resolved.items new.resolved.items
+      (map (resolved_conflict_of index) base.resolved.items) so_far.decided more.decided;
+}

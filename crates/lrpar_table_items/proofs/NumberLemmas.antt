@@ -1,16 +1,14 @@
 -- Kernels that get numbers, one after the other.
-use Rattle.std.proofs.Common.{◌≡◌, ◌≢◌, ◌<◌, ◌≤◌, ◌+◌, ◌==◌, ◌∙◌, refl, sym, ap, subst, inl, inr, arith, ℕ, true, false, List, [], ◌∷◌, ◌++◌, Option, Some, None, length, map}
+use Rattle.std.proofs.Common.{◌≡◌, ◌≢◌, ◌<◌, ◌≤◌, ◌==◌, ◌∙◌, refl, sym, ap, subst, inl, inr, arith, ℕ, true, false, List, [], ◌∷◌, ◌++◌, Option, Some, None, length, map}
 use Rattle.std.proofs.lemmas.Bool.{cases_lt, eq-eqb, eqb-true, false≢true}
 use Rattle.std.proofs.lemmas.List.{get_or_append_left, get_or_push, length-map, length_push}
 use Rattle.std.proofs.lemmas.List.Elements.{All-cons, All-nil}
-use Rattle.lrpar_grammar.specs.Grammar.{Grammar, GrammarSymbol, IsWellFormed, end_token, prods_len, start_prod}
+use Rattle.lrpar_grammar.specs.Grammar.{Grammar, GrammarSymbol, IsWellFormed, end_token, start_prod}
 use Rattle.lrpar_table_rows.specs.Graph.{item_at}
 use Rattle.lrpar_table_items.specs.Canonical.{AreSame, ReachesMore}
 use Rattle.lrpar_table_items.specs.Cores.{CoreSet, IsAmong, IsCoreOf}
-use Rattle.lrpar_table_first.specs.FirstRows.{dummy_lookahead}
-use Rattle.lrpar_grammar.specs.Tokens.{has}
 use Rattle.lrpar_table_items.specs.ItemSets.{IsAdvanced, IsInClosure, IsReachedBy, IsStartItem}
-use Rattle.lrpar_table_items.specs.CoreOrder.{AreCores, ComesBefore, IsBegun, IsFilled, IsKernel}
+use Rattle.lrpar_table_items.specs.CoreOrder.{AreCores, ComesBefore, IsBegun, IsFilled, IsKernel, IsStartCore}
 use Rattle.lrpar_table_items.specs.Kernels.{AreKept, AreKernels, GoesTo, IsReachedKernel, path_at}
 use Rattle.lrpar_table_items.specs.Next.{kernel_at, next_kernel}
 use Rattle.lrpar_table_items.specs.Numbers.{AreNumbered, IsFaultOfStates, IsNumberFault, IsNumberOf, IsStepFault, IsStepTo}
@@ -269,34 +267,37 @@ first_number max limit kernel n after number =
       | inr new ↦ subst (λ ks. IsFound ks kernel 0) (sym new.is) (record { within = omega arith; is = refl })
     ]
 
--- the start production's core with the end token
-pub start_kernel_is : (g : Grammar) (core : CoreSet) → core.prod ≡ start_prod g → start_prod g < prods_len g → core.dot ≡ 0 → length core.tokens ≡ dummy_lookahead g + 1
-    → ((t : ℕ) → has core.tokens t ≡ (t == end_token g)) → IsKernel g (core ∷ [])
-start_kernel_is g core prod known dot wide is = record {
-  cores = record {
-    in_order = (All-nil (ComesBefore g core), tt);
-    of_grammar = All-cons (IsCoreOf g) core [] (record { prod = omega (arith, prod, known); dot = omega (arith, dot); wide = wide }) (All-nil (IsCoreOf g));
-    filled = All-cons IsFilled core [] (end_token g, is (end_token g) ∙ eq-eqb (end_token g) (end_token g) refl) (All-nil IsFilled);
-  };
-  begun = All-cons (IsBegun g) core [] (inr prod) (All-nil (IsBegun g));
-  some = omega arith;
-}
+module _ (g : Grammar) (core : CoreSet) (start : IsStartCore g core) where
+  -- the start item's core is a kernel
+  pub start_kernel_is : IsKernel g (core ∷ [])
+  start_kernel_is =
+      let prod = start.production in
+      let known = start.known in
+      let dot = start.at_start in record {
+        cores = record {
+          in_order = (All-nil (ComesBefore g core), tt);
+          of_grammar = All-cons (IsCoreOf g) core [] (record { prod = omega (arith, prod, known); dot = omega (arith, dot); wide = start.wide }) (All-nil (IsCoreOf g));
+          filled = All-cons IsFilled core [] (end_token g, start.only_end (end_token g) ∙ eq-eqb (end_token g) (end_token g) refl) (All-nil IsFilled);
+        };
+        begun = All-cons (IsBegun g) core [] (inr prod) (All-nil (IsBegun g));
+        some = omega arith;
+      }
 
-pub start_items : (g : Grammar) (core : CoreSet) → core.prod ≡ start_prod g → core.dot ≡ 0 → ((t : ℕ) → has core.tokens t ≡ (t == end_token g))
-    → AreSame (IsAmong (core ∷ [])) (IsStartItem g)
-start_items g core prod dot is x = (
-  λ h. elim ((among_cons core [] x).0 h) [
-    | inl of ↦
-        let token : x.token ≡ end_token g = eqb-true x.token (end_token g) (sym (is x.token) ∙ of.2) in
-        ap (λ p. item_at p x.dot x.token) (sym of.0 ∙ prod) ∙ ap (λ k. item_at (start_prod g) k x.token) (sym of.1 ∙ dot)
-        ∙ ap (item_at (start_prod g) 0) token
-    | inr none ↦ absurd (among_nil x none)
-  ],
-  λ h.
-      let start : IsAmong (core ∷ []) (item_at (start_prod g) 0 (end_token g)) =
-      (among_cons core [] (item_at (start_prod g) 0 (end_token g))).1 (inl (prod, dot, is (end_token g) ∙ eq-eqb (end_token g) (end_token g) refl)) in
-      subst (IsAmong (core ∷ [])) (sym h) start,
-)
+  pub start_items : AreSame (IsAmong (core ∷ [])) (IsStartItem g)
+  start_items x = (
+    λ h. elim ((among_cons core [] x).0 h) [
+      | inl of ↦
+          let token : x.token ≡ end_token g = eqb-true x.token (end_token g) (sym (start.only_end x.token) ∙ of.2) in
+          ap (λ p. item_at p x.dot x.token) (sym of.0 ∙ start.production) ∙ ap (λ k. item_at (start_prod g) k x.token) (sym of.1 ∙ start.at_start)
+          ∙ ap (item_at (start_prod g) 0) token
+      | inr none ↦ absurd (among_nil x none)
+    ],
+    λ h.
+        let end_is = start.only_end (end_token g) ∙ eq-eqb (end_token g) (end_token g) refl in
+        let first : IsAmong (core ∷ []) (item_at (start_prod g) 0 (end_token g)) =
+        (among_cons core [] (item_at (start_prod g) 0 (end_token g))).1 (inl (start.production, start.at_start, end_is)) in
+        subst (IsAmong (core ∷ [])) (sym h) first,
+  )
 
 -- its closure is reached by the empty path
 pub start_reached : (g : Grammar) (kernel : List CoreSet) → AreSame (IsAmong kernel) (IsStartItem g) → IsReachedKernel g kernel []

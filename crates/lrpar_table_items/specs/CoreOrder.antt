@@ -1,8 +1,9 @@
 -- The order of cores, and kernels: the cores of the kernel items of a state, whose closure is the state's item set. As cores are in
 -- order, an item set has exactly one kernel.
-use Rattle.std.specs.Prelude.{◌≡◌, ◌<◌, ◌⊎◌, ℕ, IsTrue, List, [], ◌∷◌, All, length}
-use Rattle.lrpar_grammar.specs.Grammar.{Grammar, rule_of, start_prod}
+use Rattle.std.specs.Prelude.{◌≡◌, ◌<◌, ◌+◌, ◌==◌, ◌⊎◌, ℕ, IsTrue, List, [], ◌∷◌, All, length}
+use Rattle.lrpar_grammar.specs.Grammar.{Grammar, end_token, prods_len, rule_of, start_prod}
 use Rattle.lrpar_grammar.specs.Tokens.{has}
+use Rattle.lrpar_table_first.specs.FirstRows.{dummy_lookahead}
 use Rattle.lrpar_table_items.specs.Cores.{CoreSet, IsCoreOf}
 
 -- production p is listed before q: by their rules, and those of one rule by their numbers
@@ -36,6 +37,14 @@ pub record AreCores (g : Grammar) (cores : List CoreSet) : Type 0 where
   pub in_order : AreCoresInOrder g cores
   pub of_grammar : All (IsCoreOf g) cores
   pub filled : All IsFilled cores
+
+-- the core of the start item: the start production with the dot at the start, and the end token as its only lookahead
+pub record IsStartCore (g : Grammar) (core : CoreSet) : Type 0 where
+  pub production : core.prod ≡ start_prod g
+  pub known : start_prod g < prods_len g
+  pub at_start : core.dot ≡ 0
+  pub wide : length core.tokens ≡ dummy_lookahead g + 1
+  pub only_end : (t : ℕ) → has core.tokens t ≡ (t == end_token g)
 
 -- a kernel: the cores of the kernel items of a state, at least one; the closure adds the others
 pub record IsKernel (g : Grammar) (kernel : List CoreSet) : Type 0 where

@@ -1,5 +1,5 @@
 -- Facts of complete cores, actions and conflicts as the code stores them. `index` is the number that a storage number represents.
-use Rattle.std.specs.Prelude.{◌≡◌, ◌<◌, ◌++◌, ◌==◌, ◌&&◌, ℕ, Bool, List, All, None, Option, Some, filter, map, nat_eq, not, slice_get}
+use Rattle.std.specs.Prelude.{◌≡◌, ◌<◌, ◌++◌, ◌==◌, ◌&&◌, ℕ, Bool, List, [], All, None, Option, Some, filter, map, nat_eq, not, slice_get}
 use Rattle.std.specs.Borrow.{Bor}
 use Rattle.std.specs.List.{AllZip}
 use Rattle.std.specs.List.Sorted.{IsNonDecreasingBy, IsPermutation}
@@ -18,6 +18,7 @@ use Rattle.lrpar_table_rows.specs.Graph.{ItemOf}
 use Rattle.lrpar_table_rows.specs.PlainConflicts.{reduce_reduce_of, resolved_conflict_of, shift_reduce_of}
 use Rattle.lrpar_table_rows.specs.PlainRows.{action_entry, plain_goto}
 use Rattle.lrpar_table_rows.specs.Runs.{set_of_rows}
+use Rattle.lrpar_table_rows.specs.Table.{ReduceReduce, ShiftReduce}
 use Rattle.lrpar_table_rows.specs.declared.table.Action.{Action}
 use Rattle.lrpar_table_items.specs.CompleteItems.{AreLookaheads, accepts_at, items_of_cores, prods_at}
 use Rattle.lrpar_table_items.specs.Cores.{CoreSet, core_set}
@@ -27,11 +28,43 @@ use Rattle.lrpar_table_items.specs.States.{state_of}
 use Rattle.lrpar_table_items.specs.declared.cores.CoreItems.{CoreItems}
 use Rattle.lrpar_table_items.specs.declared.fault.BuildFault.{BuildFault}
 use Rattle.lrpar_table_items.specs.declared.item_set.State.{State}
+use Rattle.lrpar_table_items.specs.declared.resolution.FoundConflicts.{FoundConflicts}
 
--- the cores of a state: of productions of the grammar, each core once
-pub record AreStateCores {S : Type 0} (index : S → ℕ) (g : Grammar) (cores : List (CoreItems S)) : Type 0 where
+-- what conflict resolution is for: cores of productions of the grammar, each core once, and shifts whose tokens ascend
+pub record IsStateToResolve {S : Type 0} (index : S → ℕ) (g : Grammar) (cores : List (CoreItems S)) (shifts : List (TIdx S × StIdx S)) : Type 0 where
   pub prods : All (λ core. core.prod < prods_len g) (map (core_set index) cores)
   pub once : AreOnce (map (core_set index) cores)
+  pub ascend : AscendFrom 0 (keys_of (map (shift_entry index) shifts))
+
+-- no conflicts were found
+pub record HasNoConflicts {S : Type 0} (found : FoundConflicts S) : Type 0 where
+  pub reduce_reduce : found.reduce_reduce.items ≡ []
+  pub shift_reduce : found.shift_reduce.items ≡ []
+  pub decided : found.resolved.items ≡ []
+
+-- these conflicts were added to those found: the reduce/reduce conflicts; of the shift/reduce conflicts those that the precedences don't
+-- resolve; and those that they resolve, with how
+pub record AddsConflicts {S : Type 0} (index : S → ℕ) (lists : PrecedenceLists) (reduces : List ReduceReduce) (shifts : List ShiftReduce)
+    (old new : FoundConflicts S) : Type 0 where
+  pub reduce_reduce : map (reduce_reduce_of index) new.reduce_reduce.items ≡ map (reduce_reduce_of index) old.reduce_reduce.items ++ reduces
+  pub shift_reduce : map (shift_reduce_of index) new.shift_reduce.items ≡ map (shift_reduce_of index) old.shift_reduce.items ++ unresolved lists shifts
+  pub decided : map (resolved_conflict_of index) new.resolved.items ≡ map (resolved_conflict_of index) old.resolved.items ++ resolutions lists shifts
+
+-- what one token adds in state s: to the row the action that conflict resolution gives, unless it is an error; and to the conflicts found
+-- those at the token, none of which is an accept/reduce conflict
+pub record AppendsAt {S A B : Type 0} (index : S → ℕ) (lists : PrecedenceLists) (s t : ℕ) (shift : Option ℕ) (prods : List ℕ) (accepts : Bool)
+    (before : Vec (TIdx S × Action S) A) (after : Vec (TIdx S × Action S) B) (old new : FoundConflicts S) : Type 0 where
+  pub entry : map (action_entry index) after.items ≡ map (action_entry index) before.items ++ entry_at t (resolved (decides_at lists t) shift prods accepts)
+  pub conflicts : AddsConflicts index lists (reduce_conflicts_at s t prods) (shift_conflicts_at s t shift prods) old new
+  pub none : ¬ (AcceptsBeside shift prods accepts)
+
+-- the row has the actions of state s at each token but errors, after conflict resolution by the precedences; its conflicts were added to
+-- those found, and none of them is an accept/reduce conflict
+pub record IsRowOf {S A : Type 0} (index : S → ℕ) (lists : PrecedenceLists) (g : Grammar) (s : ℕ) (cores : List CoreSet) (shifts : List (ℕ × ℕ))
+    (old new : FoundConflicts S) (row : Vec (TIdx S × Action S) A) : Type 0 where
+  pub entries : map (action_entry index) row.items ≡ resolved_row lists g cores shifts
+  pub conflicts : AddsConflicts index lists (reduce_conflicts g cores s) (shift_conflicts g cores shifts s) old new
+  pub none : (t : ℕ) → t < tokens_len g → ¬ (IsAcceptReduce g cores shifts t)
 
 module _ {S : Type 0} (index : S → ℕ) where
   -- the productions of the cores are those of the grammar
@@ -157,39 +190,24 @@ module _ {S : Type 0} (index : S → ℕ) where
   abbrev pub IsRefusedFor : StIdx S → Option (StIdx S) → List (PIdx S) → Bool → BuildFault → Type 0
   IsRefusedFor state shift prods accepts = IsRefusal (index state.0) (CallsForBoth shift prods accepts)
 
-  -- the actions of the state at each token but errors, after conflict resolution by the precedences
-  abbrev pub IsResolvedRow : {A : Type 0} → PrecedenceLists → Grammar → List (CoreItems S) → List (TIdx S × StIdx S)
-      → Vec (TIdx S × Action S) A → Type 0
-  IsResolvedRow lists g cores shifts row =
-      map (action_entry index) row.items ≡ resolved_row lists g (map (core_set index) cores) (map (shift_entry index) shifts)
+  -- what the complete cores and the shift call for at the token was appended, to the row and to the conflicts found
+  abbrev pub AppendsToken : {A B : Type 0} → PrecedenceLists → ℕ → List (Bor (CoreItems S)) → Option (StIdx S) → StIdx S → ℕ
+      → Vec (TIdx S × Action S) A → Vec (TIdx S × Action S) B → FoundConflicts S → FoundConflicts S → Type 0
+  AppendsToken lists start complete shift state token before after old new =
+      AppendsAt index lists (index state.0) token (plain_goto index shift) (prods_at start (cores_at complete) token)
+      (accepts_at start (cores_at complete) token) before after old new
 
-  -- the reduce/reduce conflicts of the state were appended
-  abbrev pub AppendsReduceReduce : {A B : Type 0} → Grammar → StIdx S → List (CoreItems S) → Vec (TIdx S × PIdx S × PIdx S × StIdx S) A
-      → Vec (TIdx S × PIdx S × PIdx S × StIdx S) B → Type 0
-  AppendsReduceReduce g state cores old new =
-      map (reduce_reduce_of index) new.items
-      ≡ map (reduce_reduce_of index) old.items ++ reduce_conflicts g (map (core_set index) cores) (index state.0)
+  -- a fault at the state: the complete cores call for accept and for a reduction at the token, and there is no shift; or an allocation failed
+  abbrev pub IsFaultAt : ℕ → List (Bor (CoreItems S)) → Option (StIdx S) → StIdx S → ℕ → BuildFault → Type 0
+  IsFaultAt start complete shift state token =
+      IsRefusal (index state.0)
+      (AcceptsBeside (plain_goto index shift) (prods_at start (cores_at complete) token) (accepts_at start (cores_at complete) token))
 
-  -- the shift/reduce conflicts of the state that the precedences don't resolve were appended
-  abbrev pub AppendsAllUnresolved : {A B : Type 0} → PrecedenceLists → Grammar → StIdx S → List (CoreItems S) → List (TIdx S × StIdx S)
-      → Vec (TIdx S × PIdx S × StIdx S) A → Vec (TIdx S × PIdx S × StIdx S) B → Type 0
-  AppendsAllUnresolved lists g state cores shifts old new =
-      map (shift_reduce_of index) new.items
-      ≡ map (shift_reduce_of index) old.items
-      ++ unresolved lists (shift_conflicts g (map (core_set index) cores) (map (shift_entry index) shifts) (index state.0))
-
-  -- the shift/reduce conflicts of the state that the precedences resolve were appended, with how they are resolved
-  abbrev pub AppendsAllResolved : {A B : Type 0} → PrecedenceLists → Grammar → StIdx S → List (CoreItems S) → List (TIdx S × StIdx S)
-      → Vec (TIdx S × PIdx S × StIdx S × Resolution) A → Vec (TIdx S × PIdx S × StIdx S × Resolution) B → Type 0
-  AppendsAllResolved lists g state cores shifts old new =
-      map (resolved_conflict_of index) new.items
-      ≡ map (resolved_conflict_of index) old.items
-      ++ resolutions lists (shift_conflicts g (map (core_set index) cores) (map (shift_entry index) shifts) (index state.0))
-
-  -- the state has no accept/reduce conflict
-  abbrev pub HasNoAcceptReduce : Grammar → List (CoreItems S) → List (TIdx S × StIdx S) → Type 0
-  HasNoAcceptReduce g cores shifts =
-      (t : ℕ) → t < tokens_len g → ¬ (IsAcceptReduce g (map (core_set index) cores) (map (shift_entry index) shifts) t)
+  -- the row of the state with these cores and shifts, by the precedences, and its conflicts, which were added to those found
+  abbrev pub IsStateRow : {A : Type 0} → PrecedenceLists → Grammar → StIdx S → List (CoreItems S) → List (TIdx S × StIdx S) → FoundConflicts S
+      → FoundConflicts S → Vec (TIdx S × Action S) A → Type 0
+  IsStateRow lists g state cores shifts old new row =
+      IsRowOf index lists g (index state.0) (map (core_set index) cores) (map (shift_entry index) shifts) old new row
 
   -- a fault at the state: it has an accept/reduce conflict, or an allocation failed
   abbrev pub IsAcceptReduceFault : Grammar → StIdx S → List (CoreItems S) → List (TIdx S × StIdx S) → BuildFault → Type 0

@@ -45,6 +45,7 @@ fn is_same<StorageT: StorageIndex>(core: &CoreItems<StorageT>, other: &CoreItems
 }
 
 /// A copy of the cores.
+#[tactic(auto, using(lrpar_grammar_places::proofs::FaultLemmas::no_value))]
 pub fn copied<StorageT: StorageIndex>(
     alloc: Global,
     cores: &[CoreItems<StorageT>],

@@ -1,12 +1,12 @@
 //! Conflict resolution: the action of a state at a token, from the actions that its items call for, and the conflicts among these.
 ghost use Rattle.std.specs.Prelude.{◌+◌, ◌∷◌, IfErr, IfOk, OnOk, Some, None};
-ghost use Rattle.lrpar_table_items.specs.StoredRows.{AppendsChosen, AppendsConflicts, AppendsResolved, AppendsShifted, AppendsUnresolved, AppendsUnshifted, CallsForBoth, HasLaterShifts, IsRefusedFor, IsShiftAt, ShiftsAscendFrom};
+ghost use Rattle.lrpar_table_items.specs.StoredRows.{AppendsChosen, AppendsConflicts, AppendsResolved, AppendsShifted, AppendsUnresolved, AppendsUnshifted, CallsForBoth, HasLaterShifts, HasNoConflicts, IsRefusedFor, IsShiftAt, ShiftsAscendFrom};
 
 use crate::fault::BuildFault;
 use lrpar_grammar::span::{PIdx, StIdx, StorageIndex, TIdx};
 use lrpar_table_precedence::precedences::{Precedences, Resolution};
 use lrpar_table_rows::table::{Action, ResolvedConflict};
-use std::alloc::AllocError;
+use std::alloc::{AllocError, Global};
 
 /// A reduce/reduce conflict: the token, the two productions and the state.
 pub type ReduceReduce<StorageT> = (
@@ -18,6 +18,28 @@ pub type ReduceReduce<StorageT> = (
 
 /// A shift/reduce conflict: the token, the production and the state.
 pub type ShiftReduce<StorageT> = (TIdx<StorageT>, PIdx<StorageT>, StIdx<StorageT>);
+
+/// The conflicts of states that were found so far: the reduce/reduce conflicts, the shift/reduce conflicts that the precedences don't
+/// resolve, and those that they resolve.
+#[derive(Drop)]
+pub struct FoundConflicts<StorageT> {
+    pub reduce_reduce: Vec<ReduceReduce<StorageT>>,
+    pub shift_reduce: Vec<ShiftReduce<StorageT>>,
+    pub resolved: Vec<ResolvedConflict<StorageT>>,
+}
+
+impl<StorageT: StorageIndex> FoundConflicts<StorageT> {
+    /// No conflicts.
+    pub fn new(alloc: Global) -> Self
+        ensures { HasNoConflicts result }
+    {
+        FoundConflicts {
+            reduce_reduce: Vec::new(alloc),
+            shift_reduce: Vec::new(alloc),
+            resolved: Vec::new(alloc),
+        }
+    }
+}
 
 /// Appends a reduce/reduce conflict with the first of the productions for each later one. An `Err` means that an allocation failed;
 /// after it, some may have been appended.

@@ -38,6 +38,7 @@ impl Drop for Sets {
 
 impl Sets {
     /// The FIRST sets of the grammar, and scratch space.
+    #[tactic(auto, using(lrpar_grammar_places::proofs::FaultLemmas::no_value))]
     pub fn new<StorageT: StorageIndex>(
         alloc: Global,
         grm: &YaccGrammar<StorageT>,

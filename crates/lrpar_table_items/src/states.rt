@@ -2,10 +2,11 @@
 ghost use Rattle.std.specs.Prelude.{◌≡◌, ◌<◌, ◌≤◌, ℕ, IfErr, IfOk, OnOk, length};
 ghost use Rattle.lrpar_grammar.specs.Grammar.{Grammar, GrammarSymbol, IsWellFormed, Nonterminal, Terminal, rules_len, tokens_len};
 ghost use Rattle.lrpar_table_first.specs.FirstRows.{IsSymbolBelow};
+ghost use Rattle.lrpar_table_items.specs.Kernels.{AreKernels};
 ghost use Rattle.lrpar_table_items.specs.Numbers.{AreNumbered, IsFaultOfStates};
-ghost use Rattle.lrpar_table_items.specs.States.{AreKernelsBy, StartsRight};
+ghost use Rattle.lrpar_table_items.specs.States.{AreKernelsBy};
 ghost use Rattle.lrpar_table_items.specs.StoredCores.{IsKernelOf, IsStartKernel};
-ghost use Rattle.lrpar_table_items.specs.StoredStates.{AreGotos, AreNumberedOn, AreShifts, AreStatesOf, AreStepsBy, HasAtMost, IsReachedSet, IsStateAt, IsStepFaultOf, StepsTo};
+ghost use Rattle.lrpar_table_items.specs.StoredStates.{AreAllSteps, AreNumberedOn, AreStartKernels, AreStatesOf, AreStepsBy, HasAtMost, IsReachedSet, IsSetAt, IsStartCoreOf, IsStateAt, IsStepFaultOf, StepsTo};
 ghost use Rattle.lrpar_table_items.specs.Working.{AreSets};
 
 use crate::closure::closed;
@@ -51,8 +52,7 @@ fn all_states<StorageT: StorageIndex>(
 ) -> Result<Vec<State<StorageT>>, BuildFault>
     requires well_formed { IsWellFormed grm.now }
     requires sets { AreSets grm.now sets.old }
-    requires kernels { AreNumbered grm.now max_states StorageT.limit kernels.old }
-    requires start { StartsRight grm.now kernels.old }
+    requires kernels { AreStartKernels grm.now max_states StorageT.limit kernels.old }
     ensures states { IfOk result (AreStatesOf StorageT.index grm.now) }
     ensures within { IfOk result (HasAtMost max_states) }
     ensures fits { IfOk result (HasAtMost StorageT.limit) }
@@ -72,8 +72,7 @@ fn start_kernels<StorageT: StorageIndex>(
     grm: &YaccGrammar<StorageT>,
     max_states: usize,
 ) -> Result<Kernels<StorageT>, BuildFault>
-    ensures kernels { IfOk result (AreNumbered grm.now max_states StorageT.limit) }
-    ensures start { IfOk result (StartsRight grm.now) }
+    ensures kernels { IfOk result (AreStartKernels grm.now max_states StorageT.limit) }
     ensures well_formed { IsWellFormed grm.now }
     ensures fault { IfErr result (IsFaultOfStates grm.now max_states StorageT.limit) }
 {
@@ -92,19 +91,32 @@ pub fn start_kernel<StorageT: StorageIndex>(
     ensures start { IfOk result (IsStartKernel StorageT.index grm.now) }
     ensures well_formed { IsWellFormed grm.now }
 {
-    let prod = grm.start_prod();
-    let mut tokens = TokenSet::new(alloc, grm.tokens_len() + 1)?;
-    tokens.insert(usize::from(grm.eof_token_idx()));
+    let core = start_core(alloc, grm)?;
     let mut kernel = Vec::new(alloc);
-    kernel.push(CoreItems {
-        prod,
-        dot: 0,
-        tokens,
-    })?;
+    kernel.push(core)?;
     Ok(kernel)
 }
 
+// The core of the start item.
+fn start_core<StorageT: StorageIndex>(
+    alloc: Global,
+    grm: &YaccGrammar<StorageT>,
+) -> Result<CoreItems<StorageT>, AllocError>
+    ensures core { IfOk result (IsStartCoreOf StorageT.index grm.now) }
+    ensures well_formed { IsWellFormed grm.now }
+{
+    let prod = grm.start_prod();
+    let mut tokens = TokenSet::new(alloc, grm.tokens_len() + 1)?;
+    tokens.insert(usize::from(grm.eof_token_idx()));
+    Ok(CoreItems {
+        prod,
+        dot: 0,
+        tokens,
+    })
+}
+
 // The state of the kernel with this number. Kernels to which it goes and that are new get numbers.
+#[tactic(auto, using(lrpar_grammar_places::proofs::FaultLemmas::no_value))]
 fn expanded<StorageT: StorageIndex>(
     alloc: Global,
     grm: &YaccGrammar<StorageT>,
@@ -118,13 +130,10 @@ fn expanded<StorageT: StorageIndex>(
     requires number { number < length kernels.old }
     requires kernels { AreNumbered grm.now max_states StorageT.limit kernels.old }
     ensures sets { AreSets grm.now sets.new }
-    ensures kernels { OnOk result (AreNumberedOn grm.now max_states StorageT.limit kernels.old kernels.new) }
-    ensures state { IfOk result (IsStateAt StorageT.index grm.now kernels.old kernels.new number) }
+    ensures state { IfOk result (IsStateAt StorageT.index grm.now max_states StorageT.limit kernels.old kernels.new number) }
     ensures fault { IfErr result (IsFaultOfStates grm.now max_states StorageT.limit) }
 {
-    let kernel = kernels.kernel(alloc, number)?;
-    let items = closed(alloc, grm, sets, kernel)?;
-    let successors = Successors::new(alloc, grm, items)?;
+    let successors = item_set(alloc, grm, sets, number, kernels)?;
     let (gotos, shifts) = all_steps(alloc, grm, max_states, &successors, kernels)?;
     Ok(State {
         items: successors.items,
@@ -133,7 +142,29 @@ fn expanded<StorageT: StorageIndex>(
     })
 }
 
+// The closure of the kernel with this number, and the kernels to which it goes.
+#[tactic(auto, using(lrpar_grammar_places::proofs::FaultLemmas::no_value))]
+fn item_set<StorageT: StorageIndex>(
+    alloc: Global,
+    grm: &YaccGrammar<StorageT>,
+    sets: &mut Sets,
+    number: usize,
+    kernels: &Kernels<StorageT>,
+) -> Result<Successors<StorageT>, AllocError>
+    requires well_formed { IsWellFormed grm.now }
+    requires sets { AreSets grm.now sets.old }
+    requires number { number < length kernels.now }
+    requires kernels { AreKernels grm.now kernels.now }
+    ensures sets { AreSets grm.now sets.new }
+    ensures set { IfOk result (IsSetAt StorageT.index grm.now kernels.now number) }
+{
+    let kernel = kernels.kernel(alloc, number)?;
+    let items = closed(alloc, grm, sets, kernel)?;
+    Successors::new(alloc, grm, items)
+}
+
 // The state of the kernel to which a transition leads, if the kernel has cores. A new kernel gets a number.
+#[tactic(auto, using(lrpar_grammar_places::proofs::FaultLemmas::no_value))]
 fn step<StorageT: StorageIndex>(
     alloc: Global,
     max_states: usize,
@@ -203,6 +234,7 @@ impl<StorageT: StorageIndex> SymbolKind<StorageT> for TIdx<StorageT> {
 }
 
 // The transitions of the item set by rules, and those by tokens.
+#[tactic(auto, using(lrpar_grammar_places::proofs::FaultLemmas::no_value))]
 fn all_steps<StorageT: StorageIndex>(
     alloc: Global,
     grm: &YaccGrammar<StorageT>,
@@ -219,9 +251,7 @@ fn all_steps<StorageT: StorageIndex>(
     requires well_formed { IsWellFormed grm.now }
     requires set { IsReachedSet StorageT.index grm.now successors.now }
     requires kernels { AreNumbered grm.now max_states StorageT.limit kernels.old }
-    ensures kernels { OnOk result (AreNumberedOn grm.now max_states StorageT.limit kernels.old kernels.new) }
-    ensures gotos { IfOk result (λ rows. AreGotos StorageT.index grm.now kernels.new successors.now rows.0) }
-    ensures shifts { IfOk result (λ rows. AreShifts StorageT.index grm.now kernels.new successors.now rows.1) }
+    ensures steps { IfOk result (AreAllSteps StorageT.index grm.now max_states StorageT.limit kernels.old kernels.new successors.now) }
     ensures fault { IfErr result (IsFaultOfStates grm.now max_states StorageT.limit) }
 {
     let gotos = steps::<StorageT, RIdx<StorageT>>(alloc, grm, max_states, successors, kernels)?;

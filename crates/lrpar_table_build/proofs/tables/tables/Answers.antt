@@ -1,25 +1,22 @@
-use Rattle.std.proofs.Common.{◌≡◌, ◌<◌, ◌↔◌, ◌∙◌, ℕ, sym, subst, arith, length, map}
+use Rattle.std.proofs.Common.{◌∙◌, sym, subst, arith, map}
 use Rattle.std.proofs.lemmas.List.{length-map}
-use Rattle.lrpar_grammar.specs.Grammar.{tokens_len}
-use Rattle.lrpar_table_rows.specs.Graph.{HasItem, graph_len}
+use Rattle.std.proofs.lemmas.Result.{IfOk-weaker}
 use Rattle.lrpar_table_build.specs.Built.{IsBuiltBy}
-use Rattle.lrpar_table_items.specs.Resolution.{IsAcceptReduce}
-use Rattle.lrpar_table_items.specs.StateRows.{item_rows, table_of_states}
-use Rattle.lrpar_table_items.specs.States.{state_at, state_of}
+use Rattle.lrpar_table_items.specs.States.{state_of}
 use Rattle.lrpar_table_build.proofs.BuiltLemmas.{is_built}
 use Rattle.lrpar_table_build.proofs.StateLemmas.{some_state, state_rows}
-use Rattle.lrpar_table_build.proofs.TablesLemmas.{ok_four}
 use Rattle.lrpar_table_build.proofs.tables.tables.Goals as goal
 
-pub state_tables-requires-clause-rows : goal.state_tables-requires-clause-rows
-state_tables-requires-clause-rows g c =
-    state_rows c.args.grm.now c.start_prod-start.ensures.well_formed (map (state_of g.StorageT.StorageIndex.index) c.args.states.items) c.requires.states
-
-pub state_tables-requires-clause-some : goal.state_tables-requires-clause-some
-state_tables-requires-clause-some g c =
-    let index = g.StorageT.StorageIndex.index in
-    let some = some_state c.args.grm.now c.start_prod-start.ensures.well_formed (map (state_of index) c.args.states.items) c.requires.states in
-    omega (arith, some, length-map c.args.states.items (state_of index))
+pub graph_and_table-requires : goal.graph_and_table-requires
+graph_and_table-requires g c =
+    let grm = c.args.grm.now in
+    let well = c.start_prod-start.ensures.well_formed in
+    let states = map (state_of g.StorageT.StorageIndex.index) c.args.states.items in
+    let some = some_state grm well states c.requires.states in record {
+      rows = state_rows grm well states c.requires.states;
+      some = omega (arith, some, length-map c.args.states.items (state_of g.StorageT.StorageIndex.index));
+      fit = c.requires.fit;
+    }
 
 pub returns-clause-built : goal.returns-clause-built
 returns-clause-built g c =
@@ -27,12 +24,12 @@ returns-clause-built g c =
     let precedences = c.args.precedences.now in
     let states = map (state_of g.StorageT.StorageIndex.index) c.args.states.items in
     let len = length-map c.args.states.items (state_of g.StorageT.StorageIndex.index) in
-    ok_four c.state_tables.result (λ made. graph_len made.0 ≡ length c.args.states.items)
-    (λ made. (s p k t : ℕ) → HasItem made.0 s p k t ↔ HasItem (item_rows grm states) s p k t) (λ made. made.1 ≡ table_of_states precedences grm states)
-    (λ _. (s t : ℕ) → s < length c.args.states.items → t < tokens_len grm → ¬ (IsAcceptReduce grm (state_at states s).cores (state_at states s).shifts t))
-    (λ made. IsBuiltBy grm precedences made.0 made.1)
-    (λ made long items is none.
-    subst (IsBuiltBy grm precedences made.0) (sym is)
-    (is_built precedences grm c.start_prod-start.ensures.well_formed states c.requires.states made.0 (long ∙ sym len) items
-    (λ s t below within. none s t (omega (arith, len, below)) within)))
-    c.state_tables.ensures.len c.state_tables.ensures.items c.state_tables.ensures.table c.state_tables.ensures.none
+    IfOk-weaker c.graph_and_table.result _ _
+    (λ made are.
+    subst (IsBuiltBy grm precedences made.0) (sym are.table)
+    (is_built precedences grm c.start_prod-start.ensures.well_formed states c.requires.states made.0 (are.len ∙ sym len) are.items
+    (λ s t below within. are.none s t (omega (arith, len, below)) within)))
+    c.graph_and_table.ensures.made
+
+pub returns-clause-len : goal.returns-clause-len
+returns-clause-len g c = IfOk-weaker c.graph_and_table.result _ _ (λ made are. are.len) c.graph_and_table.ensures.made

@@ -2,7 +2,6 @@ use Rattle.std.proofs.Common.{◌≡◌, ◌<◌, ◌+◌, ◌∷◌, ◌++◌, 
 use Rattle.std.proofs.lemmas.List.{map_push}
 use Rattle.lrpar_grammar_places.proofs.ListLemmas.{map-take_more}
 use Rattle.lrpar_table_items.specs.Cores.{CoreSet, core_set}
-use Rattle.lrpar_grammar_places.proofs.FaultLemmas.{no_value}
 use Rattle.lrpar_table_items.proofs.cores.copied.Goals as goal
 
 -- one more is copied
@@ -10,15 +9,6 @@ copied_more : {X Y : Type 0} (f : X → Y) (copy more xs : List X) (i : ℕ) (x 
     → x ≡ get_or xs i x → map f copy ≡ map f (take i xs) → map f more ≡ map f (take (i + 1) xs)
 copied_more f copy more xs i x y is same low at so_far =
     ap (map f) is ∙ map_push f copy y ∙ ap (λ ys. ys ++ f y ∷ []) so_far ∙ ap (λ z. map f (take i xs) ++ z ∷ []) same ∙ sym (map-take_more f xs i x low at)
-
-pub returns-in_err-copy : goal.returns-in_err-copy
-returns-in_err-copy g c = no_value c.from_residual.result _ _ c.from_residual.ensures.1
-
-pub returns-in_err-tokens : goal.returns-in_err-tokens
-returns-in_err-tokens g c = no_value c.from_residual-in_err-tokens.result _ _ c.from_residual-in_err-tokens.ensures.1
-
-pub returns-in_err-push : goal.returns-in_err-push
-returns-in_err-push g c = no_value c.from_residual-in_err-push.result _ _ c.from_residual-in_err-push.ensures.1
 
 pub loop-core-preserved : goal.loop-core-preserved
 loop-core-preserved g c =

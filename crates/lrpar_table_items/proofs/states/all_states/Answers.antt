@@ -16,8 +16,8 @@ states-init g c =
     let kernels = c.args.kernels.now in
     let none : map (state_of index) c.new-states.result.items ≡ [] = ap (map (state_of index)) c.new-states.ensures.items in record {
       sets = c.requires.sets;
-      numbered = c.requires.kernels;
-      start = c.requires.start;
+      numbered = c.requires.kernels.numbered;
+      start = c.requires.kernels.starts;
       few = subst (λ (states : List StateOf). length states ≤ length kernels) (sym none) (omega arith);
       expanded = subst (AreExpanded c.args.grm.now kernels) (sym none) (λ s low. absurd (omega (arith, low)));
     }
@@ -30,17 +30,17 @@ states-preserved g c =
     let after = c.expanded.new.kernels in
     let states = map (state_of index) c.states.states.items in
     let state = state_of index c.in_ok-state.state in
-    let kept = c.in_ok-state.ensures.kernels.kept in
+    let kept = c.in_ok-state.ensures.state.kernels.kept in
     let count = length-map c.states.states.items (state_of index) in
     let at : c.len-in-states-2.result ≡ length states = omega (arith, count, c.states.states.ok, c.len-in-states-2.ensures) in
     let low : length states < length before = omega (arith, count, c.states.states.ok, c.states-test.true, c.len.ensures, c.len-in-states.ensures) in
-    let new = subst (λ n. IsExpanded grm after (kernel_at before n) state) at c.in_ok-state.ensures.state in
+    let new = subst (λ n. IsExpanded grm after (kernel_at before n) state) at c.in_ok-state.ensures.state.expanded in
     let all : map (state_of index) c.push.new.self.items ≡ states ++ state ∷ [] =
     ap (map (state_of index)) c.in_ok-push.ensures.items ∙ map_push (state_of index) c.states.states.items c.in_ok-state.state in
     let more = length_push states state in
     let longer = kept.len in record {
       sets = c.in_ok-state.ensures.sets;
-      numbered = c.in_ok-state.ensures.kernels.numbered;
+      numbered = c.in_ok-state.ensures.state.kernels.numbered;
       start = starts_kept grm before after kept c.states.invariant.start;
       few = (let total = ap length all in omega (arith, total, more, low, longer));
       expanded =

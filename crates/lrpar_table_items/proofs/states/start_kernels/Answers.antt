@@ -31,27 +31,17 @@ returns-clause-kernels g c =
     let kernel = map (core_set index) c.in_ok-start.start.items in
     let n = index c.in_ok-_start._start.0 in
     let after = c.number.new.kernels in
-    number_numbered grm c.start_kernel.ensures.well_formed max limit [] (none_numbered grm max limit) kernel c.in_ok-start.ensures.kernel []
-    (start_reached grm kernel c.in_ok-start.ensures.start) n after
-    (subst (λ items. IsNumberOf max limit [] (map (core_set index) items) n after) c.deref.ensures.value
+    let number =
+    subst (λ items. IsNumberOf max limit [] (map (core_set index) items) n after) c.deref.ensures.value
     (subst (λ (kernels : List (List CoreSet)). IsNumberOf max limit kernels (map (core_set index) c.deref.result.now) n after) c.new-kernels.ensures
-    c.in_ok-_start.ensures.number))
-
-pub returns-clause-start : goal.returns-clause-start
-returns-clause-start g c =
-    let index = g.StorageT.StorageIndex.index in
-    let limit = g.StorageT.StorageIndex.limit in
-    let grm = c.args.grm.now in
-    let max = c.args.max_states in
-    let kernel = map (core_set index) c.in_ok-start.start.items in
-    let n = index c.in_ok-_start._start.0 in
-    let after = c.number.new.kernels in
-    let found =
-    first_number max limit kernel n after
-    (subst (λ items. IsNumberOf max limit [] (map (core_set index) items) n after) c.deref.ensures.value
-    (subst (λ (kernels : List (List CoreSet)). IsNumberOf max limit kernels (map (core_set index) c.deref.result.now) n after) c.new-kernels.ensures
-    c.in_ok-_start.ensures.number)) in
+    c.in_ok-_start.ensures.number) in
+    let found = first_number max limit kernel n after number in
     record {
-      some = found.within;
-      is = subst (λ cores. AreSame (IsAmong cores) (IsStartItem grm)) (sym found.is) c.in_ok-start.ensures.start;
+      numbered =
+          number_numbered grm c.start_kernel.ensures.well_formed max limit [] (none_numbered grm max limit) kernel c.in_ok-start.ensures.kernel []
+          (start_reached grm kernel c.in_ok-start.ensures.start) n after number;
+      starts = record {
+        some = found.within;
+        is = subst (λ cores. AreSame (IsAmong cores) (IsStartItem grm)) (sym found.is) c.in_ok-start.ensures.start;
+      };
     }
