@@ -59,7 +59,7 @@ pub record AreShortest (g : Grammar) (most : ℕ) (choices : List (Option Choice
   pub right : AreRight g most choices
   pub all : (r : ℕ) → choice_at choices r ≡ None → (tree : Tree ℕ) → ¬ (IsTreeOf g (Nonterminal r) tree)
 
--- the same with numbers of tokens capped at `usize::MAX`
+-- what is kept is right, with numbers of tokens capped at `usize::MAX`, and something is kept of each rule that has a tree
 abbrev pub AreShortestOf : Grammar → List (Option ChoiceOf) → Type 0
 AreShortestOf g = λ choices. AreShortest g MAX choices
 
@@ -67,7 +67,7 @@ AreShortestOf g = λ choices. AreShortest g MAX choices
 abbrev pub IsMinimalLen : List (Option ChoiceOf) → List GrammarSymbol → Option ℕ → Type 0
 IsMinimalLen choices symbols len = (g : Grammar) → AreShortest g MAX choices → IsShortestIfAny g MAX symbols len
 
--- that of one symbol of the code, and that of symbols
+-- in each such grammar, this is the length of minimal sentences of a symbol of the code, or of symbols, if there are any
 abbrev pub IsLenOf : {S : Type 0} → (S → ℕ) → List (Option ChoiceOf) → Symbol S → Option ℕ → Type 0
 IsLenOf index choices symbol len = IsMinimalLen choices (symbol_of index symbol ∷ []) len
 

@@ -33,7 +33,7 @@ abbrev pub total_len : ℕ → List (Option ChoiceOf) → List GrammarSymbol →
 total_len most choices [] = Some 0
 total_len most choices (s ∷ ss) = added most (len_at choices s) (total_len most choices ss)
 
--- that of one symbol of the code, and of symbols, capped at `usize::MAX`
+-- the length of a symbol of the code, and that of symbols, capped at `usize::MAX`
 abbrev pub len_by : {S : Type 0} → (S → ℕ) → List (Option ChoiceOf) → Symbol S → Option ℕ
 len_by index choices symbol = len_at choices (symbol_of index symbol)
 

@@ -64,7 +64,7 @@ pub record AreAllMarked (g : Grammar) (marks : List Bool) : Type 0 where
   pub rules : length marks ≡ rules_len g
   pub exact : (r : ℕ) → IsTrue (is_marked marks r) ↔ IsReachableRule g r
 
--- in a list of the code
+-- the reachable rules are marked in a list of the code, and no others
 abbrev pub HasAllMarks : {A : Type 0} → Grammar → Vec Bool A → Type 0
 HasAllMarks g = λ marks. AreAllMarked g marks.items
 
