@@ -16,9 +16,9 @@ goes_by_rule_of-requires-clause-prod g c =
 pub returns-then-not-goes_by_rule_of : goal.returns-then-not-goes_by_rule_of
 returns-then-not-goes_by_rule_of g c =
     let index = g.StorageT.StorageIndex.index in
-    let has = core_read index c.args.self.now.sgraph.now (index c.args.s.0) _ _ _ c.cores-pidx-items.ensures.all c.loop-pidx-test.true c.loop-pidx-item.is in
     let first =
-    subst (λ (k : ℕ). HasCore c.args.self.now.sgraph.now (index c.args.s.0) (index c.loop-pidx-item.result.0.0) k) c.if-dot-eq0.true has in
+    subst (λ (k : ℕ). HasCore c.args.self.now.sgraph.now (index c.args.s.0) (index c.loop-pidx-item.result.0.0) k) c.if-dot-eq0.true
+    (core_read index c.args.self.now.sgraph.now (index c.args.s.0) _ _ _ c.cores-pidx-items.ensures.all c.loop-pidx-test.true c.loop-pidx-item.is) in
     refused (λ goes. iff_false c.goes_by_rule_of.ensures c.if-not-goes_by_rule_of.true (goes _ first))
 
 pub loop-pidx-preserved : goal.loop-pidx-preserved
