@@ -16,6 +16,7 @@ use Rattle.lrpar_table_conditions.specs.declared.completeness_test.Completeness.
 use Rattle.lrpar_table_rows.specs.Safe.{CoresFollow, GoesBy, HasShape, StepsFromCores}
 use Rattle.lrpar_table_rows.specs.Table.{Table, ShiftTo, action_of, goto_of}
 use Rattle.lrpar_table_rows.proofs.ItemLemmas.{Contains-image}
+use Rattle.lrpar_table_rows.proofs.TestLemmas.{length_by_image}
 
 -- a core that was read is one of the state
 pub core_read : {S : Type 0} (index : S → ℕ) (graph : Graph) (s : ℕ) (cores : List (PIdx S × ℕ)) (i : ℕ) (core : PIdx S × ℕ)
@@ -35,6 +36,19 @@ pub core_in_shape : (g : Grammar) (graph : Graph) (table : Table) (s p k : ℕ) 
     → (p < prods_len g) × (k ≤ prod_len g p)
 core_in_shape g graph table s p k shape has = let item = shape.items s p k has.0 has.1 in (item.prod, item.dot)
 
+-- so is one that was read
+pub core_known_read : {S : Type 0} (index : S → ℕ) (g : Grammar) (graph : Graph) (table : Table) (s : ℕ) (cores : List (PIdx S × ℕ)) (i : ℕ) (core : PIdx S × ℕ)
+    → HasShape g graph table → ((p k : ℕ) → HasCore graph s p k ↔ Contains (map (core_of index) cores) (p, k)) → i < length cores
+    → core ≡ slice_index_or cores i core → (index core.0.0 < prods_len g) × (core.1 ≤ prod_len g (index core.0.0))
+core_known_read index g graph table s cores i core shape all below read =
+    core_in_shape g graph table s (index core.0.0) core.1 shape (core_read index graph s cores i core all below read)
+
+pub begun_known_read : {S : Type 0} (index : S → ℕ) (g : Grammar) (graph : Graph) (table : Table) (s : ℕ) (cores : List (PIdx S × ℕ)) (i : ℕ) (core : PIdx S × ℕ)
+    → HasShape g graph table → ((p k : ℕ) → (HasCore graph s p k × (0 < k)) ↔ Contains (map (core_of index) cores) (p, k)) → i < length cores
+    → core ≡ slice_index_or cores i core → (index core.0.0 < prods_len g) × (core.1 ≤ prod_len g (index core.0.0))
+begun_known_read index g graph table s cores i core shape all below read =
+    core_in_shape g graph table s (index core.0.0) core.1 shape (begun_read index graph s cores i core all below read)
+
 -- so is a core of a state of the parts that are tested
 pub core_known : {S : Type 0} (index : S → ℕ) (parts : Completeness S) (s : StIdx S) (prod : PIdx S) (dot : ℕ) → IsTestable parts → HasCoreIn index parts s prod dot
     → (index prod.0 < prods_len parts.grm.now) × (dot ≤ prod_len parts.grm.now (index prod.0))
@@ -46,6 +60,13 @@ pub symbol_read : {S : Type 0} (index : S → ℕ) (xs : List (Symbol S)) (ys : 
 symbol_read index xs ys k x is below read =
     subst (λ (zs : List GrammarSymbol). slice_get zs k ≡ Some (symbol_of index x)) is
     (slice_get-map (symbol_of index) xs k ∙ ap (option_map (symbol_of index)) (slice_get_read xs (length xs) k x refl below read))
+
+-- so is the symbol before a dot that is past 0
+pub before_read : {S : Type 0} (index : S → ℕ) (xs : List (Symbol S)) (ys : List GrammarSymbol) (dot before : ℕ) (x : Symbol S)
+    → map (symbol_of index) xs ≡ ys → dot ≡ before + 1 → dot ≤ length ys → x ≡ slice_index_or xs before x → slice_get ys before ≡ Some (symbol_of index x)
+before_read index xs ys dot before x are is low read =
+    let len = length_by_image (symbol_of index) xs ys are in
+    symbol_read index xs ys before x are (omega (arith, is, len, low)) read
 
 -- a goto is found exactly if there is one
 pub goto_test : {S : Type 0} (index : S → ℕ) (found : Option (StIdx S)) (goto : Option ℕ) → plain_goto index found ≡ goto

@@ -1,6 +1,6 @@
 -- Tests of a state's entries decide the safety conditions.
-use Rattle.std.proofs.Common.{◌≡◌, ◌≢◌, ◌<◌, ◌↔◌, ◌⊎◌, ℕ, List, All, Some, slice_index_or, refl, sym, subst, inl, inr}
-use Rattle.std.specs.List.{Contains}
+use Rattle.std.proofs.Common.{◌≡◌, ◌≢◌, ◌<◌, ◌≤◌, ◌+◌, ◌↔◌, ◌⊎◌, ℕ, List, All, Some, length, map, slice_index_or, take, refl, sym, subst, inl, inr, arith}
+use Rattle.std.specs.List.{Contains, zip}
 use Rattle.std.proofs.lemmas.List.{get_or_default}
 use Rattle.std.proofs.lemmas.List.Elements.{All-contains}
 use Rattle.lrpar_grammar.specs.Grammar.{Grammar, GrammarSymbol, Nonterminal, Terminal, end_token, prods_len}
@@ -9,8 +9,33 @@ use Rattle.lrpar_table_rows.specs.Safe.{AcceptsOnlyAtEnd, GoesBy, NeverShiftsEnd
 use Rattle.lrpar_table_rows.specs.Table.{Table, TableAction, ShiftTo, ReduceBy, Accepts, Fails, action_of, goto_of}
 use Rattle.lrpar_table_rows.specs.declared.condition.SafetyCondition.{SafetyCondition}
 use Rattle.lrpar_table_rows.specs.declared.condition.SafetyCondition.TheVariants.{S3, S4, S5, S7, S8}
+use Rattle.lrpar_table_rows.proofs.Mapped.{all_more, all_tested}
+use Rattle.lrpar_table_rows.proofs.StoredLemmas.{entries_len, entry_at}
 use Rattle.lrpar_table_conditions.specs.Entrywise.{AcceptHolds, ActionHolds, GotoHolds, IsInRange, ReduceHolds, ShiftHolds}
 use Rattle.lrpar_table_conditions.proofs.CoreLemmas.{never_by_kind, steps_by_kind}
+
+-- entries that are read of stored keys and values
+module _ {K V X : Type 0} (number : K → ℕ) (value : V → X) (ks : List K) (vs : List V) (es : List (ℕ × X)) (paired : length vs ≡ length ks)
+    (are : map (λ e. (number e.0, value e.1)) (zip ks vs) ≡ es) where
+  -- one that was read is there
+  pub entry_there : (i : ℕ) (k : K) (v : V) → i < length ks → k ≡ slice_index_or ks i k → v ≡ slice_index_or vs i v → Contains es (number k, value v)
+  entry_there i k v below key at = let found = entry_at number value ks vs es paired are i k v below key at in (i, found.0, sym found.1)
+
+  module _ (P : ℕ × X → Type 0) where
+    -- what holds of all entries holds of it
+    pub entry_is : All P es → (i : ℕ) (k : K) (v : V) → i < length ks → k ≡ slice_index_or ks i k → v ≡ slice_index_or vs i v → P (number k, value v)
+    entry_is all i k v below key at = All-contains P es (number k, value v) all (entry_there i k v below key at)
+
+    -- what holds of the entries so far, and of it, holds of one entry more
+    pub entries_more : (i : ℕ) (k : K) (v : V) → i < length ks → k ≡ slice_index_or ks i k → v ≡ slice_index_or vs i v → P (number k, value v)
+        → All P (take i es) → All P (take (i + 1) es)
+    entries_more i k v below key at here so_far =
+        let found = entry_at number value ks vs es paired are i k v below key at in all_more P es i (number k, value v) so_far found.0 found.1 here
+
+    -- once all keys were looked at, it holds of all entries
+    pub entries_tested : (i : ℕ) → length ks ≤ i → All P (take i es) → All P es
+    entries_tested i past so_far =
+        let len = entries_len number value ks vs es paired are in (all_tested P es i so_far (omega (arith, len, past))).0 refl
 
 -- what holds of each stored action, and of errors, holds of each action
 pub all_actions : (table : Table) (s : ℕ) (es : List (ℕ × TableAction)) (P : ℕ → TableAction → Type 0)

@@ -16,6 +16,7 @@ use Rattle.lrpar_table_first.specs.FirstRows.{IsFirstBefore, IsSymbolBelow, dumm
 use Rattle.lrpar_grammar.specs.Tokens.{has}
 use Rattle.lrpar_grammar.specs.declared.token_set.TokenSet.{TokenSet}
 use Rattle.lrpar_table_first.proofs.GrowthLemmas.{row_in, rows-set}
+use Rattle.lrpar_table_first.proofs.RowLemmas.{row_is}
 use Rattle.lrpar_table_first.proofs.SymbolLemmas.{prod_symbols}
 use Rattle.lrpar_table_rows.specs.Graph.{Graph, HasCore, HasItem, items_of}
 use Rattle.lrpar_table_rows.specs.PlainItems.{core_of}
@@ -52,6 +53,16 @@ each_lookahead {S} index H P tokens i are past holds t h =
     let x = Contains-preimage (λ (y : TIdx S). index y.0) tokens t ((are t).1 h) in
     let all : All (λ (y : TIdx S). P (index y.0)) tokens = λ k d below. holds k d (omega (arith, past, below)) in
     subst P x.2 (All-contains (λ (y : TIdx S). P (index y.0)) tokens x.0 all x.1)
+
+-- so a test of each lookahead is a test of each such item
+pub all_lookaheads : {S : Type 0} (index : S → ℕ) (H P : ℕ → Type 0) (tokens : List (TIdx S))
+    → ((t : ℕ) → Contains (map (λ (x : TIdx S). index x.0) tokens) t ↔ H t) → All (λ (x : TIdx S). P (index x.0)) tokens ↔ ((t : ℕ) → H t → P t)
+all_lookaheads {S} index H P tokens are = (
+  λ all. each_lookahead index H P tokens (length tokens) are (omega arith) all,
+  λ each i d below.
+      let x = get_or tokens i d in
+      each (index x.0) ((are (index x.0)).0 (Contains-image (λ (y : TIdx S). index y.0) tokens x (All-contains_itself tokens i d below))),
+)
 
 -- this holds for each item of s with one of the first i cores
 abbrev pub EachOfFirst : {S : Type 0} → (S → ℕ) → Graph → ℕ → (ℕ → ℕ → ℕ → Type 0) → List (PIdx S × ℕ) → ℕ → Type 0
@@ -531,6 +542,13 @@ pub start_of_rule : {S : Type 0} (index : S → ℕ) (g : Grammar) (r : ℕ) (pr
     → map (λ p. index p.0) prods ≡ prods_of g r → i < length prods → pidx ≡ get_or prods i pidx → HaveStarts g (rows_of starts) → place ≡ index pidx.0 → place < length starts
 start_of_rule index g r prods i pidx starts place are within read room is =
     start_within g starts (index pidx.0) place room (of_rule_known index g r prods i pidx are within read) is
+
+-- which is its row
+pub row_of_rule : {S : Type 0} (index : S → ℕ) (g : Grammar) (r : ℕ) (prods : List (PIdx S)) (i : ℕ) (pidx : PIdx S) (starts : List TokenSet) (place : ℕ) (set : TokenSet)
+    → map (λ p. index p.0) prods ≡ prods_of g r → i < length prods → pidx ≡ get_or prods i pidx → HaveStarts g (rows_of starts) → place ≡ index pidx.0
+    → set ≡ get_or starts place set → row_at (rows_of starts) (index pidx.0) ≡ set.bits.items
+row_of_rule index g r prods i pidx starts place set are within read room is at =
+    ap (row_at (rows_of starts)) (sym is) ∙ row_is starts place set (start_of_rule index g r prods i pidx starts place are within read room is) at
 
 -- a condition is in the list at the place one less than its number
 pub listed_at : (condition : CompletenessCondition) → get_or ALL (condition_number condition - 1) condition ≡ condition

@@ -1,3 +1,4 @@
+pub mod AllTests
 pub mod FirstTokenLemmas
 pub mod ItemwiseLemmas
 pub mod CoreLemmas

@@ -15,15 +15,7 @@ impl<'a, StorageT: StorageIndex> Checkable<'a, StorageT> {
         requires state { IsStateOf StorageT.index self.now s }
         ensures { IsTrue result ↔ StartsFresh self.now.sgraph.now self.now.stable.now (StorageT.index s.0) }
     {
-        if usize::from(s) != usize::from(self.stable.start_state()) {
-            return true;
-        }
-        for (_, dot) in self.sgraph.cores(s) {
-            if *dot != 0 {
-                return false;
-            }
-        }
-        true
+        !self.is_start(s) || self.sgraph.cores(s).iter().all(|(_, dot)| *dot == 0)
     }
 
     /// S8: the state has no transition to the start state, and has the core `^: . S` only if it is the start state.

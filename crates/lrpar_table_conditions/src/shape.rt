@@ -89,12 +89,10 @@ impl<'a, StorageT: StorageIndex> Checkable<'a, StorageT> {
     fn items_with_are_in_range(&self, s: StIdx<StorageT>, pidx: PIdx<StorageT>, dot: usize) -> bool
         ensures { IsTrue result ↔ ItemsAreInRangeOf StorageT.index self.now s pidx dot }
     {
-        for tidx in self.sgraph.lookaheads(s, pidx, dot) {
-            if !self.is_item(pidx, dot, *tidx) {
-                return false;
-            }
-        }
-        true
+        self.sgraph
+            .lookaheads(s, pidx, dot)
+            .iter()
+            .all(|tidx| self.is_item(pidx, dot, *tidx))
     }
 
     // Whether the production, the dot and the token make an item of the grammar.

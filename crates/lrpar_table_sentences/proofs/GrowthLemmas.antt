@@ -1,7 +1,8 @@
 -- A pass that says whether anything was new, as far as it has come.
-use Rattle.std.proofs.Common.{◌≡◌, ◌<◌, ◌≤◌, ◌+◌, ◌⊎◌, ◌∙◌, refl, sym, ap, subst, inl, inr, arith, ℕ, Bool, true, false}
+use Rattle.std.proofs.Common.{◌≡◌, ◌<◌, ◌≤◌, ◌+◌, ◌⊎◌, ◌∙◌, refl, sym, ap, subst, inl, inr, arith, ℕ, Bool, true, false, List, ◌++◌, drop, length, take}
 use Rattle.std.specs.Bool.{OnFalse, OnTrue}
 use Rattle.std.proofs.lemmas.Bool.{OnFalse_at, OnFalse_from, OnTrue_at, OnTrue_from, cases_eq, false≢true}
+use Rattle.lrpar_table_first.proofs.GrowthLemmas.{lent_back}
 
 bool_cases : (b : Bool) → (b ≡ true) ⊎ (b ≡ false)
 bool_cases true = inl refl
@@ -40,3 +41,8 @@ module _ {X : Type 0} (size : X → ℕ) (done : X → ℕ → Type 0) (old now 
               ],
             )),
       )
+
+-- a whole list that was lent comes back as it was left
+pub whole_back : {X : Type 0} (items lent new : List X) (n : ℕ) → n ≡ length items → lent ≡ items → length new ≡ length lent
+    → take n (new ++ drop (length new) items) ≡ new
+whole_back items lent new n full same kept = lent_back items new n (sym full) (kept ∙ ap (λ xs. length xs) same ∙ sym full)

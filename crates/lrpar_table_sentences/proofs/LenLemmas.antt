@@ -1,12 +1,19 @@
 -- The lengths of symbols, and the trees that follow what is kept of rules.
-use Rattle.std.proofs.Common.{◌≡◌, ◌<◌, ◌≤◌, ◌+◌, ◌⊎◌, ◌∙◌, refl, sym, ap, subst, inl, inr, arith, ℕ, List, [], ◌∷◌, Option, Some, None, length, min, length-append}
+use Rattle.std.proofs.Common.{◌≡◌, ◌<◌, ◌≤◌, ◌+◌, ◌⊎◌, ◌∙◌, refl, sym, ap, subst, inl, inr, arith, ℕ, List, [], ◌∷◌, Option, Some, None, drop, length, map, min, length-append}
 use Rattle.std.specs.Option.{option_map}
+use Rattle.std.proofs.lemmas.List.{drop_all, length-map}
+use Rattle.lrpar_grammar_places.specs.declared.span.Symbol.{Symbol}
 use Rattle.lrpar_grammar.specs.Grammar.{Grammar, GrammarSymbol, Nonterminal, Terminal, prods_len, rule_of, symbols_of}
+use Rattle.lrpar_grammar.specs.Symbols.{symbol_of}
 use Rattle.lrpar_grammar.specs.Tree.{Tree, Forest, Leaf, Branch, Nil, Cons, leaves, forest_leaves}
 use Rattle.lrpar_table_sentences.specs.Choices.{AreRight, AreShortest, ChoiceOf, Follows, ForestFollows, choice_at}
 use Rattle.lrpar_table_sentences.specs.Lens.{added, len_at, total_len}
 use Rattle.lrpar_table_sentences.specs.Moves.{Makes, forest_moves, moves_of}
 use Rattle.lrpar_table_sentences.specs.Texts.{AreShortestTrees, AreTreesOf, HaveTrees, IsShortestIfAny, IsShortestLen, IsTreeOf, forest_width, width}
+
+-- no symbol is left
+pub symbols_done : {S : Type 0} (index : S → ℕ) (symbols : List (Symbol S)) (i : ℕ) → length symbols ≤ i → drop i (map (symbol_of index) symbols) ≡ []
+symbols_done index symbols i past = drop_all i (map (symbol_of index) symbols) (omega (arith, length-map symbols (symbol_of index), past))
 
 -- something, or nothing
 pub option_cases : {A : Type 0} (o : Option A) → (o ≡ None) ⊎ ((x : A) × (o ≡ Some x))

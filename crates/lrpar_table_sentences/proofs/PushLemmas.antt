@@ -1,12 +1,18 @@
 -- The moves that are appended are those of trees of minimal sentences: a list can't have more of them than the number at which
 -- lengths are capped.
-use Rattle.std.proofs.Common.{◌≡◌, ◌≤◌, ◌+◌, ◌∙◌, ap, arith, ℕ, List, [], ◌∷◌, ◌++◌, Option, length, length-append}
+use Rattle.std.proofs.Common.{◌≡◌, ◌≤◌, ◌∙◌, ap, arith, ℕ, List, [], ◌∷◌, ◌++◌, Option, length, length-append}
+use Rattle.std.proofs.lemmas.List.{length-map}
 use Rattle.lrpar_grammar.specs.Grammar.{Grammar, GrammarSymbol}
 use Rattle.lrpar_grammar.specs.Tree.{Tree, Forest, Nil, Cons, leaves}
 use Rattle.lrpar_table_sentences.specs.Choices.{AreShortest, ChoiceOf, Follows, ForestFollows}
-use Rattle.lrpar_table_sentences.specs.Moves.{MoveOf, forest_moves, moves_of}
+use Rattle.lrpar_table_sentences.specs.Moves.{MoveOf, forest_moves, move_of, moves_in, moves_of}
 use Rattle.lrpar_table_sentences.specs.Texts.{AreShortestTrees, HaveTrees, IsShortestTree, forest_width, width}
+use Rattle.lrpar_table_sentences.specs.declared.moves.Move.{Move}
 use Rattle.lrpar_table_sentences.proofs.LenLemmas.{follows_fits, forest_moves_wide, moves_wide, shortest_trees}
+
+-- there are no more moves than they have room
+pub moves_low : {S : Type 0} (index : S → ℕ) (moves : List (Move S)) (most : ℕ) → length moves ≤ most → length (moves_in index moves) ≤ most
+moves_low index moves most low = omega (arith, length-map moves (move_of index), low)
 
 module _ (g : Grammar) (most : ℕ) (choices : List (Option ChoiceOf)) (shortest : AreShortest g most choices) where
   -- the trees of symbols

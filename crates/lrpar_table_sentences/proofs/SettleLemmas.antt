@@ -1,10 +1,10 @@
 -- Rules are settled in the order of their lengths. What is kept of some stays right as more comes; and no tree of a rule that is
 -- still open has fewer tokens than the least open production.
-use Rattle.std.proofs.Common.{◌≡◌, ◌<◌, ◌≤◌, ◌+◌, ◌⊎◌, ◌∙◌, refl, sym, ap, subst, inl, inr, arith, ℕ, zero, suc, get_or, map, List, [], ◌∷◌, ◌++◌, Option, Some, None, length, min, length-append, set, cond, nat_eq, true, false, IfSome, MatchOption}
+use Rattle.std.proofs.Common.{◌≡◌, ◌<◌, ◌≤◌, ◌+◌, ◌⊎◌, ◌∙◌, refl, sym, ap, subst, inl, inr, arith, ℕ, zero, suc, get_or, map, List, [], ◌∷◌, Option, Some, None, length, min, length-append, replicate, set, cond, nat_eq, true, false, IfSome, MatchOption}
 use Rattle.std.specs.Option.{is_none, option_eq, option_map, option_map_or}
 use Rattle.std.proofs.lemmas.List.Sums.{sum_by-set}
 use Rattle.std.proofs.lemmas.Bool.{cases_eq, cases_lt, eq-eqb, eqb-true, false≢true}
-use Rattle.std.proofs.lemmas.List.{get_or-set_other, get_or-set_same, length-set, map-set}
+use Rattle.std.proofs.lemmas.List.{get_or-set_other, get_or-set_same, length-map, length-replicate, length-set, map-set}
 use Rattle.lrpar_grammar.specs.Grammar.{Grammar, GrammarSymbol, Nonterminal, Terminal, prods_len, rule_of, rules_len, symbols_of}
 use Rattle.lrpar_grammar.specs.Tree.{Tree, Forest, Leaf, Branch, Nil, Cons, leaves, forest_leaves}
 use Rattle.lrpar_table_sentences.specs.Choices.{AreRight, AreShortest, ChoiceOf, Follows, ForestFollows, choice_at, choice_of, choices_of, prod_at}
@@ -18,13 +18,18 @@ use Rattle.lrpar_table_sentences.proofs.LenLemmas.{added_none, mapped_none, mapp
 abbrev pub Keeps : List (Option ChoiceOf) → List (Option ChoiceOf) → Type 0
 Keeps old new = (r : ℕ) (x : ChoiceOf) → choice_at old r ≡ Some x → choice_at new r ≡ Some x
 
--- one more with nothing kept
-pub none_more : {A B : Type 0} (f : A → B) (xs : List (Option A)) → ((r : ℕ) → get_or (map (option_map f) xs) r None ≡ None)
-    → (r : ℕ) → get_or (map (option_map f) (xs ++ None ∷ [])) r None ≡ None
-none_more f [] none zero = refl
-none_more f [] none (suc r) = refl
-none_more f (x ∷ xs) none zero = none 0
-none_more f (x ∷ xs) none (suc r) = none_more f xs (λ k. none (suc k)) r
+-- a list in which nothing is kept: how long it is, and each of its entries
+pub nothing_len : {A B : Type 0} (f : A → B) (n : ℕ) (xs : List (Option A)) → xs ≡ replicate n None → length (map (option_map f) xs) ≡ n
+nothing_len f n xs is = length-map xs (option_map f) ∙ ap (λ ys. length ys) is ∙ length-replicate n None
+
+none_at : {A B : Type 0} (f : A → B) (n r : ℕ) → get_or (map (option_map f) (replicate n None)) r None ≡ None
+none_at f zero zero = refl
+none_at f zero (suc r) = refl
+none_at f (suc n) zero = refl
+none_at f (suc n) (suc r) = none_at f n r
+
+pub nothing_at : {A B : Type 0} (f : A → B) (n : ℕ) (xs : List (Option A)) → xs ≡ replicate n None → (r : ℕ) → get_or (map (option_map f) xs) r None ≡ None
+nothing_at f n xs is r = ap (λ ys. get_or (map (option_map f) ys) r None) is ∙ none_at f n r
 
 -- the parts of something kept
 abbrev len_in : Option ChoiceOf → ℕ

@@ -1,5 +1,5 @@
 -- Access strings as they are worked out: the steps of a table with the lengths of their symbols, and what is kept of states.
-use Rattle.std.specs.Prelude.{◌≡◌, ◌≢◌, ◌<◌, ◌≤◌, ◌↔◌, ℕ, Contains, List, [], ◌∷◌, ◌++◌, All, MatchOption, Option, Some, None, count_by, length, map, option_map}
+use Rattle.std.specs.Prelude.{◌≡◌, ◌≢◌, ◌<◌, ◌≤◌, ◌↔◌, ℕ, Contains, List, [], ◌∷◌, ◌++◌, All, MatchOption, Option, Some, None, count_by, length, map, option_map, slice_set}
 use Rattle.std.specs.List.{flat_map, range_with_len}
 use Rattle.std.specs.Option.{is_none}
 use Rattle.std.specs.declared.vec.Vec.{Vec}
@@ -18,6 +18,7 @@ use Rattle.lrpar_table_rows.specs.declared.rows.Action.{Action}
 use Rattle.lrpar_table_sentences.specs.AccessStrings.{GoBack, StepOf, AccessOf, step_of, symbols_in, access_at, accesses_of}
 use Rattle.lrpar_table_sentences.specs.declared.transitions.Access.{Access}
 use Rattle.lrpar_table_sentences.specs.declared.transitions.Edge.{Edge}
+use Rattle.lrpar_table_sentences.specs.declared.transitions.Step.{Step}
 
 -- a step, the state that it leads to, and the length of its symbol
 pub record EdgeOf : Type 0 where
@@ -149,6 +150,10 @@ AreSteps index table choices edges = AreEdges table choices (edges_of index edge
 -- each leads to a state of which the code can keep something
 abbrev pub LeadWithin : {S : Type 0} → (S → ℕ) → List (Edge S) → List (Option (Access S)) → Type 0
 LeadWithin index edges accesses = All (λ edge. index edge.next.0 < length accesses) edges
+
+-- the code keeps an access string of one state more, with this length and this last step
+abbrev pub KeepsAt : {S : Type 0} → ℕ → ℕ → Step S → List (Option (Access S)) → List (Option (Access S)) → Type 0
+KeepsAt state len step old new = new ≡ slice_set old state (Some (record { len = len; last = Some step }))
 
 -- what the code keeps of states is right as far as it goes, with numbers of tokens capped at `usize::MAX`
 abbrev pub AccessesAreRight : {S : Type 0} → (S → ℕ) → Table → List (Option ChoiceOf) → List (Option (Access S)) → Type 0

@@ -1,5 +1,5 @@
 -- Access strings of the states of a built table: paths of symbols from the start, with trees that fit the symbols.
-use Rattle.std.specs.Prelude.{◌≡◌, ◌<◌, ◌≤◌, ℕ, List, [], ◌∷◌, ◌++◌, Option, Some, None, length, map, min, option_map, reverse, slice_index_or}
+use Rattle.std.specs.Prelude.{◌≡◌, ◌<◌, ◌≤◌, ℕ, List, [], ◌∷◌, ◌++◌, Option, Some, None, drop, length, map, min, option_map, reverse, slice_index_or, take}
 use Rattle.std.specs.declared.vec.Vec.{Vec}
 use Rattle.std.below.core.specs.declared.int.usize.TheConstants.{MAX}
 use Rattle.lrpar_grammar_places.specs.declared.span.StIdx.{StIdx}
@@ -75,6 +75,10 @@ pub record IsShortestPath (g : Grammar) (graph : Graph) (table : Table) (most s 
 abbrev pub access_at : List (Option AccessOf) → ℕ → Option AccessOf
 access_at accesses s = slice_index_or accesses s None
 
+-- the length that is kept of a state of the code, if one is
+abbrev pub len_kept : {S : Type 0} → (S → ℕ) → List (Option AccessOf) → StIdx S → Option ℕ
+len_kept index accesses s = option_map (λ access. access.len) (access_at accesses (index s.0))
+
 -- the last step of what is kept, if there is one
 abbrev pub last_of : Option AccessOf → Option StepOf
 last_of (Some access) = access.last
@@ -118,12 +122,12 @@ IsAccessTo index accesses s found = option_map (access_of index) found ≡ acces
 abbrev pub IsLastStepTo : {S : Type 0} → (S → ℕ) → List (Option (Access S)) → StIdx S → Option (Step S) → Type 0
 IsLastStepTo index accesses s step = option_map (step_of index) step ≡ last_of (access_at (accesses_of index accesses) (index s.0))
 
+-- the order of a list is reversed from a place on
+abbrev pub ReversesFrom : {X : Type 0} → ℕ → List X → List X → Type 0
+ReversesFrom from old new = new ≡ take from old ++ reverse (drop from old)
+
 -- the steps that lead back from the state are appended
 abbrev pub AppendsBack : {S A : Type 0} → (S → ℕ) → List (Option (Access S)) → StIdx S → Vec (Step S) A → Vec (Step S) A → Type 0
 AppendsBack index accesses s old new =
     (back : List StepOf) → GoBack (accesses_of index accesses) (index s.0) back
     → steps_of index new.items ≡ steps_of index old.items ++ back
-
--- the code keeps nothing of any state
-abbrev pub NoAccessIsKept : {S : Type 0} → (S → ℕ) → List (Option (Access S)) → Type 0
-NoAccessIsKept index accesses = (s : ℕ) → access_at (accesses_of index accesses) s ≡ None

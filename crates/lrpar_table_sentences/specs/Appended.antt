@@ -1,5 +1,5 @@
 -- What is appended to moves of the code: those of trees of symbols.
-use Rattle.std.specs.Prelude.{◌≡◌, ℕ, List, ◌++◌, map}
+use Rattle.std.specs.Prelude.{◌≡◌, ℕ, List, [], ◌∷◌, ◌++◌, map}
 use Rattle.std.specs.declared.vec.Vec.{Vec}
 use Rattle.lrpar_grammar_places.specs.declared.span.Symbol.{Symbol}
 use Rattle.lrpar_grammar_places.specs.declared.span.TIdx.{TIdx}
@@ -7,8 +7,15 @@ use Rattle.lrpar_grammar.specs.Grammar.{Grammar}
 use Rattle.lrpar_grammar.specs.Symbols.{symbol_of}
 use Rattle.lrpar_grammar.specs.Tree.{Tree, Forest}
 use Rattle.lrpar_table_sentences.specs.Moves.{forest_moves, moves_in, moves_of}
-use Rattle.lrpar_table_sentences.specs.Texts.{AreShortestTrees, BeginWith, CanBeginWith, IsShortestTree}
+use Rattle.lrpar_table_sentences.specs.Texts.{AreShortestTrees, BeginWith, CanBeginWith, HaveTrees, IsShortestTree}
 use Rattle.lrpar_table_sentences.specs.declared.moves.Move.{Move}
+
+-- the symbol has a tree, and each of the symbols
+abbrev pub HasTreeOf : {S : Type 0} → (S → ℕ) → Grammar → Symbol S → Type 0
+HasTreeOf index g symbol = HaveTrees g (symbol_of index symbol ∷ [])
+
+abbrev pub HaveTreesOf : {S : Type 0} → (S → ℕ) → Grammar → List (Symbol S) → Type 0
+HaveTreesOf index g symbols = HaveTrees g (map (symbol_of index) symbols)
 
 -- the moves of the tree of a minimal sentence of the symbol are appended
 abbrev pub AppendsShortestTree : {S A : Type 0} → (S → ℕ) → Grammar → Symbol S → Vec (Move S) A → Vec (Move S) A → Type 0

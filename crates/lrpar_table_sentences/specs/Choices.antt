@@ -1,9 +1,13 @@
 -- What is kept of each productive rule: the length of its minimal sentences, and the production that the tree of one begins with.
-use Rattle.std.specs.Prelude.{◌≡◌, ◌<◌, ◌≤◌, ℕ, List, [], ◌∷◌, Option, Some, None, length, map, min, option_map, slice_index_or}
+use Rattle.std.specs.Prelude.{◌≡◌, ◌<◌, ◌≤◌, ◌↔◌, ℕ, Bool, IsTrue, List, [], ◌∷◌, Option, Some, None, length, map, min, option_map, slice_index_or}
+use Rattle.std.specs.Option.{is_some}
 use Rattle.std.below.core.specs.declared.int.usize.TheConstants.{MAX}
 use Rattle.lrpar_grammar_places.specs.declared.span.RIdx.{RIdx}
+use Rattle.lrpar_grammar_places.specs.declared.span.Symbol.{Symbol}
 use Rattle.lrpar_grammar.specs.Grammar.{Grammar, GrammarSymbol, Nonterminal, Terminal, prods_len, rule_of, rules_len, symbols_of}
+use Rattle.lrpar_grammar.specs.Symbols.{symbol_of}
 use Rattle.lrpar_grammar.specs.Tree.{Tree, Forest, Leaf, Branch, Nil, Cons}
+use Rattle.lrpar_table_sentences.specs.Reachable.{HasTree}
 use Rattle.lrpar_table_sentences.specs.Texts.{IsShortestIfAny, IsTreeOf, width}
 use Rattle.lrpar_table_sentences.specs.declared.settle.Choice.{Choice}
 
@@ -55,22 +59,37 @@ pub record AreShortest (g : Grammar) (most : ℕ) (choices : List (Option Choice
   pub right : AreRight g most choices
   pub all : (r : ℕ) → choice_at choices r ≡ None → (tree : Tree ℕ) → ¬ (IsTreeOf g (Nonterminal r) tree)
 
+-- what is kept is right, with numbers of tokens capped at `usize::MAX`, and something is kept of each rule that has a tree
+abbrev pub AreShortestOf : Grammar → List (Option ChoiceOf) → Type 0
+AreShortestOf g = λ choices. AreShortest g MAX choices
+
 -- in each grammar of which it is kept, this is the length of the symbols' minimal sentences, if there are any
 abbrev pub IsMinimalLen : List (Option ChoiceOf) → List GrammarSymbol → Option ℕ → Type 0
 IsMinimalLen choices symbols len = (g : Grammar) → AreShortest g MAX choices → IsShortestIfAny g MAX symbols len
+
+-- in each such grammar, this is the length of minimal sentences of a symbol of the code, or of symbols, if there are any
+abbrev pub IsLenOf : {S : Type 0} → (S → ℕ) → List (Option ChoiceOf) → Symbol S → Option ℕ → Type 0
+IsLenOf index choices symbol len = IsMinimalLen choices (symbol_of index symbol ∷ []) len
+
+abbrev pub IsLenOfAll : {S : Type 0} → (S → ℕ) → List (Option ChoiceOf) → List (Symbol S) → Option ℕ → Type 0
+IsLenOfAll index choices symbols len = IsMinimalLen choices (map (symbol_of index) symbols) len
+
+-- whether something is kept of a rule of the code
+abbrev pub is_kept : {S : Type 0} → (S → ℕ) → List (Option ChoiceOf) → RIdx S → Bool
+is_kept index choices rule = is_some (choice_at choices (index rule.0))
+
+-- in each grammar of which it is kept, the answer is true exactly if the rule has a tree
+abbrev pub DecidesTree : {S : Type 0} → (S → ℕ) → List (Option ChoiceOf) → RIdx S → Bool → Type 0
+DecidesTree index choices rule answer = (g : Grammar) → AreShortest g MAX choices → IsTrue answer ↔ HasTree g (index rule.0)
 
 -- what the code keeps of rules is right as far as it goes, with numbers of tokens capped at `usize::MAX`
 abbrev pub RightSoFar : {S : Type 0} → (S → ℕ) → Grammar → List (Option (Choice S)) → Type 0
 RightSoFar index g choices = AreRight g MAX (choices_of index choices)
 
 -- and something is kept of each rule that has a tree
-abbrev pub AreShortestChoices : {S : Type 0} → (S → ℕ) → Grammar → List (Option (Choice S)) → Type 0
-AreShortestChoices index g choices = AreShortest g MAX (choices_of index choices)
+abbrev pub AreSettled : {S : Type 0} → (S → ℕ) → Grammar → List (Option (Choice S)) → Type 0
+AreSettled index g choices = AreShortest g MAX (choices_of index choices)
 
 -- this is what the code keeps of the rule; out of range, nothing
 abbrev pub IsChoiceFor : {S : Type 0} → (S → ℕ) → List (Option (Choice S)) → RIdx S → Option (Choice S) → Type 0
 IsChoiceFor index choices rule found = option_map (choice_of index) found ≡ choice_at (choices_of index choices) (index rule.0)
-
--- the code keeps nothing of any rule
-abbrev pub NoChoiceIsKept : {S : Type 0} → (S → ℕ) → List (Option (Choice S)) → Type 0
-NoChoiceIsKept index choices = (r : ℕ) → choice_at (choices_of index choices) r ≡ None

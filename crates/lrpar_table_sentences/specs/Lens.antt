@@ -33,6 +33,13 @@ abbrev pub total_len : ℕ → List (Option ChoiceOf) → List GrammarSymbol →
 total_len most choices [] = Some 0
 total_len most choices (s ∷ ss) = added most (len_at choices s) (total_len most choices ss)
 
+-- the length of a symbol of the code, and that of symbols, capped at `usize::MAX`
+abbrev pub len_by : {S : Type 0} → (S → ℕ) → List (Option ChoiceOf) → Symbol S → Option ℕ
+len_by index choices symbol = len_at choices (symbol_of index symbol)
+
+abbrev pub len_by_all : {S : Type 0} → (S → ℕ) → List (Option ChoiceOf) → List (Symbol S) → Option ℕ
+len_by_all index choices symbols = total_len MAX choices (map (symbol_of index) symbols)
+
 -- the number, if nothing is kept
 abbrev pub unless_some : Option ChoiceOf → Option ℕ → Option ℕ
 unless_some (Some x) len = None

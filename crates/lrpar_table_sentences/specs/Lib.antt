@@ -1,4 +1,5 @@
 pub mod Moves
+pub mod Kept
 pub mod Texts
 pub mod Appended
 pub mod Choices

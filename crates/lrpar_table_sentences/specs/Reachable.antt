@@ -1,5 +1,6 @@
 -- The reachable rules of a grammar, and the unproductive ones among them.
 use Rattle.std.specs.Prelude.{◌≡◌, ◌<◌, ◌↔◌, ℕ, Bool, Contains, IsTrue, List, MatchOption, Option, count_by, false, length, not, slice_index_or}
+use Rattle.std.specs.declared.vec.Vec.{Vec}
 use Rattle.lrpar_grammar_places.specs.declared.span.RIdx.{RIdx}
 use Rattle.lrpar_grammar_places.specs.declared.span.Symbol.{Symbol}
 use Rattle.lrpar_grammar.specs.Grammar.{Grammar, GrammarSymbol, Nonterminal, Terminal, prods_len, rule_of, rules_len, symbols_of}
@@ -63,6 +64,18 @@ pub record AreAllMarked (g : Grammar) (marks : List Bool) : Type 0 where
   pub rules : length marks ≡ rules_len g
   pub exact : (r : ℕ) → IsTrue (is_marked marks r) ↔ IsReachableRule g r
 
+-- the reachable rules are marked in a list of the code, and no others
+abbrev pub HasAllMarks : {A : Type 0} → Grammar → Vec Bool A → Type 0
+HasAllMarks g = λ marks. AreAllMarked g marks.items
+
+-- whether a rule of the code is marked
+abbrev pub has_mark : {S : Type 0} → (S → ℕ) → List Bool → RIdx S → Bool
+has_mark index marks rule = is_marked marks (index rule.0)
+
+-- in each grammar whose reachable rules are marked, the answer is true exactly if the rule is reachable
+abbrev pub DecidesReach : {S : Type 0} → (S → ℕ) → List Bool → RIdx S → Bool → Type 0
+DecidesReach index marks rule answer = (g : Grammar) → AreAllMarked g marks → IsTrue answer ↔ IsReachableRule g (index rule.0)
+
 -- how many rules aren't marked
 abbrev pub unmarked : List Bool → ℕ
 unmarked marks = count_by not marks
@@ -72,8 +85,8 @@ abbrev pub MarksMore : List Bool → List Bool → Type 0
 MarksMore old new = unmarked new < unmarked old
 
 -- if the rule of a production is marked, so is each one on its right side: of each production
-abbrev pub AreClosedMarks : Grammar → List Bool → Type 0
-AreClosedMarks g marks = (p : ℕ) → p < prods_len g → MarksOn g marks p
+abbrev pub AreClosed : Grammar → List Bool → Type 0
+AreClosed g marks = (p : ℕ) → p < prods_len g → MarksOn g marks p
 
 -- if the symbol is a rule, there is a mark for it
 abbrev pub HasMarkFor : {S : Type 0} → (S → ℕ) → List Bool → Symbol S → Type 0

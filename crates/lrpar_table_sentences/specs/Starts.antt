@@ -1,5 +1,6 @@
 -- How rules can begin with a token: of each that can, a production and the place in it at which the token comes.
-use Rattle.std.specs.Prelude.{◌≡◌, ◌<◌, ◌==◌, ◌+◌, ℕ, zero, suc, Bool, false, if◌then◌else◌, List, [], ◌∷◌, ◌++◌, Option, Some, None, count_by, length, map, option_map, slice_index_or}
+use Rattle.std.specs.Prelude.{◌≡◌, ◌<◌, ◌==◌, ◌+◌, ℕ, zero, suc, Bool, false, if◌then◌else◌, List, [], ◌∷◌, ◌++◌, Option, Some, None, count_by, drop, length, map, option_map, slice_index_or, take}
+use Rattle.std.specs.Borrow.{Bor}
 use Rattle.std.specs.Option.{is_none, is_some}
 use Rattle.std.specs.declared.vec.Vec.{Vec}
 use Rattle.std.below.core.specs.declared.int.usize.TheConstants.{MAX}
@@ -108,10 +109,6 @@ CanStartBy index g choices first starts prod = CanStart g MAX (choices_of index 
 abbrev pub AreAllStarts : {S : Type 0} → (S → ℕ) → Grammar → List (Option (Choice S)) → TIdx S → List (Option (Start S)) → Type 0
 AreAllStarts index g choices first starts = (p : ℕ) → p < prods_len g → CanStart g MAX (choices_of index choices) (index first.0) (starts_of index starts) p
 
--- no rule can begin
-abbrev pub NoStartIsKept : {S : Type 0} → (S → ℕ) → List (Option (Start S)) → Type 0
-NoStartIsKept index starts = (r : ℕ) → start_at (starts_of index starts) r ≡ None
-
 -- this is how a symbol can begin, if it is a rule that can
 abbrev pub IsStartFor : {S : Type 0} → (S → ℕ) → List (Option (Start S)) → Symbol S → Option (Start S) → Type 0
 IsStartFor index starts symbol found = option_map (start_of index) found ≡ start_by (starts_of index starts) (symbol_of index symbol)
@@ -140,6 +137,10 @@ abbrev pub Descends : Grammar → List (Option ChoiceOf) → List (Option StartO
 Descends g choices starts first s old new before after =
     (tree : Tree ℕ) (rest : List MoveOf) → Starts g choices starts first tree s → Unfold g choices old rest
     → (todo : List MoveOf) × Unfold g choices new todo × (after ++ todo ≡ before ++ (moves_of tree ++ rest))
+
+-- the symbols before the place, the symbol there, and those after it
+abbrev pub ArePartsAt : {S : Type 0} → ℕ → List (Symbol S) → Bor (List (Symbol S)) × Symbol S × Bor (List (Symbol S)) → Type 0
+ArePartsAt place symbols = λ parts. (parts.0.now ≡ take place symbols) × (drop place symbols ≡ parts.1 ∷ parts.2.now)
 
 -- more rules can begin than before
 abbrev pub HasMoreStarts : {S : Type 0} → (S → ℕ) → List (Option (Start S)) → List (Option (Start S)) → Type 0

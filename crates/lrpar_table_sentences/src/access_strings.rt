@@ -1,8 +1,8 @@
 //! Minimal access strings of the states of a built table.
-ghost use Rattle.std.specs.Prelude.{◌≡◌, List, IfOk, OnOk, option_map};
+ghost use Rattle.std.specs.Prelude.{◌≡◌, IfOk, OnOk};
 ghost use Rattle.lrpar_table_build.specs.Built.{IsBuilt};
 ghost use Rattle.lrpar_table_sentences.specs.Choices.{AreShortest};
-ghost use Rattle.lrpar_table_sentences.specs.AccessStrings.{AccessOf, AppendsPath, AreAccessStrings, IsLenTo, access_at};
+ghost use Rattle.lrpar_table_sentences.specs.AccessStrings.{AppendsPath, AreAccessStrings, IsLenTo, len_kept};
 
 use crate::back::{access_to, push_back, reverse_from};
 use crate::settle_access::settled_accesses;
@@ -61,7 +61,7 @@ impl<StorageT: StorageIndex> AccessStrings<StorageT> {
     /// The least number of tokens that lead to the state, capped at `usize::MAX`; `None` if none lead there, as each path to it
     /// has an unproductive symbol.
     pub fn len_to(&self, s: StIdx<StorageT>) -> Option<usize>
-        ensures len { result ≡ option_map (λ access. access.len) (access_at self.now (StorageT.index s.0)) }
+        ensures len { result ≡ len_kept StorageT.index self.now s }
         ensures shortest { IsLenTo StorageT.index self.now s result }
     {
         match access_to(&self.accesses, s) {

@@ -1,6 +1,6 @@
 //! The steps of an access string, back from its end.
-ghost use Rattle.std.specs.Prelude.{◌≡◌, ◌≤◌, ◌++◌, OnOk, drop, length, reverse, take, vec_len};
-ghost use Rattle.lrpar_table_sentences.specs.AccessStrings.{AppendsBack, IsAccessTo, IsLastStepTo};
+ghost use Rattle.std.specs.Prelude.{◌≤◌, OnOk, length, vec_len};
+ghost use Rattle.lrpar_table_sentences.specs.AccessStrings.{AppendsBack, IsAccessTo, IsLastStepTo, ReversesFrom};
 
 use crate::transitions::{Access, Step};
 use lrpar_grammar::span::{StIdx, StorageIndex};
@@ -26,7 +26,7 @@ pub(crate) fn push_back<StorageT: StorageIndex>(
 /// Reverses the order of the steps from a place on.
 pub(crate) fn reverse_from<StorageT: StorageIndex>(steps: &mut [Step<StorageT>], from: usize)
     requires { from ≤ length steps.old }
-    ensures { steps.new ≡ take from steps.old ++ reverse (drop from steps.old) }
+    ensures { ReversesFrom from steps.old steps.new }
 {
     steps[from..].reverse();
 }

@@ -3,8 +3,9 @@ ghost use Rattle.std.specs.Prelude.{◌≡◌, ◌<◌, IfOk, Some, length, slic
 ghost use Rattle.std.specs.Bool.{OnFalse, OnTrue};
 ghost use Rattle.lrpar_grammar.specs.Grammar.{prods_len};
 ghost use Rattle.lrpar_table_sentences.specs.Choices.{RightSoFar};
-ghost use Rattle.lrpar_table_sentences.specs.Starts.{AreAllStarts, AreRightStarts, CanStartBy, HasMoreStarts, IsStartFor, NoStartIsKept, begins_with, place_in_prod, place_in_symbols};
+ghost use Rattle.lrpar_table_sentences.specs.Starts.{AreAllStarts, AreRightStarts, CanStartBy, HasMoreStarts, IsStartFor, begins_with, place_in_prod, place_in_symbols};
 
+use crate::kept::nothing_kept;
 use crate::settle::{Choice, len_of, total_len};
 use lrpar_grammar::grammar::YaccGrammar;
 use lrpar_grammar::span::{PIdx, StorageIndex, Symbol, TIdx};
@@ -28,23 +29,8 @@ pub(crate) fn starts<StorageT: StorageIndex>(
     ensures kept { IfOk result (λ starts. AreRightStarts StorageT.index grm.now choices.now first starts.items) }
     ensures closed { IfOk result (λ starts. AreAllStarts StorageT.index grm.now choices.now first starts.items) }
 {
-    let mut starts = no_starts(alloc, grm.rules_len())?;
+    let mut starts = nothing_kept(alloc, grm.rules_len())?;
     'passes: while grow_all(grm, choices, &mut starts, first) {}
-    Ok(starts)
-}
-
-// A list that has nothing for each of the rules.
-fn no_starts<StorageT: StorageIndex>(
-    alloc: Global,
-    rules: usize,
-) -> Result<Vec<Option<Start<StorageT>>>, AllocError>
-    ensures len { IfOk result (λ starts. length starts.items ≡ rules) }
-    ensures none { IfOk result (λ starts. NoStartIsKept StorageT.index starts.items) }
-{
-    let mut starts = Vec::with_capacity(alloc, rules)?;
-    for _ in 0..rules {
-        starts.push(None)?;
-    }
     Ok(starts)
 }
 

@@ -1,9 +1,9 @@
 //! The moves of trees that begin with a token.
-ghost use Rattle.std.specs.Prelude.{◌≡◌, ◌<◌, ◌∷◌, IfSome, IsSome, OnOk, drop, length, take};
+ghost use Rattle.std.specs.Prelude.{◌<◌, IfSome, IsSome, OnOk, length};
 ghost use Rattle.lrpar_table_sentences.specs.Appended.{AppendsTreesWith, CanStartWith};
-ghost use Rattle.lrpar_table_sentences.specs.Choices.{AreShortestChoices};
+ghost use Rattle.lrpar_table_sentences.specs.Choices.{AreSettled};
 ghost use Rattle.lrpar_table_sentences.specs.Frames.{AreFramesOf};
-ghost use Rattle.lrpar_table_sentences.specs.Starts.{AppendsStart, AppendsStarts, AreRightStarts, DescendsTo};
+ghost use Rattle.lrpar_table_sentences.specs.Starts.{AppendsStart, AppendsStarts, ArePartsAt, AreRightStarts, DescendsTo};
 
 use crate::begins::{Start, place_of, start_of, starts};
 use crate::moves::Move;
@@ -22,7 +22,7 @@ pub(crate) fn push_beginning<StorageT: StorageIndex>(
     symbols: &[Symbol<StorageT>],
     first: TIdx<StorageT>,
 ) -> Result<(), AllocError>
-    requires shortest { AreShortestChoices StorageT.index grm.now choices.now }
+    requires rules { AreSettled StorageT.index grm.now choices.now }
     requires some { CanStartWith StorageT.index grm.now symbols.now first }
     ensures { OnOk result (AppendsTreesWith StorageT.index grm.now symbols.now first out.old out.new) }
 {
@@ -117,8 +117,7 @@ fn around<'a, StorageT: StorageIndex>(
     ),
 >
     ensures some { place < length symbols.now → IsSome result }
-    ensures before { IfSome result (λ parts. parts.0.now ≡ take place symbols.now) }
-    ensures after { IfSome result (λ parts. drop place symbols.now ≡ parts.1 ∷ parts.2.now) }
+    ensures parts { IfSome result (ArePartsAt place symbols.now) }
     ensures room { IfSome result (λ _. place < usize.MAX) }
 {
     if place >= symbols.len() {

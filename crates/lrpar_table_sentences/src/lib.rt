@@ -6,6 +6,7 @@ mod back;
 mod begins;
 mod descend;
 mod edges;
+mod kept;
 pub mod moves;
 pub mod reachable;
 mod settle;

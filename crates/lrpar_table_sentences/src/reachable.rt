@@ -1,10 +1,10 @@
 //! The reachable rules of a grammar, and which of them are unproductive.
-ghost use Rattle.std.specs.Prelude.{◌≡◌, ◌<◌, ◌↔◌, IfOk, IsTrue};
+ghost use Rattle.std.specs.Prelude.{◌≡◌, ◌<◌, IfOk};
 ghost use Rattle.std.specs.Bool.{OnFalse, OnTrue};
-ghost use Rattle.lrpar_grammar.specs.Grammar.{Grammar, prods_len};
+ghost use Rattle.lrpar_grammar.specs.Grammar.{prods_len};
 ghost use Rattle.lrpar_grammar.specs.Symbols.{symbol_of};
-ghost use Rattle.lrpar_table_sentences.specs.Reachable.{AreAllMarked, AreClosedMarks, AreMarked, HasMarkFor, IsFirstUnproductiveIfAny, IsMarkedSymbol, IsReachableRule, MarksMore, MarksOn, StayMarks, is_marked};
-ghost use Rattle.lrpar_table_sentences.specs.Choices.{AreShortestChoices};
+ghost use Rattle.lrpar_table_sentences.specs.Reachable.{AreAllMarked, AreClosed, AreMarked, DecidesReach, HasAllMarks, HasMarkFor, IsFirstUnproductiveIfAny, IsMarkedSymbol, MarksMore, MarksOn, StayMarks, has_mark};
+ghost use Rattle.lrpar_table_sentences.specs.Choices.{AreSettled};
 
 use crate::settle::{Choice, choice_of};
 use lrpar_grammar::grammar::YaccGrammar;
@@ -44,8 +44,8 @@ impl Reachable {
 
     /// Whether the rule is reachable. No rule past the grammar's is.
     pub fn is_reachable<StorageT: StorageIndex>(&self, rule: RIdx<StorageT>) -> bool
-        ensures marked { result ≡ is_marked self.now (StorageT.index rule.0) }
-        ensures exact { (g : Grammar) → AreAllMarked g self.now → IsTrue result ↔ IsReachableRule g (StorageT.index rule.0) }
+        ensures marked { result ≡ has_mark StorageT.index self.now rule }
+        ensures exact { DecidesReach StorageT.index self.now rule result }
     {
         match self.marks.get(usize::from(rule)) {
             Some(mark) => *mark,
@@ -60,7 +60,7 @@ pub(crate) fn unproductive<StorageT: StorageIndex>(
     grm: &YaccGrammar<StorageT>,
     choices: &[Option<Choice<StorageT>>],
 ) -> Result<Option<RIdx<StorageT>>, AllocError>
-    requires shortest { AreShortestChoices StorageT.index grm.now choices.now }
+    requires { AreSettled StorageT.index grm.now choices.now }
     ensures { IfOk result (IsFirstUnproductiveIfAny StorageT.index grm.now) }
 {
     let marks = reachable_rules(alloc, grm)?;
@@ -73,7 +73,7 @@ fn first_unproductive<StorageT: StorageIndex>(
     choices: &[Option<Choice<StorageT>>],
     marks: &[bool],
 ) -> Option<RIdx<StorageT>>
-    requires shortest { AreShortestChoices StorageT.index grm.now choices.now }
+    requires rules { AreSettled StorageT.index grm.now choices.now }
     requires marks { AreAllMarked grm.now marks.now }
     ensures { IsFirstUnproductiveIfAny StorageT.index grm.now result }
 {
@@ -91,7 +91,7 @@ fn reachable_rules<StorageT: StorageIndex>(
     alloc: Global,
     grm: &YaccGrammar<StorageT>,
 ) -> Result<Vec<bool>, AllocError>
-    ensures { IfOk result (λ marks. AreAllMarked grm.now marks.items) }
+    ensures { IfOk result (HasAllMarks grm.now) }
 {
     let mut marks = added_rule(alloc, grm)?;
     'passes: while mark_all(grm, &mut marks) {}
@@ -116,7 +116,7 @@ fn mark_all<StorageT: StorageIndex>(grm: &YaccGrammar<StorageT>, marks: &mut [bo
     requires marks { AreMarked grm.now marks.old }
     ensures marks { AreMarked grm.now marks.new }
     ensures grown { OnTrue result (MarksMore marks.old marks.new) }
-    ensures closed { OnFalse result (AreClosedMarks grm.now marks.new) }
+    ensures closed { OnFalse result (AreClosed grm.now marks.new) }
 {
     let mut grown = false;
     for prod in 0..grm.prods_len() {

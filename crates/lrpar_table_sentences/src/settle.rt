@@ -2,9 +2,10 @@
 //! Algorithm'.
 ghost use Rattle.std.specs.Prelude.{◌≡◌, ◌<◌, IfOk, length};
 ghost use Rattle.lrpar_grammar.specs.Grammar.{prods_len, rules_len};
-ghost use Rattle.lrpar_table_sentences.specs.Choices.{RightSoFar, AreShortestChoices, IsChoiceFor, NoChoiceIsKept, choices_of};
+ghost use Rattle.lrpar_table_sentences.specs.Choices.{RightSoFar, AreSettled, IsChoiceFor, choices_of};
 ghost use Rattle.lrpar_table_sentences.specs.Lens.{IsLeastOpen, LeavesFewerOpen, NoneIsBelow, lesser_of, open_prod_len, symbol_len, symbols_len};
 
+use crate::kept::nothing_kept;
 use lrpar_grammar::grammar::YaccGrammar;
 use lrpar_grammar::span::{PIdx, RIdx, StorageIndex, Symbol};
 use std::alloc::{AllocError, Global};
@@ -21,27 +22,12 @@ pub(crate) fn settled<StorageT: StorageIndex>(
     alloc: Global,
     grm: &YaccGrammar<StorageT>,
 ) -> Result<Vec<Option<Choice<StorageT>>>, AllocError>
-    ensures { IfOk result (λ choices. AreShortestChoices StorageT.index grm.now choices.items) }
+    ensures { IfOk result (λ choices. AreSettled StorageT.index grm.now choices.items) }
 {
     let _start = grm.start_prod();
     let mut choices = nothing_kept(alloc, grm.rules_len())?;
     'levels: while let Some(len) = least_open(grm, &choices) {
         settle_all(grm, &mut choices, len);
-    }
-    Ok(choices)
-}
-
-// A list that has nothing for each of the rules.
-fn nothing_kept<StorageT: StorageIndex>(
-    alloc: Global,
-    rules: usize,
-) -> Result<Vec<Option<Choice<StorageT>>>, AllocError>
-    ensures len { IfOk result (λ choices. length choices.items ≡ rules) }
-    ensures none { IfOk result (λ choices. NoChoiceIsKept StorageT.index choices.items) }
-{
-    let mut choices = Vec::with_capacity(alloc, rules)?;
-    for _ in 0..rules {
-        choices.push(None)?;
     }
     Ok(choices)
 }

@@ -1,12 +1,13 @@
 //! Minimal access strings of the states of a table, settled in the order of their lengths.
-ghost use Rattle.std.specs.Prelude.{◌≡◌, ◌<◌, IfOk, Some, length, slice_set};
+ghost use Rattle.std.specs.Prelude.{◌≡◌, ◌<◌, IfOk, length};
 ghost use Rattle.lrpar_table_build.specs.Built.{IsBuilt};
 ghost use Rattle.lrpar_table_sentences.specs.Choices.{AreShortest};
-ghost use Rattle.lrpar_table_sentences.specs.AccessLens.{AccessesAreRight, AllAreSettled, AreSteps, FewerAreOpen, IsLeastOpenStep, LeadWithin, OnlyStartIsKept, StayRight, open_step_len};
-ghost use Rattle.lrpar_table_sentences.specs.AccessStrings.{AreAccesses, NoAccessIsKept};
+ghost use Rattle.lrpar_table_sentences.specs.AccessLens.{AccessesAreRight, AllAreSettled, AreSteps, FewerAreOpen, IsLeastOpenStep, KeepsAt, LeadWithin, OnlyStartIsKept, StayRight, open_step_len};
+ghost use Rattle.lrpar_table_sentences.specs.AccessStrings.{AreAccesses};
 
 use crate::back::access_to;
 use crate::edges::edges;
+use crate::kept::nothing_kept;
 use crate::settle::lesser;
 use crate::shortest::Shortest;
 use crate::transitions::{Access, Edge, Step};
@@ -65,21 +66,6 @@ fn start_kept<StorageT: StorageIndex>(
     Ok(accesses)
 }
 
-// A list that has nothing for each of the states.
-fn nothing_kept<StorageT: StorageIndex>(
-    alloc: Global,
-    states: usize,
-) -> Result<Vec<Option<Access<StorageT>>>, AllocError>
-    ensures len { IfOk result (λ accesses. length accesses.items ≡ states) }
-    ensures none { IfOk result (λ accesses. NoAccessIsKept StorageT.index accesses.items) }
-{
-    let mut accesses = Vec::with_capacity(alloc, states)?;
-    for _ in 0..states {
-        accesses.push(None)?;
-    }
-    Ok(accesses)
-}
-
 // The least length of an access string by a step to a state with nothing kept yet.
 fn least_open<StorageT: StorageIndex>(
     edges: &[Edge<StorageT>],
@@ -116,7 +102,7 @@ fn settle_all<StorageT: StorageIndex>(
     accesses: &mut [Option<Access<StorageT>>],
     len: usize,
 )
-    requires within { LeadWithin StorageT.index edges.now accesses.old }
+    requires { LeadWithin StorageT.index edges.now accesses.old }
     ensures right { StayRight StorageT.index edges.now accesses.old accesses.new len }
     ensures fewer { FewerAreOpen StorageT.index edges.now accesses.old accesses.new len }
 {
@@ -135,7 +121,7 @@ fn keep<StorageT: StorageIndex>(
     step: Step<StorageT>,
 )
     requires { state < length accesses.old }
-    ensures { accesses.new ≡ slice_set accesses.old state (Some (record { len = len; last = Some step })) }
+    ensures { KeepsAt state len step accesses.old accesses.new }
 {
     accesses[state] = Some(Access {
         len,

@@ -1,13 +1,9 @@
 //! Minimal sentences of rules and symbols, and their trees.
-ghost use Rattle.std.specs.Prelude.{◌≡◌, ◌↔◌, ◌∷◌, [], IfOk, IsTrue, OnOk, map};
-ghost use Rattle.std.specs.Option.{is_some};
-ghost use Rattle.lrpar_grammar.specs.Grammar.{Grammar};
-ghost use Rattle.lrpar_grammar.specs.Symbols.{symbol_of};
-ghost use Rattle.lrpar_table_sentences.specs.Choices.{AreShortest, IsMinimalLen, choice_at};
-ghost use Rattle.lrpar_table_sentences.specs.Lens.{len_at, total_len};
-ghost use Rattle.lrpar_table_sentences.specs.Reachable.{HasTree, IsFirstUnproductiveIfAny};
-ghost use Rattle.lrpar_table_sentences.specs.Texts.{HaveTrees};
-ghost use Rattle.lrpar_table_sentences.specs.Appended.{AppendsShortestTree, AppendsShortestTrees, AppendsTreesWith, CanStartWith};
+ghost use Rattle.std.specs.Prelude.{◌≡◌, IfOk, OnOk};
+ghost use Rattle.lrpar_table_sentences.specs.Choices.{AreShortest, AreShortestOf, DecidesTree, IsLenOf, IsLenOfAll, is_kept};
+ghost use Rattle.lrpar_table_sentences.specs.Lens.{len_by, len_by_all};
+ghost use Rattle.lrpar_table_sentences.specs.Reachable.{IsFirstUnproductiveIfAny};
+ghost use Rattle.lrpar_table_sentences.specs.Appended.{AppendsShortestTree, AppendsShortestTrees, AppendsTreesWith, CanStartWith, HasTreeOf, HaveTreesOf};
 
 use crate::descend::push_beginning;
 use crate::moves::Move;
@@ -49,7 +45,7 @@ impl<StorageT: StorageIndex> Shortest<StorageT> {
     /// productions: few in practice, and at most one more than there are rules. Memory grows with the rules. An `Err` comes if an
     /// allocation fails.
     pub fn new(alloc: Global, grm: &YaccGrammar<StorageT>) -> Result<Self, AllocError>
-        ensures { IfOk result (λ shortest. AreShortest grm.now usize.MAX shortest) }
+        ensures { IfOk result (AreShortestOf grm.now) }
     {
         let choices = settled(alloc, grm)?;
         Ok(Shortest { choices })
@@ -57,16 +53,16 @@ impl<StorageT: StorageIndex> Shortest<StorageT> {
 
     /// The number of tokens of a minimal sentence of the symbol, capped at `usize::MAX`; `None` if the symbol is unproductive.
     pub fn len_of(&self, symbol: Symbol<StorageT>) -> Option<usize>
-        ensures len { result ≡ len_at self.now (symbol_of StorageT.index symbol) }
-        ensures shortest { IsMinimalLen self.now (symbol_of StorageT.index symbol ∷ []) result }
+        ensures len { result ≡ len_by StorageT.index self.now symbol }
+        ensures shortest { IsLenOf StorageT.index self.now symbol result }
     {
         len_of(&self.choices, symbol)
     }
 
     /// Whether the rule is productive. No rule past the grammar's is.
     pub fn derives_text(&self, rule: RIdx<StorageT>) -> bool
-        ensures kept { result ≡ is_some (choice_at self.now (StorageT.index rule.0)) }
-        ensures exact { (g : Grammar) → AreShortest g usize.MAX self.now → IsTrue result ↔ HasTree g (StorageT.index rule.0) }
+        ensures kept { result ≡ is_kept StorageT.index self.now rule }
+        ensures exact { DecidesTree StorageT.index self.now rule result }
     {
         choice_of(&self.choices, rule).is_some()
     }
@@ -74,8 +70,8 @@ impl<StorageT: StorageIndex> Shortest<StorageT> {
     /// The number of tokens of a minimal sentence of the symbols, capped at `usize::MAX`; `None` if one of the symbols is
     /// unproductive.
     pub fn len_of_all(&self, symbols: &[Symbol<StorageT>]) -> Option<usize>
-        ensures len { result ≡ total_len usize.MAX self.now (map (symbol_of StorageT.index) symbols.now) }
-        ensures shortest { IsMinimalLen self.now (map (symbol_of StorageT.index) symbols.now) result }
+        ensures len { result ≡ len_by_all StorageT.index self.now symbols.now }
+        ensures shortest { IsLenOfAll StorageT.index self.now symbols.now result }
     {
         total_len(&self.choices, symbols)
     }
@@ -92,7 +88,7 @@ impl<StorageT: StorageIndex> Shortest<StorageT> {
         symbol: Symbol<StorageT>,
     ) -> Result<(), AllocError>
         requires shortest { AreShortest grm.now usize.MAX self.now }
-        requires some { HaveTrees grm.now (symbol_of StorageT.index symbol ∷ []) }
+        requires some { HasTreeOf StorageT.index grm.now symbol }
         ensures { OnOk result (AppendsShortestTree StorageT.index grm.now symbol out.old out.new) }
     {
         push_symbol(alloc, grm, &self.choices, out, symbol)
@@ -109,7 +105,7 @@ impl<StorageT: StorageIndex> Shortest<StorageT> {
         symbols: &[Symbol<StorageT>],
     ) -> Result<(), AllocError>
         requires shortest { AreShortest grm.now usize.MAX self.now }
-        requires some { HaveTrees grm.now (map (symbol_of StorageT.index) symbols.now) }
+        requires some { HaveTreesOf StorageT.index grm.now symbols.now }
         ensures { OnOk result (AppendsShortestTrees StorageT.index grm.now symbols.now out.old out.new) }
     {
         push_symbols(alloc, grm, &self.choices, out, symbols)

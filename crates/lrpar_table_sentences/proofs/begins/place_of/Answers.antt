@@ -1,8 +1,7 @@
-use Rattle.std.proofs.Common.{◌≤◌, arith, drop, length, map, true, false}
-use Rattle.std.proofs.lemmas.List.{drop_all, length-map}
-use Rattle.lrpar_grammar.specs.Symbols.{symbol_of}
+use Rattle.std.proofs.Common.{true, false}
 use Rattle.lrpar_table_sentences.specs.Choices.{choices_of}
 use Rattle.lrpar_table_sentences.specs.Starts.{starts_of}
+use Rattle.lrpar_table_sentences.proofs.LenLemmas.{symbols_done}
 use Rattle.lrpar_table_sentences.proofs.StartLemmas.{found_at, more_after, none_from, place_ends, zero_by}
 use Rattle.lrpar_table_sentences.proofs.begins.place_of.Goals as goal
 
@@ -29,8 +28,5 @@ loop-place-preserved g c =
 pub returns : goal.returns
 returns g c =
     let index = g.StorageT.StorageIndex.index in
-    let symbols = map (symbol_of index) c.args.symbols.now in
-    let i = c.loop-place.place in
-    let past : length symbols ≤ i = let count = length-map c.args.symbols.now (symbol_of index) in omega (arith, count, c.loop-place-test.false) in
-    place_ends (choices_of index c.args.choices.now) (starts_of index c.args.starts.now) (index c.args.first.0) i (drop i symbols) _ c.loop-place.invariant
-    (drop_all i symbols past)
+    place_ends (choices_of index c.args.choices.now) (starts_of index c.args.starts.now) (index c.args.first.0) c.loop-place.place _ _ c.loop-place.invariant
+    (symbols_done index c.args.symbols.now c.loop-place.place c.loop-place-test.false)

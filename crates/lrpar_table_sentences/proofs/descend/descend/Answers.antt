@@ -39,11 +39,11 @@ down-preserved g c =
     let p = index c.in-Some.start.prod.0 in
     let k = c.in-Some.start.place in
     let known = start_known grm choices first starts c.requires.kept.starts s (start_of index c.in-Some.start) (sym c.in-Some.ensures) in
-    let around = c.in-Some-around.ensures in
+    let around = c.in-Some-around.ensures.parts in
     let after = moves_in index c.push_symbols.new.out.items in
     let out = moves_in index c.down.out.items in
-    let at = around_at index c.prod.result.now (symbols_of grm p) k c.prod.ensures c.in-Some-around.next _ around.after in
-    let front = around_front index c.prod.result.now (symbols_of grm p) k c.prod.ensures c.in-Some-around.before.now around.before in
+    let at = around_at index c.prod.result.now (symbols_of grm p) k c.prod.ensures c.in-Some-around.next _ around.1 in
+    let front = around_front index c.prod.result.now (symbols_of grm p) k c.prod.ensures c.in-Some-around.before.now around.0 in
     let pushed = ap (frames_of index) c.in_ok-push.ensures.items ∙ frames_pushed index c.down.frames.items _ in (
       subst (All (IsFrameOf index grm)) (sym c.in_ok-push.ensures.items) (frames_known index grm c.down.frames.items _ c.down.invariant.0 known.0),
       subst (λ fs. Descending grm choices starts first (symbol_of index c.args.symbol) (frames_of index c.args.frames.now.items) (moves_in index c.args.out.now.items)

@@ -17,6 +17,6 @@ returns g c =
     let are = subst (λ xs. AreStarts grm choices first (starts_of index xs)) (sym c.deref.ensures.value) c.in_ok-starts.ensures.kept.starts in
     let closed = subst (λ xs. (p : ℕ) → p < prods_len grm → CanStart grm (2 ^ 64 - 1) choices first (starts_of index xs) p) (sym c.deref.ensures.value) c.in_ok-starts.ensures.closed in
     ok_more c.push_by.result _ _
-    (beginning grm (2 ^ 64 - 1) choices c.requires.shortest first (starts_of index c.deref.result.now) are closed (lit≤ tt) (map (symbol_of index) c.args.symbols.now)
+    (beginning grm (2 ^ 64 - 1) choices c.requires.rules first (starts_of index c.deref.result.now) are closed (lit≤ tt) (map (symbol_of index) c.args.symbols.now)
     (moves_in index c.args.out.now.items) (moves_in index c.push_by.new.out.items) c.requires.some)
     c.push_by.ensures

@@ -28,9 +28,9 @@ returns g c =
     let starts = starts_of index c.args.starts.now in
     let symbols = map (symbol_of index) c.args.symbols.now in
     let j = c.in-Some.place in
-    let around = c.in-Some-around.ensures in
-    let at = drop-map (symbol_of index) j c.args.symbols.now ∙ ap (map (symbol_of index)) around.after in
-    let front = around_front index c.args.symbols.now symbols j refl c.in-Some-around.before.now around.before in
+    let around = c.in-Some-around.ensures.parts in
+    let at = drop-map (symbol_of index) j c.args.symbols.now ∙ ap (map (symbol_of index)) around.1 in
+    let front = around_front index c.args.symbols.now symbols j refl c.in-Some-around.before.now around.0 in
     ok_more c.push_symbols-2.result _ _
     (λ last k trees place begun.
     let both = c.in-Some.ensures ∙ place in

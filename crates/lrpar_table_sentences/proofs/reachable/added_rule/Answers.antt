@@ -1,5 +1,5 @@
 use Rattle.std.proofs.Common.{◌∙◌, arith, ap, false, true, replicate, set, Bool, List}
-use Rattle.lrpar_grammar.specs.Grammar.{rule_of, rules_len, start_prod}
+use Rattle.lrpar_grammar.specs.Grammar.{rule_of}
 use Rattle.lrpar_table_sentences.proofs.ReachableLemmas.{added_marked}
 use Rattle.lrpar_table_sentences.proofs.reachable.added_rule.Goals as goal
 

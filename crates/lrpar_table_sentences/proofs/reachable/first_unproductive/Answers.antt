@@ -15,6 +15,6 @@ loop-rule-preserved g c =
     (λ reached.
     elim c.else-marks-rule.branch [
       | else-marks-rule-via-then-marks-rule+else-is_none w ↦
-          kept_by grm (2 ^ 64 - 1) (choices_of index c.args.choices.now) c.requires.shortest index w.choice_of.result (index c.unwrap.result) n w.choice_of.ensures at w.if-is_none.ensures
+          kept_by grm (2 ^ 64 - 1) (choices_of index c.args.choices.now) c.requires.rules index w.choice_of.result (index c.unwrap.result) n w.choice_of.ensures at w.if-is_none.ensures
       | else-marks-rule-via-else-marks-rule w ↦ not_reached grm c.args.marks.now c.requires.marks n w.if-marks-rule.false reached
     ])

@@ -1,17 +1,16 @@
 use Rattle.std.proofs.Common.{◌^◌, ◌-◌, ◌∙◌, sym, subst}
-use Rattle.std.proofs.lemmas.List.{length-map}
 use Rattle.lrpar_table_sentences.specs.Choices.{choice_of, choices_of}
 use Rattle.lrpar_table_sentences.specs.Lens.{NoneIsBelow, NoneIsLess, NoneIsOpen}
-use Rattle.std.specs.Option.{option_map}
-use Rattle.lrpar_table_sentences.proofs.SettleLemmas.{all_settled, none_is_below, right_none}
+use Rattle.lrpar_table_sentences.proofs.SettleLemmas.{all_settled, none_is_below, nothing_at, nothing_len, right_none}
 use Rattle.lrpar_table_sentences.proofs.settle.settled.Goals as goal
 
 pub levels-init : goal.levels-init
 levels-init g c =
     let index = g.StorageT.StorageIndex.index in
     let items = c.in_ok-choices.choices.items in
-    right_none c.args.grm.now (2 ^ 64 - 1) (choices_of index items)
-    (length-map items (option_map (choice_of index)) ∙ c.in_ok-choices.ensures.len ∙ c.rules_len.ensures.len) c.in_ok-choices.ensures.none
+    let none = c.in_ok-choices.ensures in
+    right_none c.args.grm.now (2 ^ 64 - 1) (choices_of index items) (nothing_len (choice_of index) _ items none ∙ c.rules_len.ensures.len)
+    (nothing_at (choice_of index) _ items none)
 
 pub settle_all-requires-clause-least : goal.settle_all-requires-clause-least
 settle_all-requires-clause-least g c =

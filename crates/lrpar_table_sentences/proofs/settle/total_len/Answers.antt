@@ -1,10 +1,9 @@
-use Rattle.std.proofs.Common.{◌≡◌, ◌≤◌, ◌+◌, ◌^◌, ◌-◌, ◌∙◌, arith, lit≤, sym, ap, [], Some, drop, length, map}
-use Rattle.std.proofs.lemmas.List.{drop_all, length-map}
+use Rattle.std.proofs.Common.{◌+◌, ◌^◌, ◌-◌, ◌∙◌, arith, lit≤, sym, ap, Some, drop, map}
 use Rattle.lrpar_grammar.specs.Symbols.{symbol_of}
 use Rattle.lrpar_table_first.proofs.RowLemmas.{symbols_from}
 use Rattle.lrpar_table_sentences.specs.Choices.{choices_of}
 use Rattle.lrpar_table_sentences.specs.Lens.{added, total_len}
-use Rattle.lrpar_table_sentences.proofs.LenLemmas.{total_ends, total_from_zero, total_more, total_stops}
+use Rattle.lrpar_table_sentences.proofs.LenLemmas.{symbols_done, total_ends, total_from_zero, total_more, total_stops}
 use Rattle.lrpar_table_sentences.proofs.settle.total_len.Goals as goal
 
 pub loop-symbol-init : goal.loop-symbol-init
@@ -38,9 +37,5 @@ returns-in-None g c =
 pub returns : goal.returns
 returns g c =
     let index = g.StorageT.StorageIndex.index in
-    let choices = choices_of index c.args.choices.now in
-    let symbols = map (symbol_of index) c.args.symbols.now in
-    let i = c.loop-symbol.symbol-index in
-    let past : length symbols ≤ i = let count = length-map c.args.symbols.now (symbol_of index) in omega (arith, count, c.loop-symbol-test.false) in
-    let none : drop i symbols ≡ [] = drop_all i symbols past in
-    total_ends (2 ^ 64 - 1) choices (drop i symbols) c.loop-symbol.len _ none c.loop-symbol.invariant.0 c.loop-symbol.invariant.1
+    total_ends (2 ^ 64 - 1) (choices_of index c.args.choices.now) _ c.loop-symbol.len _
+    (symbols_done index c.args.symbols.now c.loop-symbol.symbol-index c.loop-symbol-test.false) c.loop-symbol.invariant.0 c.loop-symbol.invariant.1

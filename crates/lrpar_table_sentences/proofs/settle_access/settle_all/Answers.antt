@@ -8,7 +8,7 @@ loop-edge-preserved g c =
     let index = g.StorageT.StorageIndex.index in
     elim c.if-eq.branch [
       | then-eq w ↦
-          let bound = c.requires.within c.loop-edge.edge-index c.edge-item.result c.loop-edge-test.true in
+          let bound = c.requires c.loop-edge.edge-index c.edge-item.result c.loop-edge-test.true in
           let same = ap (λ e. index e.next.0) c.edge-item.is in
           let kept = c.loop-edge.auto.accesses in
           accesses_settle index (2 ^ 64 - 1) c.args.len c.args.edges.now c.args.accesses.now c.loop-edge.accesses c.if-eq.accesses c.loop-edge.edge-index c.loop-edge.invariant
@@ -22,7 +22,7 @@ loop-edge-preserved g c =
 pub keep-requires : goal.keep-requires
 keep-requires g c =
     let index = g.StorageT.StorageIndex.index in
-    let bound = c.requires.within c.loop-edge.edge-index c.edge-item.result c.loop-edge-test.true in
+    let bound = c.requires c.loop-edge.edge-index c.edge-item.result c.loop-edge-test.true in
     let same = ap (λ e. index e.next.0) c.edge-item.is in
     let kept = c.loop-edge.auto.accesses in
     omega (arith, bound, same, kept, c.from.ensures)

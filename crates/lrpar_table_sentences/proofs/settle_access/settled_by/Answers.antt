@@ -1,10 +1,10 @@
-use Rattle.std.proofs.Common.{◌≡◌, ◌<◌, ◌^◌, ◌-◌, ◌∙◌, sym, ap, subst, arith, length}
+use Rattle.std.proofs.Common.{◌<◌, ◌^◌, ◌-◌, ◌∙◌, sym, ap, subst, arith, length}
 use Rattle.std.proofs.lemmas.List.{length-map}
 use Rattle.std.specs.Option.{option_map}
-use Rattle.lrpar_table_first.proofs.GrowthLemmas.{lent_back}
 use Rattle.lrpar_table_sentences.specs.AccessLens.{AreRightAccesses, HasOpenStep, NoStepIsLess, NoStepIsOpen, NoWalkIsBelow, edges_of, open_accesses}
 use Rattle.lrpar_table_sentences.specs.AccessStrings.{access_of, accesses_of}
 use Rattle.lrpar_table_sentences.proofs.AccessLemmas.{edges_within, no_walk_below, start_right}
+use Rattle.lrpar_table_sentences.proofs.GrowthLemmas.{whole_back}
 use Rattle.lrpar_table_sentences.proofs.settle_access.settled_by.Goals as goal
 
 pub levels-init : goal.levels-init
@@ -21,10 +21,8 @@ settle_all-requires g c =
     let lent = ap (λ xs. length xs) c.deref_mut.ensures.value in
     let long = length-map items (option_map (access_of index)) in
     let count = c.levels.invariant.states in
-    record {
-      within = edges_within index c.args.stable.now c.args.shortest.now c.args.edges.now (length c.deref_mut.result.now) c.states_len-states.ensures.closed c.requires.edges
-          (omega (arith, lent, long, count));
-    }
+    edges_within index c.args.stable.now c.args.shortest.now c.args.edges.now (length c.deref_mut.result.now) c.states_len-states.ensures.closed c.requires.edges
+    (omega (arith, lent, long, count))
 
 pub levels-smaller : goal.levels-smaller
 levels-smaller g c =
@@ -32,10 +30,7 @@ levels-smaller g c =
     let items = c.levels.accesses.items in
     let edges = edges_of index c.args.edges.now in
     let new = c.settle_all.new.accesses in
-    let full : c.levels.accesses.len ≡ length items = c.levels.accesses.ok.0 in
-    let lent = ap (λ xs. length xs) c.deref_mut.ensures.value in
-    let same : length new ≡ c.levels.accesses.len = c.settle_all.auto.accesses ∙ lent ∙ sym full in
-    let back = lent_back items new c.levels.accesses.len (sym full) same in
+    let back = whole_back items c.deref_mut.result.now new _ c.levels.accesses.ok.0 c.deref_mut.ensures.value c.settle_all.auto.accesses in
     let some = subst (λ xs. HasOpenStep (2 ^ 64 - 1) (accesses_of index xs) edges c.in-Some.len) (c.deref.ensures.value ∙ sym c.deref_mut.ensures.value) c.in-Some.ensures.0 in
     let less = subst (λ xs. open_accesses (accesses_of index new) < open_accesses (accesses_of index xs)) c.deref_mut.ensures.value (c.settle_all.ensures.fewer some) in
     subst (λ xs. open_accesses (accesses_of index xs) < open_accesses (accesses_of index items)) (sym back) less
@@ -48,10 +43,7 @@ levels-preserved g c =
     let items = c.levels.accesses.items in
     let edges = edges_of index c.args.edges.now in
     let new = c.settle_all.new.accesses in
-    let full : c.levels.accesses.len ≡ length items = c.levels.accesses.ok.0 in
-    let lent = ap (λ xs. length xs) c.deref_mut.ensures.value in
-    let same : length new ≡ c.levels.accesses.len = c.settle_all.auto.accesses ∙ lent ∙ sym full in
-    let back = lent_back items new c.levels.accesses.len (sym full) same in
+    let back = whole_back items c.deref_mut.result.now new _ c.levels.accesses.ok.0 c.deref_mut.ensures.value c.settle_all.auto.accesses in
     let less = subst (λ xs. NoStepIsLess (2 ^ 64 - 1) (accesses_of index xs) edges c.in-Some.len) c.deref.ensures.value c.in-Some.ensures.1 in
     let below = no_walk_below table (2 ^ 64 - 1) choices edges c.requires.edges (accesses_of index items) c.levels.invariant c.in-Some.len less in
     let right_lent = subst (λ xs. AreRightAccesses table (2 ^ 64 - 1) choices (accesses_of index xs)) (sym c.deref_mut.ensures.value) c.levels.invariant in

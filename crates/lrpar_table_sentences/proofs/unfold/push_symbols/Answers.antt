@@ -1,10 +1,10 @@
-use Rattle.std.proofs.Common.{◌≡◌, ◌≤◌, ◌+◌, arith, [], drop, length, map}
-use Rattle.std.proofs.lemmas.List.{drop_all, length-map}
+use Rattle.std.proofs.Common.{◌+◌, drop, map}
 use Rattle.lrpar_grammar.specs.Symbols.{symbol_of}
 use Rattle.lrpar_table_first.proofs.RowLemmas.{symbols_from}
 use Rattle.lrpar_table_sentences.specs.Choices.{choices_of}
 use Rattle.lrpar_table_sentences.specs.Moves.{moves_in}
 use Rattle.lrpar_table_sentences.proofs.FrameLemmas.{listing_ends, listing_goes}
+use Rattle.lrpar_table_sentences.proofs.LenLemmas.{symbols_done}
 use Rattle.lrpar_table_sentences.proofs.unfold.push_symbols.Goals as goal
 
 pub loop-symbol-preserved : goal.loop-symbol-preserved
@@ -20,9 +20,5 @@ loop-symbol-preserved g c =
 pub returns : goal.returns
 returns g c =
     let index = g.StorageT.StorageIndex.index in
-    let choices = choices_of index c.args.choices.now in
-    let symbols = map (symbol_of index) c.args.symbols.now in
-    let i = c.loop-symbol.symbol-index in
-    let past : length symbols ≤ i = let count = length-map c.args.symbols.now (symbol_of index) in omega (arith, count, c.loop-symbol-test.false) in
-    let none : drop i symbols ≡ [] = drop_all i symbols past in
-    listing_ends c.args.grm.now choices symbols (moves_in index c.args.out.now.items) (drop i symbols) (moves_in index c.loop-symbol.out.items) none c.loop-symbol.invariant
+    listing_ends c.args.grm.now (choices_of index c.args.choices.now) (map (symbol_of index) c.args.symbols.now) (moves_in index c.args.out.now.items) _
+    (moves_in index c.loop-symbol.out.items) (symbols_done index c.args.symbols.now c.loop-symbol.symbol-index c.loop-symbol-test.false) c.loop-symbol.invariant

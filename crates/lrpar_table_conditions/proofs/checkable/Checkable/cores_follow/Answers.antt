@@ -5,31 +5,21 @@ use Rattle.lrpar_grammar.specs.Symbols.{symbol_of}
 use Rattle.lrpar_table_rows.specs.Graph.{HasCore}
 use Rattle.lrpar_table_rows.proofs.GraphLemmas.{all_begun}
 use Rattle.lrpar_table_rows.proofs.TestLemmas.{accepted, each_more, refused}
-use Rattle.lrpar_table_conditions.proofs.CoreLemmas.{begun_read, core_in_shape, cores_follow_each}
+use Rattle.lrpar_table_conditions.proofs.CoreLemmas.{begun_known_read, begun_read, cores_follow_each}
 use Rattle.lrpar_table_conditions.proofs.checkable.Checkable.cores_follow.Goals as goal
 
 pub core_follows-requires-clause-prod : goal.core_follows-requires-clause-prod
 core_follows-requires-clause-prod g c =
-    let index = g.StorageT.StorageIndex.index in
-    let has =
-    begun_read index c.args.self.now.sgraph.now (index c.args.next.0) c.begun_cores-pidx-items.result.now c.loop-pidx.pidx-index c.loop-pidx-item.result
-    c.begun_cores-pidx-items.ensures.all c.loop-pidx-test.true c.loop-pidx-item.is in
-    (core_in_shape c.args.self.now.grm.now c.args.self.now.sgraph.now c.args.self.now.stable.now _ _ _ c.requires.shape has).0
+    (begun_known_read g.StorageT.StorageIndex.index _ _ _ _ _ _ _ c.requires.shape c.begun_cores-pidx-items.ensures.all c.loop-pidx-test.true c.loop-pidx-item.is).0
 
 pub core_follows-requires-clause-dot : goal.core_follows-requires-clause-dot
 core_follows-requires-clause-dot g c =
-    let index = g.StorageT.StorageIndex.index in
-    let has =
-    begun_read index c.args.self.now.sgraph.now (index c.args.next.0) c.begun_cores-pidx-items.result.now c.loop-pidx.pidx-index c.loop-pidx-item.result
-    c.begun_cores-pidx-items.ensures.all c.loop-pidx-test.true c.loop-pidx-item.is in
-    (core_in_shape c.args.self.now.grm.now c.args.self.now.sgraph.now c.args.self.now.stable.now _ _ _ c.requires.shape has).1
+    (begun_known_read g.StorageT.StorageIndex.index _ _ _ _ _ _ _ c.requires.shape c.begun_cores-pidx-items.ensures.all c.loop-pidx-test.true c.loop-pidx-item.is).1
 
 pub returns-then-not-core_follows : goal.returns-then-not-core_follows
 returns-then-not-core_follows g c =
     let index = g.StorageT.StorageIndex.index in
-    let has =
-    begun_read index c.args.self.now.sgraph.now (index c.args.next.0) c.begun_cores-pidx-items.result.now c.loop-pidx.pidx-index c.loop-pidx-item.result
-    c.begun_cores-pidx-items.ensures.all c.loop-pidx-test.true c.loop-pidx-item.is in
+    let has = begun_read index c.args.self.now.sgraph.now (index c.args.next.0) _ _ _ c.begun_cores-pidx-items.ensures.all c.loop-pidx-test.true c.loop-pidx-item.is in
     let each =
     cores_follow_each c.args.self.now.grm.now c.args.self.now.sgraph.now (index c.args.s.0) (symbol_of index c.args.symbol) (index c.args.next.0) in
     refused (λ follow. iff_false c.core_follows.ensures c.if-not-core_follows.true (each.1 follow _ _ has))

@@ -5,26 +5,20 @@ use Rattle.lrpar_table_rows.specs.Graph.{HasCore}
 use Rattle.lrpar_table_rows.specs.Table.{goto_of}
 use Rattle.lrpar_table_rows.proofs.GraphLemmas.{all_cores}
 use Rattle.lrpar_table_rows.proofs.TestLemmas.{accepted, each_more, refused}
-use Rattle.lrpar_table_conditions.proofs.CoreLemmas.{core_in_shape, core_read}
+use Rattle.lrpar_table_conditions.proofs.CoreLemmas.{core_known_read, core_read}
 use Rattle.lrpar_table_conditions.proofs.checkable.Checkable.goes_by_rules.Goals as goal
 use Rattle.lrpar_table_conditions.proofs.checkable.Checkable.goes_by_rules.Goals.{else-dot-eq0-via-then-dot-eq0+else-not-goes_by_rule_of, else-dot-eq0-via-else-dot-eq0}
 
 pub goes_by_rule_of-requires-clause-prod : goal.goes_by_rule_of-requires-clause-prod
 goes_by_rule_of-requires-clause-prod g c =
-    let index = g.StorageT.StorageIndex.index in
-    let has =
-    core_read index c.args.self.now.sgraph.now (index c.args.s.0) c.cores-pidx-items.result.now c.loop-pidx.pidx-index c.loop-pidx-item.result
-    c.cores-pidx-items.ensures.all c.loop-pidx-test.true c.loop-pidx-item.is in
-    (core_in_shape c.args.self.now.grm.now c.args.self.now.sgraph.now c.args.self.now.stable.now _ _ _ c.requires.shape has).0
+    (core_known_read g.StorageT.StorageIndex.index _ _ _ _ _ _ _ c.requires.shape c.cores-pidx-items.ensures.all c.loop-pidx-test.true c.loop-pidx-item.is).0
 
 pub returns-then-not-goes_by_rule_of : goal.returns-then-not-goes_by_rule_of
 returns-then-not-goes_by_rule_of g c =
     let index = g.StorageT.StorageIndex.index in
-    let has =
-    core_read index c.args.self.now.sgraph.now (index c.args.s.0) c.cores-pidx-items.result.now c.loop-pidx.pidx-index c.loop-pidx-item.result
-    c.cores-pidx-items.ensures.all c.loop-pidx-test.true c.loop-pidx-item.is in
     let first =
-    subst (λ (k : ℕ). HasCore c.args.self.now.sgraph.now (index c.args.s.0) (index c.loop-pidx-item.result.0.0) k) c.if-dot-eq0.true has in
+    subst (λ (k : ℕ). HasCore c.args.self.now.sgraph.now (index c.args.s.0) (index c.loop-pidx-item.result.0.0) k) c.if-dot-eq0.true
+    (core_read index c.args.self.now.sgraph.now (index c.args.s.0) _ _ _ c.cores-pidx-items.ensures.all c.loop-pidx-test.true c.loop-pidx-item.is) in
     refused (λ goes. iff_false c.goes_by_rule_of.ensures c.if-not-goes_by_rule_of.true (goes _ first))
 
 pub loop-pidx-preserved : goal.loop-pidx-preserved

@@ -1,21 +1,14 @@
-use Rattle.std.proofs.Common.{◌≡◌, arith}
+use Rattle.std.proofs.Common.{◌≡◌, rules, tests}
+use Rattle.std.proofs.lemmas.Iterator.{YieldsList-from_slice}
 use Rattle.lrpar_table_rows.proofs.GraphLemmas.{all_cores}
-use Rattle.lrpar_table_rows.proofs.TestLemmas.{accepted, refused}
-use Rattle.lrpar_table_conditions.proofs.CoreLemmas.{core_read}
+use Rattle.lrpar_table_conditions.proofs.AllTests.{all_decided, reworded}
 use Rattle.lrpar_table_conditions.proofs.checkable.Checkable.starts_fresh.Goals as goal
 
-pub returns-then-dot-ne0 : goal.returns-then-dot-ne0
-returns-then-dot-ne0 g c =
+pub returns-else-not-is_start : goal.returns-else-not-is_start
+returns-else-not-is_start g c =
     let index = g.StorageT.StorageIndex.index in
-    let start : index c.args.s.0 ≡ c.args.self.now.stable.now.start = cc in
-    let has =
-    core_read index c.args.self.now.sgraph.now (index c.args.s.0) c.cores-dot-items.result.now c.loop-dot.dot-index c.loop-dot-item.result
-    c.cores-dot-items.ensures.all c.loop-dot-test.true c.loop-dot-item.is in
-    refused (λ fresh. c.if-dot-ne0.true (fresh start _ _ has))
-
-pub returns : goal.returns
-returns g c =
-    let index = g.StorageT.StorageIndex.index in
-    accepted (λ start.
-    (all_cores index (λ p k. k ≡ 0) c.args.self.now.sgraph.now (index c.args.s.0) c.cores-dot-items.result.now c.cores-dot-items.ensures.all).0
-    (λ k d below. c.loop-dot.invariant k d (omega arith)))
+    let cores = c.cores.result.now in
+    let fresh = all_cores index (λ p k. k ≡ 0) c.args.self.now.sgraph.now (index c.args.s.0) cores c.cores.ensures.all in
+    reworded c.all.result
+    (all_decided (λ x. x.1 ≡ 0) _ _ c.all.result c.all.ensures.ran (YieldsList-from_slice cores cc) (λ x b q k. search (rules, tests)))
+    (λ all start. fresh.0 all, λ holds. fresh.1 (holds (c.is_start.ensures.0 c.if-not-is_start.false)))

@@ -5,14 +5,10 @@ use Rattle.lrpar_table_conditions.proofs.ItemwiseLemmas.{each_of_kind, no_rule_a
 use Rattle.lrpar_table_conditions.proofs.completeness_test.Completeness.carries_core.Goals as goal
 
 pub rule_after-requires-clause-prod : goal.rule_after-requires-clause-prod
-rule_after-requires-clause-prod g c =
-    let index = g.StorageT.StorageIndex.index in
-    (core_known index c.args.self.now c.args.s c.args.pidx c.args.dot c.requires.known c.requires.core).0
+rule_after-requires-clause-prod g c = (core_known g.StorageT.StorageIndex.index c.args.self.now c.args.s c.args.pidx c.args.dot c.requires.known c.requires.core).0
 
 pub rule_after-requires-clause-dot : goal.rule_after-requires-clause-dot
-rule_after-requires-clause-dot g c =
-    let index = g.StorageT.StorageIndex.index in
-    (core_known index c.args.self.now c.args.s c.args.pidx c.args.dot c.requires.known c.requires.core).1
+rule_after-requires-clause-dot g c = (core_known g.StorageT.StorageIndex.index c.args.self.now c.args.s c.args.pidx c.args.dot c.requires.known c.requires.core).1
 
 pub goes_to-requires-clause-rule : goal.goes_to-requires-clause-rule
 goes_to-requires-clause-rule g c =

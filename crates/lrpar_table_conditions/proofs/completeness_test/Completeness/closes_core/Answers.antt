@@ -9,14 +9,10 @@ use Rattle.lrpar_table_conditions.proofs.ItemwiseLemmas.{closed_core, nothing_to
 use Rattle.lrpar_table_conditions.proofs.completeness_test.Completeness.closes_core.Goals as goal
 
 pub rule_after-requires-clause-prod : goal.rule_after-requires-clause-prod
-rule_after-requires-clause-prod g c =
-    let index = g.StorageT.StorageIndex.index in
-    (core_known index c.args.self.now c.args.s c.args.pidx c.args.dot c.requires.known c.requires.core).0
+rule_after-requires-clause-prod g c = (core_known g.StorageT.StorageIndex.index c.args.self.now c.args.s c.args.pidx c.args.dot c.requires.known c.requires.core).0
 
 pub rule_after-requires-clause-dot : goal.rule_after-requires-clause-dot
-rule_after-requires-clause-dot g c =
-    let index = g.StorageT.StorageIndex.index in
-    (core_known index c.args.self.now c.args.s c.args.pidx c.args.dot c.requires.known c.requires.core).1
+rule_after-requires-clause-dot g c = (core_known g.StorageT.StorageIndex.index c.args.self.now c.args.s c.args.pidx c.args.dot c.requires.known c.requires.core).1
 
 pub returns-in-Some-clause-test : goal.returns-in-Some-clause-test
 returns-in-Some-clause-test g c =

@@ -4,14 +4,11 @@ use Rattle.lrpar_table_conditions.proofs.completeness_test.Completeness.take_sta
 
 pub bounds-starts-prod : goal.bounds-starts-prod
 bounds-starts-prod g c =
-    let index = g.StorageT.StorageIndex.index in
-    let within = start_of_core index c.args.self.now c.args.s c.args.pidx c.args.dot c.args.starts.now c.from-prod.result c.requires.known c.requires.core c.requires.room c.from-prod.ensures in
-    within
+    start_of_core g.StorageT.StorageIndex.index c.args.self.now c.args.s c.args.pidx c.args.dot c.args.starts.now c.from-prod.result c.requires.known c.requires.core c.requires.room c.from-prod.ensures
 
 pub offset_bounds-starts-prod : goal.offset_bounds-starts-prod
 offset_bounds-starts-prod g c =
-    let index = g.StorageT.StorageIndex.index in
-    let within : c.from-prod.result < length c.args.starts.now = start_of_core index c.args.self.now c.args.s c.args.pidx c.args.dot c.args.starts.now c.from-prod.result c.requires.known c.requires.core c.requires.room c.from-prod.ensures in
+    let within : c.from-prod.result < length c.args.starts.now = bounds-starts-prod g c in
     search rules
 
 pub returns-then-dot-eq0-clause-room : goal.returns-then-dot-eq0-clause-room

@@ -9,9 +9,7 @@ loop-pidx-init g c = (c.requires.room, λ q t h. (h, λ n d below. absurd (omega
 
 pub take_start-requires-clause-core : goal.take_start-requires-clause-core
 take_start-requires-clause-core g c =
-    let index = g.StorageT.StorageIndex.index in
-    core_read index c.args.self.now.sgraph.now (index c.args.s.0) c.cores-pidx-items.result.now c.loop-pidx.pidx-index c.loop-pidx-item.result
-    c.cores-pidx-items.ensures.all c.loop-pidx-test.true c.loop-pidx-item.is
+    core_read g.StorageT.StorageIndex.index c.args.self.now.sgraph.now (g.StorageT.StorageIndex.index c.args.s.0) _ _ _ c.cores-pidx-items.ensures.all c.loop-pidx-test.true c.loop-pidx-item.is
 
 pub loop-pidx-preserved : goal.loop-pidx-preserved
 loop-pidx-preserved g c =

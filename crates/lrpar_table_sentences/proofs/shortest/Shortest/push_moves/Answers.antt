@@ -1,20 +1,17 @@
-use Rattle.std.proofs.Common.{◌≡◌, ◌≤◌, ◌^◌, ◌-◌, arith, length, subst, rules}
-use Rattle.std.proofs.lemmas.List.{length-map}
+use Rattle.std.proofs.Common.{◌≡◌, ◌^◌, ◌-◌, arith, subst, rules}
 use Rattle.lrpar_grammar.specs.Symbols.{symbol_of}
 use Rattle.lrpar_table_sentences.specs.Choices.{AreShortest, choices_of}
-use Rattle.lrpar_table_sentences.specs.Moves.{move_of, moves_in}
+use Rattle.lrpar_table_sentences.specs.Moves.{moves_in}
 use Rattle.lrpar_table_sentences.proofs.FrameLemmas.{ok_more}
-use Rattle.lrpar_table_sentences.proofs.PushLemmas.{pushed_one}
+use Rattle.lrpar_table_sentences.proofs.PushLemmas.{moves_low, pushed_one}
 use Rattle.lrpar_table_sentences.proofs.shortest.Shortest.push_moves.Goals as goal
 
 pub returns : goal.returns
 returns g c =
     let index = g.StorageT.StorageIndex.index in
-    let choices = choices_of index c.deref.result.now in
-    let is : c.args.self.now ≡ choices = search rules in
+    let is : c.args.self.now ≡ choices_of index c.deref.result.now = search rules in
     let out = c.push_symbol.new.out in
-    let long : length (moves_in index out.items) ≤ 2 ^ 64 - 1 = omega (arith, length-map out.items (move_of index), out.ok.0, out.ok.1, out.small) in
     ok_more c.push_symbol.result _ _
-    (pushed_one c.args.grm.now (2 ^ 64 - 1) choices (subst (AreShortest c.args.grm.now (2 ^ 64 - 1)) is c.requires.shortest) (symbol_of index c.args.symbol)
-    (moves_in index c.args.out.now.items) (moves_in index out.items) c.requires.some long)
+    (pushed_one c.args.grm.now (2 ^ 64 - 1) _ (subst (AreShortest c.args.grm.now (2 ^ 64 - 1)) is c.requires.shortest) (symbol_of index c.args.symbol)
+    (moves_in index c.args.out.now.items) (moves_in index out.items) c.requires.some (moves_low index out.items _ (omega (arith, out.ok.0, out.ok.1, out.small))))
     c.push_symbol.ensures
