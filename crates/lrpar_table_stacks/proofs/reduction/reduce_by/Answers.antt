@@ -1,4 +1,4 @@
-use Rattle.std.proofs.Common.{◌<◌, ◌∙◌, ap, length, refl, subst, sym, ℕ}
+use Rattle.std.proofs.Common.{◌<◌, length, refl, subst, sym, ℕ}
 use Rattle.lrpar_grammar.specs.Grammar.{prod_len, rule_of, symbols_of}
 use Rattle.lrpar_grammar.specs.Symbols.{symbol_of}
 use Rattle.lrpar_table_rows.specs.Table.{states_len}

@@ -1,4 +1,3 @@
-use Rattle.std.proofs.Common.{sym}
 use Rattle.lrpar_table_stacks.proofs.SettleLemmas.{on_err_always}
 use Rattle.lrpar_grammar_places.proofs.FaultLemmas.{no_value}
 use Rattle.lrpar_table_stacks.proofs.StepLemmas.{fails_step, reduces_where_can, takes_step, top_reduction}
