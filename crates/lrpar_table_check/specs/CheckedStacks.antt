@@ -12,7 +12,6 @@ use Rattle.lrpar_table_stacks.specs.Settled.{IsFedBy, IsSettledBy, IsShiftShortO
 use Rattle.lrpar_table_stacks.specs.Stack.{IsStack, states_of}
 use Rattle.lrpar_table_stacks.specs.StackReduction.{IsStackFedBy, IsStackSettledBy, IsStackShiftShortOfMemory, IsStackShortOfMemory}
 use Rattle.lrpar_table_stacks.specs.declared.state_stack.Settled.{Settled}
-use Rattle.lrpar_table_stacks.specs.declared.state_stack.ShiftStack as shifting
 use Rattle.lrpar_table_stacks.specs.declared.state_stack.StateStack as stacks
 use Rattle.lrpar_table_check.specs.Checked.{Checked}
 
@@ -89,19 +88,19 @@ module _ {X S : Type 0} (index : S → ℕ) (kind : stacks.Ghosts X S) (d : Chec
   abbrev pub FailsToSettle : {T E : Type 0} → Result T E → Type 0
   FailsToSettle result = OnErr result (IsStackShortOfMemory kind.states kind.reduces kind.fails d.grammar d.table (index t.0) old new)
 
--- and those onto which shifts push
-module _ {X S : Type 0} (index : S → ℕ) (kind : shifting.Ghosts X S) (d : Checked) (t : TIdx S) (old new : X) where
+-- those onto which shifts push: the relations `reduces` and `shifts` say what a reduction and a shift do to the rest
+module _ {X S : Type 0} (index : S → ℕ) (states : X → List ℕ) (reduces : X → ℕ → ℕ → ℕ → X → Type 0) where
   -- if nothing failed, then at the token the stack made all reductions, and then shifted the token; or its top doesn't shift it
-  abbrev pub FeedsStack : {E : Type 0} → Result Bool E → Type 0
-  FeedsStack result =
-      IfOk result (λ shifted. IsStackFedBy kind.states kind.reduces kind.shifts d.grammar d.table d.cap (index t.0) old shifted new)
+  abbrev pub FeedsStack : {E : Type 0} → (X → X → Type 0) → Checked → TIdx S → X → X → Result Bool E → Type 0
+  FeedsStack shifts d t old new result =
+      IfOk result (λ shifted. IsStackFedBy states reduces shifts d.grammar d.table d.cap (index t.0) old shifted new)
 
-  -- an allocation failed only for a reduction at the token, or for the shift after all of them
-  abbrev pub FailsToFeed : {T E : Type 0} → Result T E → Type 0
-  FailsToFeed result =
+  -- if an allocation failed, then it was for a reduction at the token, or for the shift after all of them
+  abbrev pub FailsToFeed : {T E : Type 0} → (X → ℕ → X → Type 0) → (X → X → Type 0) → Checked → TIdx S → X → X → Result T E → Type 0
+  FailsToFeed fails shift_fails d t old new result =
       OnErr result
-      (IsStackShortOfMemory kind.states kind.reduces kind.fails d.grammar d.table (index t.0) old new
-      ⊎ IsStackShiftShortOfMemory kind.states kind.reduces kind.shift_fails d.grammar d.table d.cap (index t.0) old new)
+      (IsStackShortOfMemory states reduces fails d.grammar d.table (index t.0) old new
+      ⊎ IsStackShiftShortOfMemory states reduces shift_fails d.grammar d.table d.cap (index t.0) old new)
 
 -- the action in `done` is that of the top of these states at the token
 abbrev pub IsTopAction : {S : Type 0} → (S → ℕ) → Table → TIdx S → List ℕ → Settled S → Type 0

@@ -112,10 +112,10 @@ impl<StorageT: StorageIndex> ParserData<StorageT> {
         requires token { IsTokenOf StorageT.index self.now t }
 
         // The token was shifted after all reductions, or the top doesn't shift it.
-        ensures fed { FeedsStack StorageT.index S.ShiftStack self.now t stack.old stack.new result }
+        ensures fed { FeedsStack StorageT.index S.states S.reduces S.shifts self.now t stack.old stack.new result }
 
         // An allocation failed in a reduction, or in the shift after all of them.
-        ensures short_of_memory { FailsToFeed StorageT.index S.ShiftStack self.now t stack.old stack.new result }
+        ensures short_of_memory { FailsToFeed StorageT.index S.states S.reduces S.fails S.shift_fails self.now t stack.old stack.new result }
 
         // It is a stack in each case.
         ensures stack { IsStackOf self.now (S.states stack.new) }

@@ -52,16 +52,14 @@ returns-in_ok-reduce-in-Some-clause-made g c =
 pub reduce-requires-clause-can : goal.reduce-requires-clause-can
 reduce-requires-clause-can g c =
     let index = g.StorageT.StorageIndex.index in
-    let kind = g.S.StateStack in
-    let grm = c.args.grm.now in
-    let p = index c.args.prod.0 in
-    let len = length_by_image (symbol_of index) c.prod-symbols.result.now (symbols_of grm p) c.prod-symbols.ensures in
+    let Can : ℕ → ℕ → Type 0 = g.S.StateStack.can_reduce c.args.states.now (index c.args.prod.0) in
     let goto =
-    left_goto index grm _ _ _ _ _ _ _ _ _ c.prod-symbols.ensures c.height-height.ensures c.if-height-symbols.false c.state_at.ensures
+    left_goto index c.args.grm.now _ _ _ _ _ _ _ _ _ c.prod-symbols.ensures c.height-height.ensures c.if-height-symbols.false c.state_at.ensures
     c.prod_to_rule-rule.ensures.rule c.goto.ensures.goto c.in-Some.is in
-    let can = c.requires.can (goto.0, (index c.in-Some.next.0, goto.1)) in
-    subst (λ (n : ℕ). kind.can_reduce c.args.states.now p (index c.prod_to_rule-rule.result.0) n) (sym len)
-    (subst (λ (r : ℕ). kind.can_reduce c.args.states.now p r (prod_len grm p)) (sym c.prod_to_rule-rule.ensures.rule) can)
+    let len = length_by_image (symbol_of index) c.prod-symbols.result.now (symbols_of c.args.grm.now (index c.args.prod.0)) c.prod-symbols.ensures in
+    subst (λ (n : ℕ). Can (index c.prod_to_rule-rule.result.0) n) (sym len)
+    (subst (λ (r : ℕ). Can r (prod_len c.args.grm.now (index c.args.prod.0))) (sym c.prod_to_rule-rule.ensures.rule)
+    (c.requires.can (goto.0, (index c.in-Some.next.0, goto.1))))
 
 pub returns-then-height-symbols-clause-made : goal.returns-then-height-symbols-clause-made
 returns-then-height-symbols-clause-made g c =

@@ -110,18 +110,10 @@ loop-place-preserved g c =
 
 pub returns-clause-longest : goal.returns-clause-longest
 returns-clause-longest g c =
-    let index = g.StorageT.StorageIndex.index in
-    let d = c.args.self.now in
-    let at = c.actions_of.ensures in
-    chain_longest index d.grm.now d.stable.now d.cap c.args.s c.unwrap_or-top.result c.args.above c.unwrap_or-top.ensures c.args.from
-    c.actions_of.result.0.now c.actions_of.result.1.now at.entries at.actions c.loop-place.place c.loop-place.longest c.loop-place.row c.loop-place-test.false
-    c.loop-place.invariant
+    chain_longest g.StorageT.StorageIndex.index _ _ _ c.args.s _ _ c.unwrap_or-top.ensures _ _ _ c.actions_of.ensures.entries c.actions_of.ensures.actions _ _ _
+    c.loop-place-test.false c.loop-place.invariant
 
 pub returns-clause-row : goal.returns-clause-row
 returns-clause-row g c =
-    let index = g.StorageT.StorageIndex.index in
-    let d = c.args.self.now in
-    let at = c.actions_of.ensures in
-    chain_lengths index d.grm.now d.stable.now d.cap c.args.s c.unwrap_or-top.result c.args.above c.unwrap_or-top.ensures c.args.from
-    c.actions_of.result.0.now c.actions_of.result.1.now at.entries at.actions c.loop-place.place c.loop-place.longest c.loop-place.row c.loop-place-test.false
-    c.loop-place.invariant
+    chain_lengths g.StorageT.StorageIndex.index _ _ _ c.args.s _ _ c.unwrap_or-top.ensures _ _ _ c.actions_of.ensures.entries c.actions_of.ensures.actions _ _ _
+    c.loop-place-test.false c.loop-place.invariant

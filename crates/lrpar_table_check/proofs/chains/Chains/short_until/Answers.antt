@@ -20,7 +20,8 @@ pub is_long_from-requires-clause-token : goal.is_long_from-requires-clause-token
 is_long_from-requires-clause-token g c =
     let at = c.actions_of.ensures in
     let entry =
-    row_entry g.StorageT.StorageIndex.index _ _ _ c.args.s _ _ c.unwrap_or-top.ensures _ _ at.entries at.actions at.exact _ c.loop-place.invariant at.ascending
+    row_entry g.StorageT.StorageIndex.index c.args.self.now.grm.now c.args.self.now.stable.now c.args.self.now.cap c.args.s c.unwrap_or-top.result
+    c.args.above c.unwrap_or-top.ensures _ _ at.entries at.actions at.exact _ c.loop-place.invariant at.ascending
     at.within _ _ c.loop-place-test.true c.index-tokens-place.is c.index-actions-place.is in
     entry.within
 

@@ -24,51 +24,43 @@ most_fit cap height most made small short is below =
 
 pub overflow_add-count : goal.overflow_add-count
 overflow_add-count g c =
-    let kind = g.S.StateStack in
-    let d = c.args.self.now in
     let more =
-    one_more g.StorageT.StorageIndex.index kind d c.stable-table.ensures.checked c.stable-table.ensures.runs c.stable-table.ensures.bounds c.args.t
-    c.requires.token c.args.stack.now c.reductions.stack c.take_step.new.states c.reductions.count _ _ c.requires.stack c.reductions.invariant.stack
-    c.reductions.invariant.made (rw (c.grm-grm.ensures, c.stable-table.ensures.table) at c.in_ok-step.ensures.taken) c.in-Reduced.is in
-    let height = length (kind.states c.args.stack.now) in
+    one_more g.StorageT.StorageIndex.index g.S.StateStack c.args.self.now c.stable-table.ensures.checked c.stable-table.ensures.runs c.stable-table.ensures.bounds
+    c.args.t c.requires.token c.args.stack.now c.reductions.stack c.take_step.new.states c.reductions.count _ _ c.requires.stack
+    c.reductions.invariant.stack c.reductions.invariant.made (rw (c.grm-grm.ensures, c.stable-table.ensures.table) at c.in_ok-step.ensures.taken) c.in-Reduced.is in
+    let height = length (g.S.StateStack.states c.args.stack.now) in
     let small = subst (λ (n : ℕ). n < 2 ^ 16) c.cap-cap.ensures c.cap-cap.type_inv in
     let short = subst (λ (n : ℕ). n < 2 ^ 64) c.height-height.ensures c.height-height.type_inv in
-    let fits : c.reductions.count + 1 < 2 ^ 128 = most_fit d.cap height (most_reductions d.cap height) c.reductions.count small short refl more.below in
+    let fits : c.reductions.count + 1 < 2 ^ 128 = most_fit c.args.self.now.cap height (most_reductions c.args.self.now.cap height) c.reductions.count small short refl more.below in
     search rules
 
 pub reductions-smaller : goal.reductions-smaller
 reductions-smaller g c =
-    let kind = g.S.StateStack in
-    let d = c.args.self.now in
     let more =
-    one_more g.StorageT.StorageIndex.index kind d c.stable-table.ensures.checked c.stable-table.ensures.runs c.stable-table.ensures.bounds c.args.t
-    c.requires.token c.args.stack.now c.reductions.stack c.take_step.new.states c.reductions.count _ _ c.requires.stack c.reductions.invariant.stack
-    c.reductions.invariant.made (rw (c.grm-grm.ensures, c.stable-table.ensures.table) at c.in_ok-step.ensures.taken) c.in-Reduced.is in
-    left_to_make (most_reductions d.cap (length (kind.states c.args.stack.now))) c.reductions.count (c.reductions.count + 1) more.below refl
+    one_more g.StorageT.StorageIndex.index g.S.StateStack c.args.self.now c.stable-table.ensures.checked c.stable-table.ensures.runs c.stable-table.ensures.bounds
+    c.args.t c.requires.token c.args.stack.now c.reductions.stack c.take_step.new.states c.reductions.count _ _ c.requires.stack
+    c.reductions.invariant.stack c.reductions.invariant.made (rw (c.grm-grm.ensures, c.stable-table.ensures.table) at c.in_ok-step.ensures.taken) c.in-Reduced.is in
+    left_to_make (most_reductions c.args.self.now.cap (length (g.S.StateStack.states c.args.stack.now))) c.reductions.count (c.reductions.count + 1) more.below refl
 
 pub reductions-preserved : goal.reductions-preserved
 reductions-preserved g c =
-    let kind = g.S.StateStack in
-    let d = c.args.self.now in
     let more =
-    one_more g.StorageT.StorageIndex.index kind d c.stable-table.ensures.checked c.stable-table.ensures.runs c.stable-table.ensures.bounds c.args.t
-    c.requires.token c.args.stack.now c.reductions.stack c.take_step.new.states c.reductions.count _ _ c.requires.stack c.reductions.invariant.stack
-    c.reductions.invariant.made (rw (c.grm-grm.ensures, c.stable-table.ensures.table) at c.in_ok-step.ensures.taken) c.in-Reduced.is in
-    let suits = g.met.S.StateStack.reduced_suits d.grammar d.table _ c.reductions.stack more.prod c.take_step.new.states c.reductions.invariant.suits more.reduces in
+    one_more g.StorageT.StorageIndex.index g.S.StateStack c.args.self.now c.stable-table.ensures.checked c.stable-table.ensures.runs c.stable-table.ensures.bounds
+    c.args.t c.requires.token c.args.stack.now c.reductions.stack c.take_step.new.states c.reductions.count _ _ c.requires.stack
+    c.reductions.invariant.stack c.reductions.invariant.made (rw (c.grm-grm.ensures, c.stable-table.ensures.table) at c.in_ok-step.ensures.taken) c.in-Reduced.is in
+    let suits = g.met.S.StateStack.reduced_suits c.args.self.now.grammar c.args.self.now.table _ c.reductions.stack more.prod c.take_step.new.states c.reductions.invariant.suits more.reduces in
     record { suits = suits; stack = more.stack; made = more.made }
 
 pub returns-in-LeavesNone : goal.returns-in-LeavesNone
 returns-in-LeavesNone g c =
-    let kind = g.S.StateStack in
-    let d = c.args.self.now in
     let end =
-    at_end g.StorageT.StorageIndex.index kind d c.stable-table.ensures.checked c.stable-table.ensures.runs c.stable-table.ensures.bounds c.args.t
-    c.requires.token c.args.stack.now c.reductions.stack c.take_step.new.states c.reductions.count _ _ c.requires.stack c.reductions.invariant.stack
-    c.reductions.invariant.made (rw (c.grm-grm.ensures, c.stable-table.ensures.table) at c.in_ok-step.ensures.taken) c.in-LeavesNone.is in
+    at_end g.StorageT.StorageIndex.index g.S.StateStack c.args.self.now c.stable-table.ensures.checked c.stable-table.ensures.runs c.stable-table.ensures.bounds
+    c.args.t c.requires.token c.args.stack.now c.reductions.stack c.take_step.new.states c.reductions.count _ _ c.requires.stack
+    c.reductions.invariant.stack c.reductions.invariant.made (rw (c.grm-grm.ensures, c.stable-table.ensures.table) at c.in_ok-step.ensures.taken) c.in-LeavesNone.is in
     record {
       settled = end.settled;
       action = end.action;
-      suits = subst (kind.suits d.grammar d.table) (sym end.same) c.reductions.invariant.suits;
+      suits = subst (g.S.StateStack.suits c.args.self.now.grammar c.args.self.now.table) (sym end.same) c.reductions.invariant.suits;
       short_of_memory = tt;
       stack = end.settled.of_states.stack;
     }
