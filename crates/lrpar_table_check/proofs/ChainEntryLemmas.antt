@@ -9,6 +9,7 @@ use Rattle.std.proofs.lemmas.Bool.{cases_eq, cases_lt}
 use Rattle.std.proofs.lemmas.List.{get_or-map, length-map}
 use Rattle.std.proofs.lemmas.List.Kept.{AllPairs-from_increasing}
 use Rattle.lrpar_grammar.specs.Grammar.{Grammar}
+use Rattle.lrpar_grammar_places.specs.declared.span.RIdx.{RIdx}
 use Rattle.lrpar_grammar_places.specs.declared.span.StIdx.{StIdx}
 use Rattle.lrpar_grammar_places.specs.declared.span.TIdx.{TIdx}
 use Rattle.lrpar_table_stacks.specs.Chain.{HasReductions, IsLongChain, IsShortUntil}
@@ -17,7 +18,9 @@ use Rattle.lrpar_table_rows.proofs.StoredLemmas.{entries_len, entry_read}
 use Rattle.lrpar_table_rows.proofs.TestLemmas.{each_more}
 use Rattle.lrpar_table_stacks.proofs.StepLemmas.{action_by_top}
 use Rattle.lrpar_table_rows.specs.PlainRows.{action_entry, plain_action, plain_goto}
-use Rattle.lrpar_table_rows.specs.Table.{IsActionEntry, Table, TableAction, ReduceBy, Fails, action_of, actions_at, goto_of, states_len}
+use Rattle.lrpar_table_rows.specs.StoredRows.{AreGotosAt}
+use Rattle.lrpar_table_rows.specs.Table.{AreGotosWithin, IsActionEntry, IsGotoEntry, StoresGotos, Table, TableAction, ReduceBy, Fails, action_of, actions_at, goto_of, gotos_at, states_len}
+use Rattle.lrpar_table_check.specs.Counts.{IsGoto}
 use Rattle.lrpar_table_rows.specs.declared.rows.Action.{Action}
 
 -- a chain that makes a reduction begins with one of its top
@@ -135,6 +138,33 @@ module _ {S : Type 0} (index : S → ℕ) (g : Grammar) (table : Table) (cap : �
         more_fail = λ short.
             subst (λ (r : ℕ). (k : ℕ) (d : ℕ × TableAction) → k < place + 1 → ¬ (Long (slice_index_or (actions_at table r) k d).0)) row_is
             (each_more (λ (x : ℕ × TableAction). ¬ (Long x.0)) row place e below read short row_fails);
+      }
+
+-- what is known at an entry of a row of gotos
+pub record IsStoredGoto (table : Table) (s r next place : ℕ) : Type 0 where
+  pub below : place < length (gotos_at table s)
+  pub read : ◌≡◌ {A = ℕ × ℕ} (r, next) (slice_index_or (gotos_at table s) place (r, next))
+  pub goto : IsGoto table s r next
+  pub within : next < states_len table
+
+module _ {S : Type 0} (index : S → ℕ) (table : Table) (s : StIdx S) (rs : List (RIdx S)) (states : List (StIdx S)) (entries : AreGotosAt index table s rs states)
+    (paired : length states ≡ length rs) where
+  -- there are as many gotos as rules
+  pub gotos_len : length (gotos_at table (index s.0)) ≡ length rs
+  gotos_len = entries_len (λ r. index r.0) (λ x. index x.0) rs states (gotos_at table (index s.0)) paired entries
+
+  pub stored_goto : StoresGotos table (index s.0) → AreGotosWithin table (index s.0) → (place : ℕ) (rule : RIdx S) (next : StIdx S) → place < length rs
+      → rule ≡ slice_index_or rs place rule → next ≡ slice_index_or states place next → IsStoredGoto table (index s.0) (index rule.0) (index next.0) place
+  stored_goto exact within place rule next low rule_at next_at =
+      let e : ℕ × ℕ = (index rule.0, index next.0) in
+      let read = entry_read (λ r. index r.0) (λ x. index x.0) rs states (gotos_at table (index s.0)) paired entries place rule next low rule_at next_at in
+      let below : place < length (gotos_at table (index s.0)) = omega (arith, gotos_len, low) in
+      let entry = subst (IsGotoEntry table.rules (states_len table)) (sym read) (within place e below) in
+      record {
+        below = below;
+        read = read;
+        goto = record { rule = entry.rule; goes = (exact e.0 e.1).0 (place, below, sym read) };
+        within = entry.within;
       }
 
 -- At the tokens below `end` neither the chain that begins with s alone is too long, nor one that begins with one of its

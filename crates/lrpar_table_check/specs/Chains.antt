@@ -10,7 +10,7 @@ use Rattle.lrpar_table_rows.specs.Table.{IsClosed, IsGotoWithin, ReduceBy, state
 use Rattle.lrpar_table_stacks.specs.Chain.{HasReductions, IsLongChain, IsShortUntil}
 use Rattle.lrpar_table_stacks.specs.Reduction.{top_action}
 use Rattle.lrpar_table_stacks.specs.ReductionStep.{FitsGrammar}
-use Rattle.lrpar_table_stacks.specs.Stack.{states_of}
+use Rattle.lrpar_table_stacks.specs.Stack.{AreSomeStatesOf, states_of}
 use Rattle.lrpar_table_check.specs.Counts.{AreCounts, AreLengths, AreRowsCounted, HasRoom, IsGoto, IsLongestWith}
 use Rattle.lrpar_table_check.specs.LeastCap.{AreShortAt, IsLeastAt}
 use Rattle.lrpar_table_check.specs.Lengths.{IsCounted, IsLongest, IsLongestWithin}
@@ -42,6 +42,10 @@ module _ {S : Type 0} (index : S → ℕ) (d : Chains S) where
   -- state s has this goto, of a rule and a state
   abbrev pub HasGoto : StIdx S → RIdx S × StIdx S → Type 0
   HasGoto s goto = IsGoto d.stable.now (index s.0) (index goto.0.0) (index goto.1.0)
+
+  -- states of the table, at least one
+  abbrev pub AreSomeStates : List (StIdx S) → Type 0
+  AreSomeStates states = AreSomeStatesOf d.stable.now (states_of index states)
 
   -- at the token the chain from these states makes this number of reductions; without a number, more than the cap
   abbrev pub MakesFrom : TIdx S → List (StIdx S) → Option ℕ → Type 0

@@ -1,7 +1,7 @@
 -- A checked table, and a refused one.
-use Rattle.std.specs.Prelude.{◌<◌, ℕ}
+use Rattle.std.specs.Prelude.{◌≡◌, ◌<◌, ℕ}
 use Rattle.lrpar_grammar.specs.Grammar.{Grammar, IsWellFormed}
-use Rattle.lrpar_table_stacks.specs.Chain.{AreChainsShort, IsLongChain}
+use Rattle.lrpar_table_stacks.specs.Chain.{AreChainsShort, IsBounded, IsLongChain}
 use Rattle.lrpar_table_rows.specs.Graph.{Graph}
 use Rattle.lrpar_table_rows.specs.Table.{Table, IsClosed, states_len}
 use Rattle.lrpar_table_rows.specs.Safe.{HasShape, IsSafe, IsSafeAt}
@@ -21,6 +21,10 @@ pub record IsChecked (d : Checked) : Type 0 where
   pub closed : IsClosed d.table
   pub safe : IsSafe d.grammar d.graph d.table
   pub chains : AreChainsShort d.grammar d.table d.cap
+
+-- each stack of the table makes few reductions under one lookahead, by the cap
+abbrev pub HasBounds : Checked → Type 0
+HasBounds d = IsBounded d.grammar d.table d.cap
 
 -- the same without a cap, and why it is refused
 pub record Unchecked : Type 0 where
@@ -42,3 +46,23 @@ IsChainFault g table cap Shape = ⊥
 IsChainFault g table cap (Safety condition s) = ⊥
 IsChainFault g table cap (ChainTooLong s t) = (s < states_len table) × (t < table.tokens) × IsLongChain g table cap s t
 IsChainFault g table cap Memory = Unit {0}
+
+-- the checked table holds these parts
+abbrev pub Holds : Grammar → Graph → Table → ℕ → Checked → Type 0
+Holds g graph table cap = λ d. d ≡ record { grammar = g; graph = graph; table = table; cap = cap }
+
+-- the refusal gives these parts back
+abbrev pub GivesBack : Grammar → Graph → Table → Unchecked → Type 0
+GivesBack g graph table = λ r. (r.grammar ≡ g) × (r.graph ≡ graph) × (r.table ≡ table)
+
+-- the refusal names what fails
+abbrev pub NamesFault : Grammar → Graph → Table → ℕ → Unchecked → Type 0
+NamesFault g graph table cap = λ r. IsCheckFault g graph table cap r.fault
+
+-- the refusal names a chain that is too long, unless an allocation failed
+abbrev pub NamesChain : Grammar → Table → ℕ → Unchecked → Type 0
+NamesChain g table cap = λ r. IsChainFault g table cap r.fault
+
+-- the table is refused only because an allocation failed
+abbrev pub LacksMemory : Unchecked → Type 0
+LacksMemory = λ r. r.fault ≡ Memory

@@ -24,3 +24,7 @@ pub record IsLeastCap (g : Grammar) (table : Table) (cap : ℕ) : Type 0 where
 pub record IsMeasured (d : Checked) (least : ℕ) : Type 0 where
   pub checked : IsChecked d
   pub measure : IsLeastCap d.grammar d.table least
+
+-- the least cap with which the checked table passes
+abbrev pub IsLeastCapOf : Checked → ℕ → Type 0
+IsLeastCapOf d cap = IsLeastCap d.grammar d.table cap

@@ -6,4 +6,5 @@ pub mod Counts
 pub mod Chains
 pub mod CompleteRuns
 pub mod ExpectedRuns
+pub mod CheckedTables
 pub mod CheckedStacks

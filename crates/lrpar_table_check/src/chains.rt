@@ -1,12 +1,11 @@
 //! The loop check: whether each chain of reductions under one token is short, and how short.
-ghost use Rattle.std.specs.Prelude.{◌≡◌, ◌<◌, ◌≤◌, ◌↔◌, ℕ, All, IsTrue, IfErr, IfOk, OnOk, length};
+ghost use Rattle.std.specs.Prelude.{◌≡◌, ◌<◌, ◌≤◌, ◌↔◌, ℕ, IsTrue, IfErr, IfOk, OnOk};
 ghost use Rattle.lrpar_table_check.specs.Checked.{IsChainFault};
 ghost use Rattle.lrpar_table_check.specs.LeastCap.{IsLeastAt, IsLeastCap};
 ghost use Rattle.lrpar_table_stacks.specs.Chain.{AreChainsShort};
 ghost use Rattle.lrpar_table_rows.specs.PlainRows.{plain_action};
-ghost use Rattle.lrpar_table_stacks.specs.Stack.{states_of};
 ghost use Rattle.lrpar_table_stacks.specs.ReductionStep.{FitsGrammar};
-ghost use Rattle.lrpar_table_rows.specs.Table.{IsClosed, ReduceBy, states_len};
+ghost use Rattle.lrpar_table_rows.specs.Table.{IsClosed, ReduceBy};
 
 use crate::fault::CheckFault;
 use crate::longest::Counts;
@@ -25,7 +24,7 @@ pub(crate) struct Chains<'a, StorageT: StorageIndex> {
 }
 
 impl<'a, StorageT: StorageIndex> Chains<'a, StorageT> {
-    ghost use Rattle.lrpar_table_check.specs.Chains.{HaveRoom, IsAbove, IsFirstOfState, IsFirstTooLong, IsSound, IsState, IsTooLong, Makes, MakesFrom};
+    ghost use Rattle.lrpar_table_check.specs.Chains.{AreSomeStates, HaveRoom, IsAbove, IsFirstOfState, IsFirstTooLong, IsSound, IsState, IsTooLong, Makes, MakesFrom};
 
     fn new(grm: &'a YaccGrammar<StorageT>, stable: &'a StateTable<StorageT>, cap: u16) -> Self
         ensures grammar { result.grm.now ≡ grm.now }
@@ -187,8 +186,7 @@ impl<'a, StorageT: StorageIndex> Chains<'a, StorageT> {
     ) -> Result<Option<u16>, AllocError>
         requires sound { IsSound self.now }
         requires token { StorageT.index t.0 < self.now.stable.now.tokens }
-        requires some { 0 < length states.old.items }
-        requires within { All (λ s. s < states_len self.now.stable.now) (states_of StorageT.index states.old.items) }
+        requires states { AreSomeStates StorageT.index self.now states.old.items }
         ensures { IfOk result (MakesFrom StorageT.index self.now t states.old.items) }
     {
         for made in 0..self.cap {

@@ -4,10 +4,9 @@ ghost use Rattle.lrpar_grammar.specs.Grammar.{IsWellFormed};
 ghost use Rattle.lrpar_table_rows.specs.Table.{IsClosed};
 ghost use Rattle.lrpar_table_rows.specs.Safe.{IsSafe};
 ghost use Rattle.lrpar_table_stacks.specs.Path.{NeverSticks};
-ghost use Rattle.lrpar_table_stacks.specs.Chain.{AreChainsShort, IsBounded};
-ghost use Rattle.lrpar_table_check.specs.Checked.{IsChainFault, IsChecked, IsCheckFault};
-ghost use Rattle.lrpar_table_check.specs.LeastCap.{IsLeastCap};
-ghost use Rattle.lrpar_table_check.specs.declared.fault.CheckFault.TheVariants.{Memory};
+ghost use Rattle.lrpar_table_stacks.specs.Chain.{AreChainsShort};
+ghost use Rattle.lrpar_table_check.specs.Checked.{GivesBack, HasBounds, Holds, IsChecked, LacksMemory, NamesChain, NamesFault};
+ghost use Rattle.lrpar_table_check.specs.LeastCap.{IsLeastCapOf};
 
 use crate::chains::least_cap;
 pub use crate::fault::CheckFault;
@@ -83,11 +82,11 @@ impl<StorageT: StorageIndex> ParserData<StorageT> {
         stable: StateTable<StorageT>,
         cap: u16,
     ) -> Result<Self, Refused<StorageT>>
-        ensures made { IfOk result (λ d. d ≡ record { grammar = grm; graph = sgraph; table = stable; cap = cap }) }
+        ensures made { IfOk result (Holds grm sgraph stable cap) }
         ensures checked { IfOk result IsChecked }
-        ensures fault { IfErr result (λ r. IsCheckFault grm sgraph stable cap r.fault) }
-        ensures exact { IsSafe grm sgraph stable → AreChainsShort grm stable cap → IfErr result (λ r. r.fault ≡ Memory) }
-        ensures back { IfErr result (λ r. (r.grammar ≡ grm) × (r.graph ≡ sgraph) × (r.table ≡ stable)) }
+        ensures fault { IfErr result (NamesFault grm sgraph stable cap) }
+        ensures exact { IsSafe grm sgraph stable → AreChainsShort grm stable cap → IfErr result LacksMemory }
+        ensures back { IfErr result (GivesBack grm sgraph stable) }
     {
         match first_fault(&Checkable {
             grm: &grm,
@@ -117,11 +116,11 @@ impl<StorageT: StorageIndex> ParserData<StorageT> {
         cap: u16,
     ) -> Result<Self, Refused<StorageT>>
         requires { IsSafe grm sgraph stable }
-        ensures made { IfOk result (λ d. d ≡ record { grammar = grm; graph = sgraph; table = stable; cap = cap }) }
+        ensures made { IfOk result (Holds grm sgraph stable cap) }
         ensures checked { IfOk result IsChecked }
-        ensures fault { IfErr result (λ r. IsChainFault grm stable cap r.fault) }
-        ensures exact { AreChainsShort grm stable cap → IfErr result (λ r. r.fault ≡ Memory) }
-        ensures back { IfErr result (λ r. (r.grammar ≡ grm) × (r.graph ≡ sgraph) × (r.table ≡ stable)) }
+        ensures fault { IfErr result (NamesChain grm stable cap) }
+        ensures exact { AreChainsShort grm stable cap → IfErr result LacksMemory }
+        ensures back { IfErr result (GivesBack grm sgraph stable) }
     {
         are_sound(&grm, &stable);
         match least_cap(alloc, &grm, &stable, cap) {
@@ -160,7 +159,7 @@ impl<StorageT: StorageIndex> ParserData<StorageT> {
         ensures table { result.now ≡ self.now.table }
         ensures checked { IsChecked self.now }
         ensures runs { NeverSticks self.now.grammar self.now.table }
-        ensures bounds { IsBounded self.now.grammar self.now.table self.now.cap }
+        ensures bounds { HasBounds self.now }
     {
         &self.stable
     }
@@ -176,7 +175,7 @@ impl<StorageT: StorageIndex> ParserData<StorageT> {
     /// by the check, and takes no time here. A table that is refused with the cap 65,535 passes with no cap; so to choose one, take the
     /// table with that cap and ask for the least.
     pub fn least_cap(&self) -> u16
-        ensures { IsLeastCap self.now.grammar self.now.table result }
+        ensures { IsLeastCapOf self.now result }
     {
         self.least_cap
     }

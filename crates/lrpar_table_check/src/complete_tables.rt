@@ -1,9 +1,7 @@
 //! Whether a checked table is complete, and what that means for its runs.
 ghost use Rattle.std.specs.Prelude.{◌≡◌, IfErr, OnOk};
-ghost use Rattle.lrpar_grammar.specs.Sentence.{LexemeFacts};
-ghost use Rattle.lrpar_table_conditions.specs.Complete.{IsComplete, IsCompleteFault};
 ghost use Rattle.lrpar_table_conditions.specs.declared.completeness_fault.CompleteFault.TheVariants.{Memory};
-ghost use Rattle.lrpar_table_check.specs.CompleteRuns.{TakesSentences};
+ghost use Rattle.lrpar_table_check.specs.CheckedTables.{AcceptsSentences, IsCompleteFaultOf, IsCompleteTable};
 
 use crate::check::ParserData;
 use lrpar_grammar::span::StorageIndex;
@@ -23,10 +21,10 @@ impl<StorageT: StorageIndex> ParserData<StorageT> {
     /// for each complete item. For C2 each core before a rule takes a few unions of sets of tokens, and a comparison of two of
     /// them for each production of the rule; and each state empties the productions' sets.
     pub fn check_complete(&self, alloc: Global) -> Result<(), CompleteFault>
-        ensures complete { OnOk result (IsComplete self.now.grammar self.now.graph self.now.table) }
-        ensures fault { IfErr result (IsCompleteFault self.now.grammar self.now.graph self.now.table) }
-        ensures exact { IsComplete self.now.grammar self.now.graph self.now.table → IfErr result (λ fault. fault ≡ Memory) }
-        ensures takes { OnOk result (TakesSentences (λ (x : LexemeFacts). x.token) self.now.grammar self.now.table) }
+        ensures complete { OnOk result (IsCompleteTable self.now) }
+        ensures fault { IfErr result (IsCompleteFaultOf self.now) }
+        ensures exact { IsCompleteTable self.now → IfErr result (λ fault. fault ≡ Memory) }
+        ensures takes { OnOk result (AcceptsSentences self.now) }
     {
         check_complete(alloc, self.grm(), self.sgraph(), self.stable())
     }

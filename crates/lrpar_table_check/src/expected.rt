@@ -1,8 +1,7 @@
 //! What may come next at a stack: the tokens that can be fed there, and the end token, if it accepts.
-ghost use Rattle.std.specs.Prelude.{◌≡◌, ◌<◌, IfOk, OnOk, OnErr};
-ghost use Rattle.lrpar_table_check.specs.CheckedStacks.{AreExpectedAt, IsExpectedShortOfMemory, IsOverlaySettleShortOfMemory, IsTrialShortOfMemory, IsWhetherExpected};
+ghost use Rattle.std.specs.Prelude.{◌≡◌, IfOk, OnOk, OnErr};
+ghost use Rattle.lrpar_table_check.specs.CheckedStacks.{AreExpectedOn, AreExpectedOver, FailsToList, FailsToListOver, FailsToSettleOver, FailsToTry, FormStack, IsStackOf, IsTokenOf, IsWhetherExpected, IsWhetherExpectedOn};
 ghost use Rattle.lrpar_table_stacks.specs.Overlay.{overlaid};
-ghost use Rattle.lrpar_table_stacks.specs.Stack.{IsStack, states_of};
 
 use crate::check::ParserData;
 use lrpar_grammar::span::{StIdx, StorageIndex, TIdx};
@@ -22,13 +21,13 @@ impl<StorageT: StorageIndex> ParserData<StorageT> {
         alloc: Global,
         stack: &[StIdx<StorageT>],
     ) -> Result<Vec<TIdx<StorageT>>, AllocError>
-        requires stack { IsStack self.now.table (states_of StorageT.index stack.now) }
+        requires stack { FormStack StorageT.index self.now stack.now }
 
         // Exactly these tokens may come next.
-        ensures expected { IfOk result (AreExpectedAt StorageT.index self.now (states_of StorageT.index stack.now)) }
+        ensures expected { IfOk result (AreExpectedOn StorageT.index self.now stack.now) }
 
         // Some token may come next, and is listed; or a reduction under some token is due, for which there is no room.
-        ensures short_of_memory { OnErr result (IsExpectedShortOfMemory self.now (states_of StorageT.index stack.now)) }
+        ensures short_of_memory { OnErr result (FailsToList StorageT.index self.now stack.now) }
     {
         let overlay = Overlay::new(alloc, stack);
         self.expected_over(alloc, &overlay)
@@ -40,13 +39,13 @@ impl<StorageT: StorageIndex> ParserData<StorageT> {
         alloc: Global,
         overlay: &Overlay<'_, StorageT>,
     ) -> Result<Vec<TIdx<StorageT>>, AllocError>
-        requires stack { IsStack self.now.table (overlaid overlay.now) }
+        requires stack { IsStackOf self.now (overlaid overlay.now) }
 
         // Exactly these tokens may come next.
-        ensures expected { IfOk result (AreExpectedAt StorageT.index self.now (overlaid overlay.now)) }
+        ensures expected { IfOk result (AreExpectedOver StorageT.index self.now overlay.now) }
 
         // Some token may come next, and is listed; or a reduction under some token is due, for which there is no room.
-        ensures short_of_memory { OnErr result (IsExpectedShortOfMemory self.now (overlaid overlay.now)) }
+        ensures short_of_memory { OnErr result (FailsToListOver self.now overlay.now) }
     {
         let (tokens, _) = self.stable().actions_of(overlay.top());
         let mut probe = Probe::new(alloc, overlay);
@@ -68,12 +67,12 @@ impl<StorageT: StorageIndex> ParserData<StorageT> {
         stack: &[StIdx<StorageT>],
         t: TIdx<StorageT>,
     ) -> Result<bool, AllocError>
-        requires stack { IsStack self.now.table (states_of StorageT.index stack.now) }
-        requires token { StorageT.index t.0 < self.now.table.tokens }
-        ensures expected { IfOk result (IsWhetherExpected StorageT.index self.now (states_of StorageT.index stack.now) t) }
+        requires stack { FormStack StorageT.index self.now stack.now }
+        requires token { IsTokenOf StorageT.index self.now t }
+        ensures expected { IfOk result (IsWhetherExpectedOn StorageT.index self.now stack.now t) }
 
         // A reduction is due, for which there is no room.
-        ensures short_of_memory { OnErr result (IsTrialShortOfMemory StorageT.index self.now (states_of StorageT.index stack.now) t) }
+        ensures short_of_memory { OnErr result (FailsToTry StorageT.index self.now stack.now t) }
     {
         let overlay = Overlay::new(alloc, stack);
         self.takes(&mut Probe::new(alloc, &overlay), t)
@@ -85,11 +84,11 @@ impl<StorageT: StorageIndex> ParserData<StorageT> {
         states: &mut Probe<'_, '_, StorageT>,
         t: TIdx<StorageT>,
     ) -> Result<bool, AllocError>
-        requires stack { IsStack self.now.table (overlaid states.old) }
-        requires token { StorageT.index t.0 < self.now.table.tokens }
+        requires stack { IsStackOf self.now (overlaid states.old) }
+        requires token { IsTokenOf StorageT.index self.now t }
         ensures expected { IfOk result (IsWhetherExpected StorageT.index self.now (overlaid states.old) t) }
         ensures base { OnOk result (states.new.base ≡ states.old.base) }
-        ensures short_of_memory { OnErr result (IsOverlaySettleShortOfMemory StorageT.index self.now t states.old states.new) }
+        ensures short_of_memory { FailsToSettleOver StorageT.index self.now t states.old states.new result }
     {
         // Checked: the table shifts no end token, and accepts only at that one.
         let _table = self.stable();

@@ -96,7 +96,7 @@ impl<'a, StorageT: StorageIndex> Chains<'a, StorageT> {
         let mut longest = from;
         let (rules, nexts) = self.stable.gotos_of(s);
         for (place, rule) in rules.iter().enumerate() {
-            match self.longest_with(counts, s, *rule, nexts[place], longest)? {
+            match self.longest_with(counts, s, (*rule, nexts[place]), longest)? {
                 Some(more) => longest = more,
                 None => return Ok(None),
             }
@@ -117,19 +117,18 @@ impl<'a, StorageT: StorageIndex> Chains<'a, StorageT> {
         &self,
         counts: &mut Counts<StorageT>,
         s: StIdx<StorageT>,
-        rule: RIdx<StorageT>,
-        next: StIdx<StorageT>,
+        goto: (RIdx<StorageT>, StIdx<StorageT>),
         from: u16,
     ) -> Result<Option<u16>, AllocError>
         requires sound { IsSound self.now }
         requires state { IsState StorageT.index self.now s }
-        requires goto { HasGoto StorageT.index self.now s (rule, next) }
+        requires goto { HasGoto StorageT.index self.now s goto }
         requires from { from ≤ self.now.cap }
         requires counts { AreCountsOf StorageT.index self.now s from counts.old }
-        ensures longest { IfOk result (IsLongestThrough StorageT.index self.now s next from) }
+        ensures longest { IfOk result (IsLongestThrough StorageT.index self.now s goto.1 from) }
         ensures counts { IfOk result (AreCountsFound StorageT.index self.now s counts.new) }
     {
-        self.find_ahead(&counts.rows, &mut counts.ahead, s, (rule, next))?;
+        self.find_ahead(&counts.rows, &mut counts.ahead, s, goto)?;
         let mut longest = from;
         while let Some((rule, next)) = counts.ahead.pop() {
             match self.count(counts, s, rule, next, longest)? {
@@ -137,7 +136,7 @@ impl<'a, StorageT: StorageIndex> Chains<'a, StorageT> {
                 None => return Ok(None),
             }
         }
-        self.count(counts, s, rule, next, longest)
+        self.count(counts, s, goto.0, goto.1, longest)
     }
 
     // The goto of the state by the rule, and after it those to which productions of one symbol lead from there, up to one whose

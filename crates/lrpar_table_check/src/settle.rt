@@ -1,8 +1,7 @@
 //! What a stack of states does at a token: its reductions, and the shift after them.
-ghost use Rattle.std.specs.Prelude.{◌<◌, IfOk, OnOk, OnErr};
-ghost use Rattle.lrpar_table_check.specs.CheckedStacks.{IsListFed, IsListFeedShortOfMemory, IsListSettled, IsListSettleShortOfMemory, IsOverlayFed, IsOverlayFeedShortOfMemory, IsOverlaySettled, IsOverlaySettleShortOfMemory, IsStackFed, IsStackFeedShortOfMemory, IsStackSettled, IsStackSettleShortOfMemory, IsTopAction};
+ghost use Rattle.std.specs.Prelude.{IfOk, OnOk};
+ghost use Rattle.lrpar_table_check.specs.CheckedStacks.{FailsToFeed, FailsToFeedList, FailsToFeedOver, FailsToSettle, FailsToSettleList, FailsToSettleOver, FeedsStack, HasStack, IsListFed, IsListSettled, IsOverlayFed, IsOverlaySettled, IsStackOf, IsTokenOf, IsTopAction, SettlesStack, SuitsTable};
 ghost use Rattle.lrpar_table_stacks.specs.Overlay.{overlaid};
-ghost use Rattle.lrpar_table_stacks.specs.Stack.{IsStack, states_of};
 
 use crate::check::ParserData;
 use lrpar_grammar::span::{StIdx, StorageIndex, TIdx};
@@ -22,20 +21,20 @@ impl<StorageT: StorageIndex> ParserData<StorageT> {
         stack: &mut S,
         t: TIdx<StorageT>,
     ) -> Result<Settled<StorageT>, AllocError>
-        requires suits { S.suits self.now.grammar self.now.table stack.old }
-        requires stack { IsStack self.now.table (S.states stack.old) }
-        requires token { StorageT.index t.0 < self.now.table.tokens }
+        requires suits { SuitsTable S.suits self.now stack.old }
+        requires stack { IsStackOf self.now (S.states stack.old) }
+        requires token { IsTokenOf StorageT.index self.now t }
 
         // All reductions were made, on the states and on the rest; their number is given and bounded.
-        ensures settled { IfOk result (IsStackSettled StorageT.index S.states S.reduces self.now t stack.old stack.new) }
+        ensures settled { SettlesStack StorageT.index S.StateStack self.now t stack.old stack.new result }
         ensures action { IfOk result (IsTopAction StorageT.index self.now.table t (S.states stack.new)) }
-        ensures suits { OnOk result (S.suits self.now.grammar self.now.table stack.new) }
+        ensures suits { OnOk result (SuitsTable S.suits self.now stack.new) }
 
         // Some first reductions were made, and an allocation failed in the next one.
-        ensures short_of_memory { OnErr result (IsStackSettleShortOfMemory StorageT.index S.states S.reduces S.fails self.now t stack.old stack.new) }
+        ensures short_of_memory { FailsToSettle StorageT.index S.StateStack self.now t stack.old stack.new result }
 
         // It is a stack in either case.
-        ensures stack { IsStack self.now.table (S.states stack.new) }
+        ensures stack { IsStackOf self.now (S.states stack.new) }
     {
         let (grm, table) = (self.grm(), self.stable());
         // At most the cap for each state of the stack: the number of reductions fits.
@@ -62,17 +61,17 @@ impl<StorageT: StorageIndex> ParserData<StorageT> {
         stack: &mut Vec<StIdx<StorageT>>,
         t: TIdx<StorageT>,
     ) -> Result<u128, AllocError>
-        requires stack { IsStack self.now.table (states_of StorageT.index stack.old.items) }
-        requires token { StorageT.index t.0 < self.now.table.tokens }
+        requires stack { HasStack StorageT.index self.now stack.old }
+        requires token { IsTokenOf StorageT.index self.now t }
 
         // All reductions were made; their number is given and bounded.
         ensures settled { IfOk result (IsListSettled StorageT.index self.now t stack.old stack.new) }
 
         // Some first reductions were made, and the list is full for the next one.
-        ensures short_of_memory { OnErr result (IsListSettleShortOfMemory StorageT.index self.now t stack.old stack.new) }
+        ensures short_of_memory { FailsToSettleList StorageT.index self.now t stack.old stack.new result }
 
         // It is a stack in either case.
-        ensures stack { IsStack self.now.table (states_of StorageT.index stack.new.items) }
+        ensures stack { HasStack StorageT.index self.now stack.new }
     {
         Ok(self.settle_on(stack, t)?.reductions)
     }
@@ -86,17 +85,17 @@ impl<StorageT: StorageIndex> ParserData<StorageT> {
         stack: &mut Overlay<'_, StorageT>,
         t: TIdx<StorageT>,
     ) -> Result<u128, AllocError>
-        requires stack { IsStack self.now.table (overlaid stack.old) }
-        requires token { StorageT.index t.0 < self.now.table.tokens }
+        requires stack { IsStackOf self.now (overlaid stack.old) }
+        requires token { IsTokenOf StorageT.index self.now t }
 
         // All reductions were made; their number is given and bounded.
         ensures settled { IfOk result (IsOverlaySettled StorageT.index self.now t stack.old stack.new) }
 
         // Some first reductions were made, and the tail is full for the next one.
-        ensures short_of_memory { OnErr result (IsOverlaySettleShortOfMemory StorageT.index self.now t stack.old stack.new) }
+        ensures short_of_memory { FailsToSettleOver StorageT.index self.now t stack.old stack.new result }
 
         // It is a stack in either case.
-        ensures stack { IsStack self.now.table (overlaid stack.new) }
+        ensures stack { IsStackOf self.now (overlaid stack.new) }
     {
         Ok(self.settle_on(stack, t)?.reductions)
     }
@@ -108,18 +107,18 @@ impl<StorageT: StorageIndex> ParserData<StorageT> {
         stack: &mut S,
         t: TIdx<StorageT>,
     ) -> Result<bool, AllocError>
-        requires suits { S.suits self.now.grammar self.now.table stack.old }
-        requires stack { IsStack self.now.table (S.states stack.old) }
-        requires token { StorageT.index t.0 < self.now.table.tokens }
+        requires suits { SuitsTable S.suits self.now stack.old }
+        requires stack { IsStackOf self.now (S.states stack.old) }
+        requires token { IsTokenOf StorageT.index self.now t }
 
         // The token was shifted after all reductions, or the top doesn't shift it.
-        ensures fed { IfOk result (IsStackFed StorageT.index S.states S.reduces S.shifts self.now t stack.old stack.new) }
+        ensures fed { FeedsStack StorageT.index S.states S.reduces S.shifts self.now t stack.old stack.new result }
 
         // An allocation failed in a reduction, or in the shift after all of them.
-        ensures short_of_memory { OnErr result (IsStackFeedShortOfMemory StorageT.index S.states S.reduces S.fails S.shift_fails self.now t stack.old stack.new) }
+        ensures short_of_memory { FailsToFeed StorageT.index S.states S.reduces S.fails S.shift_fails self.now t stack.old stack.new result }
 
         // It is a stack in each case.
-        ensures stack { IsStack self.now.table (S.states stack.new) }
+        ensures stack { IsStackOf self.now (S.states stack.new) }
     {
         // Checked: a shift of the table leads to a stack.
         let _table = self.stable();
@@ -143,17 +142,17 @@ impl<StorageT: StorageIndex> ParserData<StorageT> {
         stack: &mut Vec<StIdx<StorageT>>,
         t: TIdx<StorageT>,
     ) -> Result<bool, AllocError>
-        requires stack { IsStack self.now.table (states_of StorageT.index stack.old.items) }
-        requires token { StorageT.index t.0 < self.now.table.tokens }
+        requires stack { HasStack StorageT.index self.now stack.old }
+        requires token { IsTokenOf StorageT.index self.now t }
 
         // The token was shifted after all reductions, or the top doesn't shift it.
         ensures fed { IfOk result (IsListFed StorageT.index self.now t stack.old stack.new) }
 
         // The list is full for the next reduction, or for the shift after all of them.
-        ensures short_of_memory { OnErr result (IsListFeedShortOfMemory StorageT.index self.now t stack.old stack.new) }
+        ensures short_of_memory { FailsToFeedList StorageT.index self.now t stack.old stack.new result }
 
         // It is a stack in each case.
-        ensures stack { IsStack self.now.table (states_of StorageT.index stack.new.items) }
+        ensures stack { HasStack StorageT.index self.now stack.new }
     {
         self.feed_on(stack, t)
     }
@@ -167,17 +166,17 @@ impl<StorageT: StorageIndex> ParserData<StorageT> {
         stack: &mut Overlay<'_, StorageT>,
         t: TIdx<StorageT>,
     ) -> Result<bool, AllocError>
-        requires stack { IsStack self.now.table (overlaid stack.old) }
-        requires token { StorageT.index t.0 < self.now.table.tokens }
+        requires stack { IsStackOf self.now (overlaid stack.old) }
+        requires token { IsTokenOf StorageT.index self.now t }
 
         // The token was shifted after all reductions, or the top doesn't shift it.
         ensures fed { IfOk result (IsOverlayFed StorageT.index self.now t stack.old stack.new) }
 
         // The tail is full for the next reduction, or for the shift after all of them.
-        ensures short_of_memory { OnErr result (IsOverlayFeedShortOfMemory StorageT.index self.now t stack.old stack.new) }
+        ensures short_of_memory { FailsToFeedOver StorageT.index self.now t stack.old stack.new result }
 
         // It is a stack in each case.
-        ensures stack { IsStack self.now.table (overlaid stack.new) }
+        ensures stack { IsStackOf self.now (overlaid stack.new) }
     {
         self.feed_on(stack, t)
     }

@@ -1,6 +1,6 @@
 //! Stacks of states: whether a list of states is one of the table.
 ghost use Rattle.std.specs.Prelude.{◌↔◌, IsTrue};
-ghost use Rattle.lrpar_table_stacks.specs.Stack.{IsStack, states_of};
+ghost use Rattle.lrpar_table_check.specs.CheckedStacks.{FormStack};
 
 use crate::check::ParserData;
 use lrpar_grammar::span::{StIdx, StorageIndex};
@@ -12,7 +12,7 @@ impl<StorageT: StorageIndex> ParserData<StorageT> {
     ///
     /// Allocates nothing. Reads at most the entries of each state but the top.
     pub fn is_stack(&self, stack: &[StIdx<StorageT>]) -> bool
-        ensures { IsTrue result ↔ IsStack self.now.table (states_of StorageT.index stack.now) }
+        ensures { IsTrue result ↔ FormStack StorageT.index self.now stack.now }
     {
         is_stack_of(self.stable(), stack)
     }

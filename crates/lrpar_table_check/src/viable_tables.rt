@@ -1,6 +1,6 @@
 //! Whether a checked table is viable.
 ghost use Rattle.std.specs.Prelude.{◌≡◌, IfErr, OnOk};
-ghost use Rattle.lrpar_table_viable.specs.Viable.{IsViable, IsViableFault};
+ghost use Rattle.lrpar_table_check.specs.CheckedTables.{IsViableFaultOf, IsViableTable};
 ghost use Rattle.lrpar_table_viable.specs.declared.viable_fault.ViableFault.TheVariants.{Memory};
 
 use crate::check::ParserData;
@@ -20,9 +20,9 @@ impl<StorageT: StorageIndex> ParserData<StorageT> {
     /// Each state empties the marks, and then goes over its cores until no more rules are found: few times in practice, and at most one
     /// more than there are rules.
     pub fn check_viable(&self, alloc: Global) -> Result<(), ViableFault>
-        ensures viable { OnOk result (IsViable self.now.grammar self.now.graph self.now.table) }
-        ensures fault { IfErr result (IsViableFault self.now.grammar self.now.graph self.now.table) }
-        ensures exact { IsViable self.now.grammar self.now.graph self.now.table → IfErr result (λ fault. fault ≡ Memory) }
+        ensures viable { OnOk result (IsViableTable self.now) }
+        ensures fault { IfErr result (IsViableFaultOf self.now) }
+        ensures exact { IsViableTable self.now → IfErr result (λ fault. fault ≡ Memory) }
     {
         check_viable(alloc, self.grm(), self.sgraph(), self.stable())
     }

@@ -1,15 +1,28 @@
 -- Stacks and paths have the same states: a path has the symbol, too, by which each state goes to the next.
-use Rattle.std.proofs.Common.{◌≡◌, ◌≢◌, ◌<◌, ◌≤◌, ◌+◌, ◌∙◌, ◌↔◌, inl, inr, sym, ap, subst, arith, ℕ, zero, suc, List, [], ◌∷◌, map, length, drop, get_or, Some, None}
-use Rattle.std.proofs.lemmas.Bool.{cases_lt}
+use Rattle.std.proofs.Common.{◌≡◌, ◌≢◌, ◌<◌, ◌≤◌, ◌+◌, ◌∙◌, ◌↔◌, inl, inr, sym, ap, subst, arith, Bool, IsTrue, ℕ, zero, suc, true, false, List, [], ◌∷◌, map, length, drop, get_or, Option, Some, None, refl}
+use Rattle.std.proofs.lemmas.Bool.{cases_lt, false≢true}
 use Rattle.std.proofs.lemmas.List.{drop_more, drop_all, get_or-map, length-map}
-use Rattle.std.specs.List.{Contains, zip}
+use Rattle.std.proofs.lemmas.List.Elements.{All-contains}
+use denote.Param.Members.{Mut}
+use Rattle.std.specs.Bool.{MatchBool}
+use Rattle.std.specs.Fn.{Called}
+use Rattle.std.specs.Iterator.{YieldsThen}
+use Rattle.std.specs.List.{AllWithin, Contains, FoldsTo, HoldsAt, zip}
+use Rattle.std.specs.Option.{MatchOption}
+use Rattle.std.proofs.lemmas.Iterator.{YieldsList, cases_from_any}
 use Rattle.lrpar_table_rows.proofs.ItemLemmas.{Contains-image, Contains-preimage}
+use Rattle.lrpar_grammar_places.specs.declared.span.RIdx.{RIdx}
+use Rattle.lrpar_grammar_places.specs.declared.span.StIdx.{StIdx}
+use Rattle.lrpar_grammar_places.specs.declared.span.TIdx.{TIdx}
 use Rattle.lrpar_grammar.specs.Grammar.{GrammarSymbol, Nonterminal, Terminal}
 use Rattle.lrpar_table_stacks.specs.Path.{Leads, IsPath}
 use Rattle.lrpar_table_rows.specs.Safe.{GoesBy}
-use Rattle.lrpar_table_stacks.specs.Stack.{AreJoined, IsJoined, IsStack}
-use Rattle.lrpar_table_rows.proofs.TestLemmas.{each_more}
-use Rattle.lrpar_table_rows.specs.Table.{Table, ShiftTo, Fails, IsClosed, action_of, goto_of, states_len}
+use Rattle.lrpar_table_stacks.specs.Stack.{AreJoined, HasGotoTo, HasShiftTo, IsJoined, IsStack, states_of}
+use Rattle.lrpar_table_rows.proofs.TestLemmas.{accepted, refused}
+use Rattle.lrpar_table_rows.specs.PlainRows.{plain_action}
+use Rattle.lrpar_table_rows.specs.StoredRows.{AreActionsAt, AreGotosAt}
+use Rattle.lrpar_table_rows.specs.Table.{Table, ShiftTo, Fails, AreActionsWithin, AreGotosWithin, IsActionEntry, IsClosed, IsGotoEntry, StoresActions, StoresGotos, action_of, actions_at, goto_of, gotos_at, states_len}
+use Rattle.lrpar_table_rows.specs.declared.rows.Action.{Action}
 
 module _ (table : Table) (no_token : (s t : ℕ) → table.tokens ≤ t → action_of table s t ≡ Fails)
     (no_rule : (s r : ℕ) → table.rules ≤ r → goto_of table s r ≡ None) where
@@ -119,14 +132,61 @@ values_of_entries {K} {V} {X} number value ks vs es x many is = (
     f : K × V → ℕ × X
     f e = (number e.0, value e.1)
 
--- if it isn't at the next place, it isn't at the next place of the image
-pub image_more : {A Y : Type 0} (f : A → Y) (y : Y) (xs : List A) (i : ℕ) (x : A) → i < length xs → x ≡ get_or xs i x → f x ≢ y
-    → ((k : ℕ) (d : Y) → k < i → get_or (map f xs) k d ≢ y) → (k : ℕ) (d : Y) → k < i + 1 → get_or (map f xs) k d ≢ y
-image_more f y xs i x below read other before =
-    let many : i < length (map f xs) = rw length-map below in
-    each_more (λ z. z ≢ y) (map f xs) i (f x) many (ap f read ∙ sym (get_or-map f xs i x (f x) below)) other before
+-- so, if entries with such a value are what is stored by keys below a bound, the values tell whether something is stored
+pub stored_value : {K V X : Type 0} (number : K → ℕ) (value : V → X) (ks : List K) (vs : List V) (es : List (ℕ × X)) (x : X) (bound : ℕ) (Stored : ℕ → Type 0)
+    → length vs ≡ length ks → map (λ e. (number e.0, value e.1)) (zip ks vs) ≡ es → ((k : ℕ) → Contains es (k, x) → k < bound)
+    → ((k : ℕ) → Contains es (k, x) ↔ Stored k) → Contains (map value vs) x ↔ ((k : ℕ) × (k < bound) × Stored k)
+stored_value number value ks vs es x bound Stored many is below exact =
+    let same = values_of_entries number value ks vs es x many is in (
+      λ h. let e = same.0 h in (e.0, below e.0 e.1, (exact e.0).0 e.1),
+      λ h. same.1 (h.0, (exact h.0).1 h.2),
+    )
 
--- if it is at no place, the image doesn't have it
-pub image_none : {A Y : Type 0} (f : A → Y) (y : Y) (xs : List A) (i : ℕ) → length xs ≤ i → ((k : ℕ) (d : Y) → k < i → get_or (map f xs) k d ≢ y)
-    → ¬ (Contains (map f xs) y)
-image_none f y xs i past before h = before h.0 y (omega (arith, h.1, past, length-map xs f)) h.2
+module _ {B Y : Type 0} (image : B → Y) (y : Y) where
+  -- an element with this image
+  image_there : (xs : List B) (k : ℕ) → k < length xs → HoldsAt (λ x. image x ≡ y) xs k → Contains (map image xs) y
+  image_there [] k below is = absurd (omega arith)
+  image_there (x ∷ xs) k below is =
+      (k, omega (arith, below, length-map (x ∷ xs) image), get_or-map image (x ∷ xs) k x y below ∙ is x)
+
+  -- no element with this image
+  image_nowhere : (xs : List B) → AllWithin (λ x. image x ≢ y) xs 0 (length xs) → ¬ (Contains (map image xs) y)
+  image_nowhere xs other h = let x = Contains-preimage image xs y h in other x.1.0 x.0 (omega arith) x.1.1 (ap image x.1.2 ∙ x.2)
+
+  image_cases : (r : Bool) (xs : List B) → MatchBool r ((k : ℕ) × (k < length xs) × HoldsAt (λ x. image x ≡ y) xs k) (AllWithin (λ x. image x ≢ y) xs 0 (length xs))
+      → IsTrue r ↔ Contains (map image xs) y
+  image_cases true xs h = accepted (image_there xs h.0 h.1 h.2)
+  image_cases false xs h = refused (image_nowhere xs h)
+
+  -- If a closure tests whether an element has this image, `any` tells whether some element has it.
+  pub any_with_image : {S A F : Type 0} {steps : S → Option A → S → Type 0} {v : A → B} {g : Mut F (A × Unit {0}) Bool} {s : S} {all : List B} (u : S) (f : F) (r : Bool)
+      → (xs : List A) × (o : Option A) × (j : F) × YieldsThen steps s xs o u × FoldsTo (λ p x q. Called g p (x, tt) false q) f xs j × MatchOption o (r ≡ false) (λ x. (r ≡ true) × ((h : F) × Called g j (x, tt) true h))
+      → YieldsList steps v s all → ((x : A) (b : Bool) (q : F) → Called g f (x, tt) b q → (q ≡ f) × (IsTrue b ↔ image (v x) ≡ y))
+      → IsTrue r ↔ Contains (map image all) y
+  any_with_image {v = v} {all = all} u f r ran yields tests =
+      image_cases r all
+      (cases_from_any u f r (λ x. image x ≡ y) (λ x. image x ≢ y) ran yields (λ x q c. (tests x true q c).1.0 refl)
+      (λ x q c. let h = tests x false q c in (h.0, λ is. false≢true (h.1.1 is))))
+
+-- So where code looks for a state among the actions and the gotos of another one, it finds whether a shift or a goto leads there.
+module _ {S : Type 0} (index : S → ℕ) (table : Table) (s : StIdx S) (to next : ℕ) (is : to ≡ next) (r : Bool) where
+  pub shift_found : (ts : List (TIdx S)) (actions : List (Action S)) → AreActionsAt index table s ts actions → length actions ≡ length ts
+      → StoresActions table (index s.0) → AreActionsWithin table (index s.0) → IsTrue r ↔ Contains (map (plain_action index) actions) (ShiftTo to)
+      → IsTrue r ↔ HasShiftTo table (index s.0) next
+  shift_found ts actions entries many exact within found =
+      let stored : ShiftTo to ≢ Fails = λ (e : _). cc in
+      let there =
+      stored_value (λ t. index t.0) (plain_action index) ts actions (actions_at table (index s.0)) (ShiftTo to) table.tokens
+      (λ t. action_of table (index s.0) t ≡ ShiftTo to) many entries
+      (λ t h. (All-contains (IsActionEntry table.tokens (states_len table)) (actions_at table (index s.0)) (t, ShiftTo to) within h).token)
+      (λ t. (λ h. ((exact t (ShiftTo to)).0 h).0, λ h. (exact t (ShiftTo to)).1 (h, stored))) in
+      subst (λ (n : ℕ). IsTrue r ↔ HasShiftTo table (index s.0) n) is (λ h. there.0 (found.0 h), λ h. found.1 (there.1 h))
+
+  pub goto_found : (rs : List (RIdx S)) (states : List (StIdx S)) → AreGotosAt index table s rs states → length states ≡ length rs
+      → StoresGotos table (index s.0) → AreGotosWithin table (index s.0) → IsTrue r ↔ Contains (states_of index states) to
+      → IsTrue r ↔ HasGotoTo table (index s.0) next
+  goto_found rs states entries many exact within found =
+      let there =
+      stored_value (λ r. index r.0) (λ x. index x.0) rs states (gotos_at table (index s.0)) to table.rules (λ r. goto_of table (index s.0) r ≡ Some to) many
+      entries (λ r h. (All-contains (IsGotoEntry table.rules (states_len table)) (gotos_at table (index s.0)) (r, to) within h).rule) (λ r. exact r to) in
+      subst (λ (n : ℕ). IsTrue r ↔ HasGotoTo table (index s.0) n) is (λ h. there.0 (found.0 h), λ h. found.1 (there.1 h))

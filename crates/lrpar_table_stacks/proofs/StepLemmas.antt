@@ -5,14 +5,22 @@ use Rattle.std.proofs.lemmas.List.Elements.{All-push, All-take}
 use Rattle.std.proofs.lemmas.Option.{get_or_from_slice_get, none-some, slice_get-map, slice_get_read, slice_get_within}
 use Rattle.std.specs.List.{All}
 use Rattle.std.specs.Option.{MatchOption, option_and_then, option_map, option_map_or}
-use Rattle.lrpar_grammar.specs.Grammar.{Grammar, prods_len, prod_len, rule_of}
+use Rattle.lrpar_grammar_places.specs.declared.span.PIdx.{PIdx}
+use Rattle.lrpar_grammar_places.specs.declared.span.StIdx.{StIdx}
+use Rattle.lrpar_grammar_places.specs.declared.span.Symbol.{Symbol}
+use Rattle.lrpar_grammar_places.specs.declared.span.TIdx.{TIdx}
+use Rattle.lrpar_grammar.specs.Grammar.{Grammar, prods_len, prod_len, rule_of, symbols_of}
+use Rattle.lrpar_grammar.specs.Symbols.{symbol_of}
 use Rattle.lrpar_table_stacks.specs.Chain.{DropsAll, HasReductions}
 use Rattle.lrpar_table_stacks.specs.Reduction.{Reduces, top_action, top_goto, left_by}
-use Rattle.lrpar_table_stacks.specs.Stack.{top_of}
-use Rattle.lrpar_table_stacks.specs.StackReduction.{IsStepShortOfMemory}
-use Rattle.lrpar_table_stacks.specs.ReductionStep.{CanReduce, IsReduction, IsRestOf, IsStackStep, IsStepOf}
+use Rattle.lrpar_table_stacks.specs.Stack.{AreSomeStatesOf, AreStatesOf, top_of}
+use Rattle.lrpar_table_stacks.specs.ReductionStep.{CanReduce, FailsReduction, FailsStep, FitsGrammar, IsReduction, IsReductionMade, IsRestOf, IsStackStep, IsStepOf, TakesStep}
+use Rattle.lrpar_table_rows.proofs.TestLemmas.{length_by_image}
+use Rattle.lrpar_table_rows.specs.PlainRows.{plain_goto}
+use Rattle.lrpar_table_rows.specs.declared.rows.Action.TheVariants.{Reduce}
 use Rattle.lrpar_table_rows.specs.Table.{Table, Fails, ReduceBy, IsClosed, action_of, goto_of, states_len}
 use Rattle.lrpar_table_stacks.specs.declared.reduction.Step.{Step}
+use Rattle.lrpar_table_stacks.specs.declared.state_stack.StateStack as stack
 use Rattle.lrpar_table_stacks.specs.declared.reduction.Step.TheVariants.{Reduced, LeavesNone, Stays}
 use Rattle.lrpar_table_stacks.proofs.Reductions.{reduces_to_one}
 
@@ -74,19 +82,30 @@ goto_of_left g table p st symbols height s r goto is_len is_height deep read is_
     let top = top_of_left st (prod_len g p) s below here in
     (below, goto_by_top table (rule_of g p) (left_by g p st) s top ∙ ap (goto_of table s) (sym is_rule) ∙ sym is_goto)
 
+-- the same where code read the goto, and counted the production's symbols
+pub left_goto : {S : Type 0} (index : S → ℕ) (g : Grammar) (table : Table) (p : ℕ) (st : List ℕ) (symbols : List (Symbol S)) (height s r : ℕ) (goto read : Option (StIdx S))
+    → map (symbol_of index) symbols ≡ symbols_of g p → height ≡ length st → length symbols < height → slice_get st (height - length symbols - 1) ≡ Some s
+    → r ≡ rule_of g p → plain_goto index goto ≡ goto_of table s r → goto ≡ read
+    → (prod_len g p < length st) × (top_goto table (rule_of g p) (left_by g p st) ≡ plain_goto index read)
+left_goto index g table p st symbols height s r goto read is_symbols is_height deep state is_rule is_goto is =
+    let h =
+    goto_of_left g table p st (length symbols) height s r (plain_goto index goto) (length_by_image (symbol_of index) symbols (symbols_of g p) is_symbols)
+    is_height deep state is_rule is_goto in
+    (h.0, h.1 ∙ ap (plain_goto index) is)
+
 -- after a reduction the states are still of the table, and there is at least one
-pub reduced_within : (g : Grammar) (table : Table) (t : ℕ) (st : List ℕ) (p : ℕ) (after : List ℕ) → IsClosed table
-    → All (λ s. s < states_len table) st → Reduces g table t st p after → (0 < length after) × All (λ s. s < states_len table) after
+pub reduced_within : (g : Grammar) (table : Table) (t : ℕ) (st : List ℕ) (p : ℕ) (after : List ℕ) → IsClosed table → AreStatesOf table st
+    → Reduces g table t st p after → AreSomeStatesOf table after
 reduced_within g table t st p after closed within reduces =
     let left = left_by g p st in
     let many : length after ≡ length left + 1 =
     ap (λ (l : List ℕ). length l) reduces.pushed ∙ length-append left (reduces.state ∷ []) in
     let left_within = All-take (λ s. s < states_len table) (length st - prod_len g p) st within in
-    let state : reduces.state < states_len table = goto_within (top_of left) reduces.goto in (
-      omega (arith, many),
-      subst (λ (l : List ℕ). All (λ s. s < states_len table) l) (sym reduces.pushed)
-          (All-push (λ s. s < states_len table) left reduces.state left_within state),
-    )
+    let state : reduces.state < states_len table = goto_within (top_of left) reduces.goto in
+    record {
+      some = omega (arith, many);
+      within = subst (AreStatesOf table) (sym reduces.pushed) (All-push (λ s. s < states_len table) left reduces.state left_within state);
+    }
   where
     goto_within : (top : Option ℕ) → option_and_then (λ s. goto_of table s (rule_of g p)) top ≡ Some reduces.state → reduces.state < states_len table
     goto_within None is = absurd (none-some reduces.state is)
@@ -180,28 +199,29 @@ module _ (g : Grammar) (table : Table) (t : ℕ) (start : List ℕ) (cap : ℕ) 
   remains_none st after made step remains end is h all =
       goes_on_stays g table t st after 0 (subst (λ (s : Step). IsStepOf g table t st s after) is h) ((remains 1 (omega arith)).0 all)
 
+-- the top's action is the reduction by p, which is a production of the grammar
+pub record IsTopReduction (g : Grammar) (table : Table) (t p : ℕ) (st : List ℕ) : Type 0 where
+  pub action : top_action table t st ≡ ReduceBy p
+  pub known : p < prods_len g
+
+-- so it is where the top was read, and its action
+pub top_reduction : {g : Grammar} {table : Table} {t p s : ℕ} {st : List ℕ} → FitsGrammar g table → top_of st ≡ Some s → ReduceBy p ≡ action_of table s t
+    → IsTopReduction g table t p st
+top_reduction {table = table} {t = t} {p = p} {s = s} {st = st} fits top is = record {
+  action = action_by_top table t st s top ∙ sym is;
+  known = fits.reduces s t p (sym is);
+}
+
 -- a reduction that can be made, and is the top's action, is due
-pub reduces_where_can : (g : Grammar) (table : Table) (t p : ℕ) (st : List ℕ) → top_action table t st ≡ ReduceBy p → p < prods_len g
-    → (can : CanReduce g table p st) → Reduces g table t st p (left_by g p st ++ can.1.0 ∷ [])
-reduces_where_can g table t p st action known can = record {
-  action = action;
-  known = known;
+pub reduces_where_can : {g : Grammar} {table : Table} {t p : ℕ} {st : List ℕ} → IsTopReduction g table t p st → (can : CanReduce g table p st)
+    → Reduces g table t st p (left_by g p st ++ can.1.0 ∷ [])
+reduces_where_can top can = record {
+  action = top.action;
+  known = top.known;
   deep = can.0;
   state = can.1.0;
   goto = can.1.1;
   pushed = refl;
-}
-
--- an allocation can fail for it
-pub short_of_memory_at : {X : Type 0} (states : X → List ℕ) (fails : X → ℕ → X → Type 0) (g : Grammar) (table : Table) (t p : ℕ) (old new : X)
-    → top_action table t (states old) ≡ ReduceBy p → p < prods_len g → CanReduce g table p (states old) → fails old (prod_len g p) new
-    → states new ≡ states old → IsStepShortOfMemory states fails g table t old new
-short_of_memory_at states fails g table t p old new action known can rest stays = record {
-  prod = p;
-  after = left_by g p (states old) ++ can.1.0 ∷ [];
-  due = reduces_where_can g table t p (states old) action known can;
-  stays = stays;
-  of_rest = rest;
 }
 
 -- an option without a value
@@ -210,34 +230,54 @@ match_none None P Q none h = h
 match_none (Some x) P Q none h = absurd (none x refl)
 
 -- a reduction by the top's action is a step
-pub step_of : (g : Grammar) (table : Table) (t p : ℕ) (st : List ℕ) (step : Step) (after : List ℕ) → top_action table t st ≡ ReduceBy p → p < prods_len g
-    → IsReduction g table p st step after → IsStepOf g table t st step after
-step_of g table t p st Reduced after action known (deep, (state, goto, is)) =
-    (p, record { action = action; known = known; deep = deep; state = state; goto = goto; pushed = is })
-step_of g table t p st LeavesNone after action known (few, same) = ((p, action, few), same)
-step_of g table t p st Stays after action known (deep, none, same) = (
+step_of : (g : Grammar) (table : Table) (t p : ℕ) (st : List ℕ) (step : Step) (after : List ℕ) → IsTopReduction g table t p st → IsReduction g table p st step after
+    → IsStepOf g table t st step after
+step_of g table t p st Reduced after top (deep, (state, goto, is)) =
+    (p, record { action = top.action; known = top.known; deep = deep; state = state; goto = goto; pushed = is })
+step_of g table t p st LeavesNone after top (few, same) = ((p, top.action, few), same)
+step_of g table t p st Stays after top (deep, none, same) = (
   (λ q next reduces.
-      let is : q ≡ p = let e : ReduceBy q ≡ ReduceBy p = sym reduces.action ∙ action in cc in
+      let is : q ≡ p = let e : ReduceBy q ≡ ReduceBy p = sym reduces.action ∙ top.action in cc in
       let goto : top_goto table (rule_of g p) (left_by g p st) ≡ Some reduces.state =
       subst (λ (r : ℕ). top_goto table (rule_of g r) (left_by g r st) ≡ Some reduces.state) is reduces.goto in
       none-some reduces.state (sym none ∙ goto)),
   (λ drops.
-      let is : drops.0 ≡ p = let e : ReduceBy drops.0 ≡ ReduceBy p = sym drops.1 ∙ action in cc in
+      let is : drops.0 ≡ p = let e : ReduceBy drops.0 ≡ ReduceBy p = sym drops.1 ∙ top.action in cc in
       let many : length st ≤ prod_len g p = subst (λ (r : ℕ). length st ≤ prod_len g r) is drops.2 in
       omega (arith, deep, many)),
   same,
 )
 
--- and a step of the whole stack
-pub stack_step_of : {X : Type 0} (states : X → List ℕ) (reduces : X → ℕ → ℕ → ℕ → X → Type 0) (g : Grammar) (table : Table) (t p : ℕ) (old : X) (step : Step) (new : X)
-    → top_action table t (states old) ≡ ReduceBy p → p < prods_len g → IsReduction g table p (states old) step (states new) → IsRestOf reduces g p old step new
-    → IsStackStep states reduces g table t old step new
-stack_step_of states reduces g table t p old Reduced new action known (deep, (state, goto, is)) rest = (
-  p,
-  record { of_states = record { action = action; known = known; deep = deep; state = state; goto = goto; pushed = is }; of_rest = rest },
-)
-stack_step_of states reduces g table t p old LeavesNone new action known reduction rest = rest
-stack_step_of states reduces g table t p old Stays new action known reduction rest = rest
+module _ {S X : Type 0} (index : S → ℕ) (kind : stack.Ghosts X S) (g : Grammar) (table : Table) (old : X) where
+  -- and a step of the whole stack
+  stack_step_of : (t p : ℕ) (step : Step) (new : X) → IsTopReduction g table t p (kind.states old) → IsReduction g table p (kind.states old) step (kind.states new)
+      → IsRestOf kind.reduces g p old step new → IsStackStep kind.states kind.reduces g table t old step new
+  stack_step_of t p Reduced new top (deep, (state, goto, is)) rest = (
+    p,
+    record { of_states = record { action = top.action; known = top.known; deep = deep; state = state; goto = goto; pushed = is }; of_rest = rest },
+  )
+  stack_step_of t p LeavesNone new top reduction rest = rest
+  stack_step_of t p Stays new top reduction rest = rest
+
+  -- where code made the reduction, it took the step
+  pub takes_step : (t : TIdx S) (prod : PIdx S) (new : X) (step : Step) → IsTopReduction g table (index t.0) (index prod.0) (kind.states old)
+      → IsReductionMade index kind g table prod old new step → TakesStep index kind g table t old new (step, Reduce prod)
+  takes_step t prod new step top made = record {
+    of_states = step_of g table (index t.0) (index prod.0) (kind.states old) step (kind.states new) top made.of_states;
+    of_stack = stack_step_of (index t.0) (index prod.0) step new top made.of_states made.of_rest;
+    action = sym top.action;
+  }
+
+  -- where it failed to, it failed to take the step
+  pub fails_step : (t : TIdx S) (prod : PIdx S) (new : X) → IsTopReduction g table (index t.0) (index prod.0) (kind.states old)
+      → FailsReduction index kind g table prod old new → FailsStep index kind g table t old new
+  fails_step t prod new top failed = record {
+    prod = index prod.0;
+    after = left_by g (index prod.0) (kind.states old) ++ failed.due.1.0 ∷ [];
+    due = reduces_where_can top failed.due;
+    stays = failed.stays;
+    of_rest = failed.of_rest;
+  }
 
 -- a state that was read in a list represents the number there, and the last one represents the top
 pub number_at : {A : Type 0} (number : A → ℕ) (xs : List A) (i : ℕ) (x : A) → i < length (map number xs) → x ≡ get_or xs i x

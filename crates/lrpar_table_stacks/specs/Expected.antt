@@ -32,6 +32,10 @@ tokens_of index tokens = map (λ t. index t.0) tokens
 abbrev pub laid_over : List ℕ → ℕ → Overlaid
 laid_over st room = record { base = st; kept = length st; tail = []; room = room }
 
+-- the overlay has its whole base, no states above it, and the room that it had
+abbrev pub IsSetBack : Overlaid → Overlaid → Type 0
+IsSetBack old new = new ≡ laid_over old.base old.room
+
 -- An allocation failed when token t was tried: for the states that the token's reductions push over the stack. The overlay had
 -- this room for them at first, and is then full.
 pub record IsTriedShortOfMemory (g : Grammar) (table : Table) (t : ℕ) (st : List ℕ) : Type 0 where

@@ -5,7 +5,7 @@ use Rattle.lrpar_grammar.specs.Grammar.{Grammar, prod_len}
 use Rattle.lrpar_table_rows.specs.Table.{Table, ShiftTo}
 use Rattle.lrpar_table_stacks.specs.Reduction.{Feeds, Reduces, ReducesBy, top_action}
 use Rattle.lrpar_table_stacks.specs.Settled.{IsSettledBy}
-use Rattle.lrpar_table_stacks.specs.Stack.{Pushes, Replaces, states_of}
+use Rattle.lrpar_table_stacks.specs.Stack.{IsTopOf, Pushes, Replaces, states_of}
 
 -- the number of states of the base that are kept; the states above them, the tail; and the tail's room, a number of states
 pub record Overlaid : Type 0 where
@@ -21,6 +21,14 @@ overlaid o = take o.kept o.base ++ o.tail
 -- an overlay of these states of code, with no states above them, and with no room
 abbrev pub laid_on : {S : Type 0} → (S → ℕ) → List (StIdx S) → Overlaid
 laid_on index base = record { base = states_of index base; kept = length base; tail = []; room = 0 }
+
+-- the overlay represents these states of code
+abbrev pub Represents : {S : Type 0} → (S → ℕ) → Overlaid → List (StIdx S) → Type 0
+Represents index o states = overlaid o ≡ states_of index states
+
+-- the state of code is on top of the overlay
+abbrev pub IsTopOver : {S : Type 0} → (S → ℕ) → Overlaid → StIdx S → Type 0
+IsTopOver index o state = IsTopOf index (overlaid o) state
 
 -- the state of code was pushed onto the overlay
 abbrev pub PushesOver : {S : Type 0} → (S → ℕ) → StIdx S → Overlaid → Overlaid → Type 0

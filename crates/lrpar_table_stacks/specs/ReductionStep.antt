@@ -9,6 +9,7 @@ use Rattle.lrpar_table_stacks.specs.StackReduction.{IsStepShortOfMemory, StackRe
 use Rattle.lrpar_table_rows.specs.PlainRows.{plain_action}
 use Rattle.lrpar_table_rows.specs.Table.{Table, ReduceBy, action_of}
 use Rattle.lrpar_table_rows.specs.declared.rows.Action.{Action}
+use Rattle.lrpar_table_stacks.specs.declared.state_stack.StateStack as stack
 use Rattle.lrpar_table_stacks.specs.declared.reduction.Step.{Step}
 use Rattle.lrpar_table_stacks.specs.declared.reduction.Step.TheVariants.{Reduced, LeavesNone, Stays}
 
@@ -50,30 +51,28 @@ IsStackStep states reduces g table t old LeavesNone new = new ≡ old
 IsStackStep states reduces g table t old Stays new = new ≡ old
 
 -- the stack of code allows the reduction by p, if it has the states for it
-abbrev pub AllowsReduction : {S X : Type 0} → (S → ℕ) → (X → List ℕ) → (X → ℕ → ℕ → ℕ → Type 0) → Grammar → Table → PIdx S → X → Type 0
-AllowsReduction index states can_reduce g table p old =
-    CanReduce g table (index p.0) (states old) → can_reduce old (index p.0) (rule_of g (index p.0)) (prod_len g (index p.0))
+abbrev pub AllowsReduction : {S X : Type 0} → (S → ℕ) → stack.Ghosts X S → Grammar → Table → PIdx S → X → Type 0
+AllowsReduction index kind g table p old =
+    CanReduce g table (index p.0) (kind.states old) → kind.can_reduce old (index p.0) (rule_of g (index p.0)) (prod_len g (index p.0))
 
--- the states of the stack of code were reduced by p, or the step says why not
-abbrev pub IsReductionMade : {S X : Type 0} → (S → ℕ) → (X → List ℕ) → Grammar → Table → PIdx S → X → X → Step → Type 0
-IsReductionMade index states g table p old new step = IsReduction g table (index p.0) (states old) step (states new)
+-- the stack of code was reduced by the production, or the step says why not; both its states and the rest
+pub record IsReductionMade {S X : Type 0} (index : S → ℕ) (kind : stack.Ghosts X S) (g : Grammar) (table : Table) (prod : PIdx S) (old new : X) (step : Step) : Type 0 where
+  pub of_states : IsReduction g table (index prod.0) (kind.states old) step (kind.states new)
+  pub of_rest : IsRestOf kind.reduces g (index prod.0) old step new
 
--- the rest of the stack of code was reduced by p, or stays
-abbrev pub IsRestMade : {S X : Type 0} → (S → ℕ) → (X → ℕ → ℕ → ℕ → X → Type 0) → Grammar → PIdx S → X → X → Step → Type 0
-IsRestMade index reduces g p old new step = IsRestOf reduces g (index p.0) old step new
+-- the stack of code can be reduced by the production, but an allocation failed for it: the states stay
+pub record FailsReduction {S X : Type 0} (index : S → ℕ) (kind : stack.Ghosts X S) (g : Grammar) (table : Table) (prod : PIdx S) (old new : X) : Type 0 where
+  pub due : CanReduce g table (index prod.0) (kind.states old)
+  pub stays : kind.states new ≡ kind.states old
+  pub of_rest : kind.fails old (prod_len g (index prod.0)) new
 
--- the states of the stack of code took the step at the token
-abbrev pub TakesStep : {S X : Type 0} → (S → ℕ) → (X → List ℕ) → Grammar → Table → TIdx S → X → X → Step × Action S → Type 0
-TakesStep index states g table t old new taken = IsStepOf g table (index t.0) (states old) taken.0 (states new)
-
--- the stack of code took the step at the token
-abbrev pub MakesStep : {S X : Type 0} → (S → ℕ) → (X → List ℕ) → (X → ℕ → ℕ → ℕ → X → Type 0) → Grammar → Table → TIdx S → X → X → Step × Action S → Type 0
-MakesStep index states reduces g table t old new taken = IsStackStep states reduces g table (index t.0) old taken.0 new
-
--- with the step comes the action of the top of these states at the token
-abbrev pub HasTopAction : {S : Type 0} → (S → ℕ) → Table → TIdx S → List ℕ → Step × Action S → Type 0
-HasTopAction index table t st taken = plain_action index taken.1 ≡ top_action table (index t.0) st
+-- the stack of code took the step at the token, both its states and the rest; with the step comes the action of the top
+-- before it
+pub record TakesStep {S X : Type 0} (index : S → ℕ) (kind : stack.Ghosts X S) (g : Grammar) (table : Table) (t : TIdx S) (old new : X) (taken : Step × Action S) : Type 0 where
+  pub of_states : IsStepOf g table (index t.0) (kind.states old) taken.0 (kind.states new)
+  pub of_stack : IsStackStep kind.states kind.reduces g table (index t.0) old taken.0 new
+  pub action : plain_action index taken.1 ≡ top_action table (index t.0) (kind.states old)
 
 -- an allocation failed for the step of the stack of code at the token
-abbrev pub FailsStep : {S X : Type 0} → (S → ℕ) → (X → List ℕ) → (X → ℕ → X → Type 0) → Grammar → Table → TIdx S → X → X → Type 0
-FailsStep index states fails g table t old new = IsStepShortOfMemory states fails g table (index t.0) old new
+abbrev pub FailsStep : {S X : Type 0} → (S → ℕ) → stack.Ghosts X S → Grammar → Table → TIdx S → X → X → Type 0
+FailsStep index kind g table t old new = IsStepShortOfMemory kind.states kind.fails g table (index t.0) old new

@@ -37,6 +37,11 @@ states_of index states = map (λ x. index x.0) states
 abbrev pub AreStatesOf : Table → List ℕ → Type 0
 AreStatesOf table st = All (λ s. s < states_len table) st
 
+-- a list of states of the table, which isn't empty
+pub record AreSomeStatesOf (table : Table) (st : List ℕ) : Type 0 where
+  pub some : 0 < length st
+  pub within : AreStatesOf table st
+
 -- the state of code is on top of the stack
 abbrev pub IsTopOf : {S : Type 0} → (S → ℕ) → List ℕ → StIdx S → Type 0
 IsTopOf index st state = top_of st ≡ Some (index state.0)

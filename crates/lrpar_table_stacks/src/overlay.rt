@@ -1,7 +1,7 @@
 //! A stack of states over a borrowed one. It can reduce and shift, and the borrowed one stays as it is.
 ghost use Rattle.std.specs.Prelude.{◌≡◌, ◌<◌, ◌≤◌, length, OnOk, OnErr, IfOk};
-ghost use Rattle.lrpar_table_stacks.specs.Expected.{laid_over};
-ghost use Rattle.lrpar_table_stacks.specs.Stack.{IsTopOf, states_of};
+ghost use Rattle.lrpar_table_stacks.specs.Expected.{IsSetBack};
+ghost use Rattle.lrpar_table_stacks.specs.Stack.{states_of};
 
 use crate::state_stack::{Reduction, ShiftStack, StateStack, push_on, put_at};
 use lrpar_grammar::span::{StIdx, StorageIndex};
@@ -29,13 +29,13 @@ impl<'a, StorageT: StorageIndex> Model for Overlay<'a, StorageT> {
 }
 
 impl<'a, StorageT: StorageIndex> Overlay<'a, StorageT> {
-    ghost use Rattle.lrpar_table_stacks.specs.Overlay.{laid_on, overlaid};
+    ghost use Rattle.lrpar_table_stacks.specs.Overlay.{IsTopOver, Represents, laid_on, overlaid};
 
     /// The states of the base. It doesn't allocate; the allocator is for later states.
     pub fn new(alloc: Global, base: &'a [StIdx<StorageT>]) -> Self
         requires { 0 < length base.now }
         ensures made { result ≡ laid_on StorageT.index base.now }
-        ensures states { overlaid result ≡ states_of StorageT.index base.now }
+        ensures states { Represents StorageT.index result base.now }
     {
         Overlay {
             base,
@@ -53,7 +53,7 @@ impl<'a, StorageT: StorageIndex> Overlay<'a, StorageT> {
 
     /// The top state.
     pub fn top(&self) -> StIdx<StorageT>
-        ensures { IsTopOf StorageT.index (overlaid self.now) result }
+        ensures { IsTopOver StorageT.index self.now result }
     {
         match self.tail.last() {
             Some(top) => *top,
@@ -83,7 +83,7 @@ impl<'a, StorageT: StorageIndex> Overlay<'a, StorageT> {
 
     /// Sets it back to the states of the base. It neither allocates nor frees memory.
     pub fn set_back(&mut self)
-        ensures made { self.new ≡ laid_over self.old.base self.old.room }
+        ensures made { IsSetBack self.old self.new }
         ensures states { overlaid self.new ≡ self.old.base }
     {
         self.kept = self.base.len();

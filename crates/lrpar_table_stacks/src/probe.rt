@@ -1,6 +1,6 @@
 //! A stack over a borrowed overlay, to try tokens there: internal.
 ghost use Rattle.std.specs.Prelude.{◌≡◌, ◌<◌, length, OnOk, OnErr};
-ghost use Rattle.lrpar_table_stacks.specs.Expected.{laid_over};
+ghost use Rattle.lrpar_table_stacks.specs.Expected.{IsSetBack, laid_over};
 ghost use Rattle.lrpar_table_stacks.specs.Overlay.{overlaid};
 
 use crate::overlay::Overlay;
@@ -44,7 +44,7 @@ impl<'o, 'a, StorageT: StorageIndex> Probe<'o, 'a, StorageT> {
 
     /// Sets it back to the states of the base. It neither allocates nor frees memory.
     pub fn set_back(&mut self)
-        ensures { self.new ≡ laid_over self.old.base self.old.room }
+        ensures { IsSetBack self.old self.new }
     {
         self.kept = self.base.len();
         self.tail.clear();

@@ -1,8 +1,8 @@
 //! One step under a lookahead, over any list of states: a stack, or the states of a chain.
-ghost use Rattle.std.specs.Prelude.{◌≡◌, ◌<◌, IfOk, OnErr, length};
-ghost use Rattle.lrpar_grammar.specs.Grammar.{prods_len, prod_len, rules_len};
-ghost use Rattle.lrpar_table_stacks.specs.ReductionStep.{AllowsReduction, CanReduce, FailsStep, FitsGrammar, HasTopAction, IsReductionMade, IsRestMade, MakesStep, TakesStep};
-ghost use Rattle.lrpar_table_stacks.specs.Stack.{AreStatesOf};
+ghost use Rattle.std.specs.Prelude.{◌≡◌, ◌<◌, IfOk, OnErr};
+ghost use Rattle.lrpar_grammar.specs.Grammar.{prods_len, rules_len};
+ghost use Rattle.lrpar_table_stacks.specs.ReductionStep.{AllowsReduction, FailsReduction, FailsStep, FitsGrammar, IsReductionMade, TakesStep};
+ghost use Rattle.lrpar_table_stacks.specs.Stack.{AreSomeStatesOf, AreStatesOf};
 
 use crate::state_stack::{Reduction, StateStack};
 use lrpar_grammar::grammar::YaccGrammar;
@@ -32,12 +32,9 @@ pub fn take_step<StorageT: StorageIndex, S: StateStack<StorageT>>(
     requires fits { FitsGrammar grm.now table.now }
     requires token { StorageT.index t.0 < table.now.tokens }
     requires suits { S.suits grm.now table.now states.old }
-    requires some { 0 < length (S.states states.old) }
-    requires within { AreStatesOf table.now (S.states states.old) }
-    ensures step { IfOk result (TakesStep StorageT.index S.states grm.now table.now t states.old states.new) }
-    ensures made { IfOk result (MakesStep StorageT.index S.states S.reduces grm.now table.now t states.old states.new) }
-    ensures action { IfOk result (HasTopAction StorageT.index table.now t (S.states states.old)) }
-    ensures short_of_memory { OnErr result (FailsStep StorageT.index S.states S.fails grm.now table.now t states.old states.new) }
+    requires states { AreSomeStatesOf table.now (S.states states.old) }
+    ensures taken { IfOk result (TakesStep StorageT.index S.StateStack grm.now table.now t states.old states.new) }
+    ensures short_of_memory { OnErr result (FailsStep StorageT.index S.StateStack grm.now table.now t states.old states.new) }
 {
     match table.action(states.top(), t) {
         Action::Reduce(prod) => {
@@ -57,13 +54,10 @@ fn reduce_by<StorageT: StorageIndex, S: StateStack<StorageT>>(
 ) -> Result<Step, AllocError>
     requires rules { table.now.rules ≡ rules_len grm.now }
     requires prod { StorageT.index prod.0 < prods_len grm.now }
-    requires can { AllowsReduction StorageT.index S.states S.can_reduce grm.now table.now prod states.old }
+    requires can { AllowsReduction StorageT.index S.StateStack grm.now table.now prod states.old }
     requires within { AreStatesOf table.now (S.states states.old) }
-    ensures reduction { IfOk result (IsReductionMade StorageT.index S.states grm.now table.now prod states.old states.new) }
-    ensures rest { IfOk result (IsRestMade StorageT.index S.reduces grm.now prod states.old states.new) }
-    ensures due { OnErr result (CanReduce grm.now table.now (StorageT.index prod.0) (S.states states.old)) }
-    ensures fails { OnErr result (S.fails states.old (prod_len grm.now (StorageT.index prod.0)) states.new) }
-    ensures unchanged { OnErr result (S.states states.new ≡ S.states states.old) }
+    ensures made { IfOk result (IsReductionMade StorageT.index S.StateStack grm.now table.now prod states.old states.new) }
+    ensures fails { OnErr result (FailsReduction StorageT.index S.StateStack grm.now table.now prod states.old states.new) }
 {
     let symbols = grm.prod(prod).len();
     let height = states.height();

@@ -1,7 +1,7 @@
 //! Whether a list of states is a stack of a table.
-ghost use Rattle.std.specs.Prelude.{◌≡◌, ◌<◌, ◌↔◌, Contains, IsTrue, map};
+ghost use Rattle.std.specs.Prelude.{◌≡◌, ◌<◌, ◌↔◌, IsTrue};
 ghost use Rattle.lrpar_table_rows.specs.PlainRows.{plain_action};
-ghost use Rattle.lrpar_table_stacks.specs.Stack.{AreJoined, HasGotoTo, HasShiftTo, IsJoined, IsStack, states_of};
+ghost use Rattle.lrpar_table_stacks.specs.Stack.{AreJoined, IsJoined, IsStack, states_of};
 ghost use Rattle.lrpar_table_rows.specs.Table.{ShiftTo, IsClosed, states_len};
 
 use lrpar_grammar::span::{StIdx, StorageIndex};
@@ -54,32 +54,11 @@ fn is_joined<StorageT: StorageIndex>(
     requires { StorageT.index s.0 < states_len table.now }
     ensures { IsTrue result ↔ IsJoined table.now (StorageT.index s.0) (StorageT.index next.0) }
 {
-    shifts_to(table, s, usize::from(next)) || goes_to(table, s, usize::from(next))
-}
-
-// Whether a shift leads from the state to state `next`.
-fn shifts_to<StorageT: StorageIndex>(
-    table: &StateTable<StorageT>,
-    s: StIdx<StorageT>,
-    next: usize,
-) -> bool
-    requires { StorageT.index s.0 < states_len table.now }
-    ensures { IsTrue result ↔ HasShiftTo table.now (StorageT.index s.0) next }
-{
     let (_, actions) = table.actions_of(s);
-    has_shift(actions, next)
-}
-
-// Whether one of the actions is a shift to state `next`.
-fn has_shift<StorageT: StorageIndex>(actions: &[Action<StorageT>], next: usize) -> bool
-    ensures { IsTrue result ↔ Contains (map (plain_action StorageT.index) actions.now) (ShiftTo next) }
-{
-    for action in actions {
-        if is_shift_to(*action, next) {
-            return true;
-        }
-    }
-    false
+    let (_, states) = table.gotos_of(s);
+    let next = usize::from(next);
+    actions.iter().any(|action| is_shift_to(*action, next))
+        || states.iter().any(|state| usize::from(*state) == next)
 }
 
 // Whether the action is a shift to state `next`.
@@ -90,29 +69,4 @@ fn is_shift_to<StorageT: StorageIndex>(action: Action<StorageT>, next: usize) ->
         Action::Shift(state) => usize::from(state) == next,
         Action::Reduce(_) | Action::Accept | Action::Error => false,
     }
-}
-
-// Whether a goto leads from the state to state `next`.
-fn goes_to<StorageT: StorageIndex>(
-    table: &StateTable<StorageT>,
-    s: StIdx<StorageT>,
-    next: usize,
-) -> bool
-    requires { StorageT.index s.0 < states_len table.now }
-    ensures { IsTrue result ↔ HasGotoTo table.now (StorageT.index s.0) next }
-{
-    let (_, states) = table.gotos_of(s);
-    has_state(states, next)
-}
-
-// Whether state `next` is one of the states.
-fn has_state<StorageT: StorageIndex>(states: &[StIdx<StorageT>], next: usize) -> bool
-    ensures { IsTrue result ↔ Contains (states_of StorageT.index states.now) next }
-{
-    for state in states {
-        if usize::from(*state) == next {
-            return true;
-        }
-    }
-    false
 }

@@ -1,77 +1,71 @@
-use Rattle.std.proofs.Common.{◌<◌, ◌∙◌, ap, length, refl, subst, sym, ℕ}
+use Rattle.std.proofs.Common.{◌<◌, length, refl, subst, sym, ℕ}
 use Rattle.lrpar_grammar.specs.Grammar.{prod_len, rule_of, symbols_of}
 use Rattle.lrpar_grammar.specs.Symbols.{symbol_of}
-use Rattle.lrpar_table_rows.specs.PlainRows.{plain_goto}
 use Rattle.lrpar_table_rows.specs.Table.{states_len}
 use Rattle.lrpar_table_rows.proofs.TestLemmas.{length_by_image}
 use Rattle.lrpar_table_stacks.proofs.SettleLemmas.{on_err_always}
 use Rattle.lrpar_grammar_places.proofs.FaultLemmas.{no_value}
-use Rattle.lrpar_table_stacks.proofs.StepLemmas.{goto_of_left, one_left, place_left, too_few, within_at}
+use Rattle.lrpar_table_stacks.proofs.StepLemmas.{left_goto, one_left, place_left, too_few, within_at}
 use Rattle.lrpar_table_stacks.proofs.reduction.reduce_by.Goals as goal
 
-pub returns-in-None-clause-reduction : goal.returns-in-None-clause-reduction
-returns-in-None-clause-reduction g c =
-    let index = g.StorageT.StorageIndex.index in
-    let grm = c.args.grm.now in
-    let p = index c.args.prod.0 in
-    let len = length_by_image (symbol_of index) c.prod-symbols.result.now (symbols_of grm p) c.prod-symbols.ensures in
+pub returns-in-None-clause-made : goal.returns-in-None-clause-made
+returns-in-None-clause-made g c =
     let goto =
-    goto_of_left grm c.args.table.now p (g.S.StateStack.states c.args.states.now) _ _ _ _ _ len c.height-height.ensures c.if-height-symbols.false
-    c.state_at.ensures c.prod_to_rule-rule.ensures.rule c.goto.ensures.goto in
-    (goto.0, goto.1 ∙ ap (plain_goto index) c.in-None.is, refl)
-
-pub returns-in_err-reduce-in-Some-clause-due : goal.returns-in_err-reduce-in-Some-clause-due
-returns-in_err-reduce-in-Some-clause-due g c =
-    let index = g.StorageT.StorageIndex.index in
-    let grm = c.args.grm.now in
-    let p = index c.args.prod.0 in
-    let len = length_by_image (symbol_of index) c.prod-symbols.result.now (symbols_of grm p) c.prod-symbols.ensures in
-    let goto =
-    goto_of_left grm c.args.table.now p (g.S.StateStack.states c.args.states.now) _ _ _ _ _ len c.height-height.ensures c.if-height-symbols.false
-    c.state_at.ensures c.prod_to_rule-rule.ensures.rule c.goto.ensures.goto in
-    on_err_always c.from_residual.result _ (goto.0, (index c.in-Some.next.0, goto.1 ∙ ap (plain_goto index) c.in-Some.is))
+    left_goto g.StorageT.StorageIndex.index c.args.grm.now _ _ _ _ _ _ _ _ _ c.prod-symbols.ensures c.height-height.ensures c.if-height-symbols.false
+    c.state_at.ensures c.prod_to_rule-rule.ensures.rule c.goto.ensures.goto c.in-None.is in
+    record { of_states = (goto.0, goto.1, refl); of_rest = refl }
 
 pub returns-in_err-reduce-in-Some-clause-fails : goal.returns-in_err-reduce-in-Some-clause-fails
 returns-in_err-reduce-in-Some-clause-fails g c =
     let index = g.StorageT.StorageIndex.index in
     let grm = c.args.grm.now in
-    let p = index c.args.prod.0 in
-    let len = length_by_image (symbol_of index) c.prod-symbols.result.now (symbols_of grm p) c.prod-symbols.ensures in
-    on_err_always c.from_residual.result _
-    (subst (λ (n : ℕ). g.S.StateStack.fails c.args.states.now n c.reduce.new.self) len c.in_err-reduce-in-Some.ensures.fails)
-
-pub returns-in_ok-reduce-in-Some-clause-reduction : goal.returns-in_ok-reduce-in-Some-clause-reduction
-returns-in_ok-reduce-in-Some-clause-reduction g c =
-    let index = g.StorageT.StorageIndex.index in
-    let grm = c.args.grm.now in
-    let p = index c.args.prod.0 in
-    let len = length_by_image (symbol_of index) c.prod-symbols.result.now (symbols_of grm p) c.prod-symbols.ensures in
+    let len = length_by_image (symbol_of index) c.prod-symbols.result.now (symbols_of grm (index c.args.prod.0)) c.prod-symbols.ensures in
     let goto =
-    goto_of_left grm c.args.table.now p (g.S.StateStack.states c.args.states.now) _ _ _ _ _ len c.height-height.ensures c.if-height-symbols.false
-    c.state_at.ensures c.prod_to_rule-rule.ensures.rule c.goto.ensures.goto in (
-      goto.0,
-      (index c.in-Some.next.0, goto.1 ∙ ap (plain_goto index) c.in-Some.is, rw len at c.in_ok-reduce-in-Some.ensures.states),
-    )
+    left_goto index grm _ _ _ _ _ _ _ _ _ c.prod-symbols.ensures c.height-height.ensures c.if-height-symbols.false c.state_at.ensures
+    c.prod_to_rule-rule.ensures.rule c.goto.ensures.goto c.in-Some.is in
+    on_err_always c.from_residual.result _ (record {
+      due = (goto.0, (index c.in-Some.next.0, goto.1));
+      stays = c.in_err-reduce-in-Some.ensures.unchanged;
+      of_rest = subst (λ (n : ℕ). g.S.StateStack.fails c.args.states.now n c.reduce.new.self) len c.in_err-reduce-in-Some.ensures.fails;
+    })
 
-pub reduce-requires-clause-can : goal.reduce-requires-clause-can
-reduce-requires-clause-can g c =
+pub returns-in_err-reduce-in-Some-clause-made : goal.returns-in_err-reduce-in-Some-clause-made
+returns-in_err-reduce-in-Some-clause-made g c = no_value c.from_residual.result _ _ c.from_residual.ensures.1
+
+pub returns-in_ok-reduce-in-Some-clause-made : goal.returns-in_ok-reduce-in-Some-clause-made
+returns-in_ok-reduce-in-Some-clause-made g c =
     let index = g.StorageT.StorageIndex.index in
     let kind = g.S.StateStack in
     let grm = c.args.grm.now in
     let p = index c.args.prod.0 in
     let len = length_by_image (symbol_of index) c.prod-symbols.result.now (symbols_of grm p) c.prod-symbols.ensures in
     let goto =
-    goto_of_left grm c.args.table.now p (kind.states c.args.states.now) _ _ _ _ _ len c.height-height.ensures c.if-height-symbols.false
-    c.state_at.ensures c.prod_to_rule-rule.ensures.rule c.goto.ensures.goto in
-    let can = c.requires.can (goto.0, (index c.in-Some.next.0, goto.1 ∙ ap (plain_goto index) c.in-Some.is)) in
-    subst (λ (n : ℕ). kind.can_reduce c.args.states.now p (index c.prod_to_rule-rule.result.0) n) (sym len)
-    (subst (λ (r : ℕ). kind.can_reduce c.args.states.now p r (prod_len grm p)) (sym c.prod_to_rule-rule.ensures.rule) can)
+    left_goto index grm _ _ _ _ _ _ _ _ _ c.prod-symbols.ensures c.height-height.ensures c.if-height-symbols.false c.state_at.ensures
+    c.prod_to_rule-rule.ensures.rule c.goto.ensures.goto c.in-Some.is in
+    let rest = subst (λ (r : ℕ). kind.reduces c.args.states.now p r (length c.prod-symbols.result.now) c.reduce.new.self) c.prod_to_rule-rule.ensures.rule
+    c.in_ok-reduce-in-Some.ensures.reduces in
+    record {
+      of_states = (goto.0, (index c.in-Some.next.0, goto.1, rw len at c.in_ok-reduce-in-Some.ensures.states));
+      of_rest = subst (λ (n : ℕ). kind.reduces c.args.states.now p (rule_of grm p) n c.reduce.new.self) len rest;
+    }
 
-pub returns-then-height-symbols-clause-reduction : goal.returns-then-height-symbols-clause-reduction
-returns-then-height-symbols-clause-reduction g c =
+pub reduce-requires-clause-can : goal.reduce-requires-clause-can
+reduce-requires-clause-can g c =
+    let index = g.StorageT.StorageIndex.index in
+    let Can : ℕ → ℕ → Type 0 = g.S.StateStack.can_reduce c.args.states.now (index c.args.prod.0) in
+    let goto =
+    left_goto index c.args.grm.now _ _ _ _ _ _ _ _ _ c.prod-symbols.ensures c.height-height.ensures c.if-height-symbols.false c.state_at.ensures
+    c.prod_to_rule-rule.ensures.rule c.goto.ensures.goto c.in-Some.is in
+    let len = length_by_image (symbol_of index) c.prod-symbols.result.now (symbols_of c.args.grm.now (index c.args.prod.0)) c.prod-symbols.ensures in
+    subst (λ (n : ℕ). Can (index c.prod_to_rule-rule.result.0) n) (sym len)
+    (subst (λ (r : ℕ). Can r (prod_len c.args.grm.now (index c.args.prod.0))) (sym c.prod_to_rule-rule.ensures.rule)
+    (c.requires.can (goto.0, (index c.in-Some.next.0, goto.1))))
+
+pub returns-then-height-symbols-clause-made : goal.returns-then-height-symbols-clause-made
+returns-then-height-symbols-clause-made g c =
     let index = g.StorageT.StorageIndex.index in
     let len = length_by_image (symbol_of index) c.prod-symbols.result.now (symbols_of c.args.grm.now (index c.args.prod.0)) c.prod-symbols.ensures in
-    (too_few _ _ _ _ c.height-height.ensures len c.if-height-symbols.true, refl)
+    record { of_states = (too_few _ _ _ _ c.height-height.ensures len c.if-height-symbols.true, refl); of_rest = refl }
 
 pub overflow_sub-height-2 : goal.overflow_sub-height-2
 overflow_sub-height-2 g c = one_left _ _ c.if-height-symbols.false
@@ -88,24 +82,3 @@ goto-requires-clause-rule g c = rw c.requires.rules c.prod_to_rule-rule.ensures.
 pub reduce-requires-clause-deep : goal.reduce-requires-clause-deep
 reduce-requires-clause-deep g c =
     subst (λ (height : ℕ). length c.prod-symbols.result.now < height) c.height-height.ensures c.if-height-symbols.false
-
-pub returns-in_err-reduce-in-Some-clause-reduction : goal.returns-in_err-reduce-in-Some-clause-reduction
-returns-in_err-reduce-in-Some-clause-reduction g c = no_value c.from_residual.result _ _ c.from_residual.ensures.1
-
-pub returns-in_err-reduce-in-Some-clause-rest : goal.returns-in_err-reduce-in-Some-clause-rest
-returns-in_err-reduce-in-Some-clause-rest g c = no_value c.from_residual.result _ _ c.from_residual.ensures.1
-
-pub returns-in_err-reduce-in-Some-clause-unchanged : goal.returns-in_err-reduce-in-Some-clause-unchanged
-returns-in_err-reduce-in-Some-clause-unchanged g c =
-    on_err_always c.from_residual.result _ c.in_err-reduce-in-Some.ensures.unchanged
-
-pub returns-in_ok-reduce-in-Some-clause-rest : goal.returns-in_ok-reduce-in-Some-clause-rest
-returns-in_ok-reduce-in-Some-clause-rest g c =
-    let index = g.StorageT.StorageIndex.index in
-    let kind = g.S.StateStack in
-    let grm = c.args.grm.now in
-    let p = index c.args.prod.0 in
-    let len = length_by_image (symbol_of index) c.prod-symbols.result.now (symbols_of grm p) c.prod-symbols.ensures in
-    subst (λ (n : ℕ). kind.reduces c.args.states.now p (rule_of grm p) n c.reduce.new.self) len
-    (subst (λ (r : ℕ). kind.reduces c.args.states.now p r (length c.prod-symbols.result.now) c.reduce.new.self) c.prod_to_rule-rule.ensures.rule
-    c.in_ok-reduce-in-Some.ensures.reduces)

@@ -17,12 +17,10 @@ loop-place-init g c =
 pub made_at-requires-clause-token : goal.made_at-requires-clause-token
 made_at-requires-clause-token g c =
     let index = g.StorageT.StorageIndex.index in
-    let d = c.args.self.now in
     let at = c.actions_of.ensures in
     let stored =
-    stored_reduction index d.grm.now d.stable.now (index c.unwrap_or-top.result.0) c.actions_of.result.0.now c.actions_of.result.1.now at.entries at.actions
-    c.loop-place.place c.index-tokens-place.result c.index-actions-place.result c.loop-place-test.true c.index-tokens-place.is c.index-actions-place.is
-    c.in-Reduce.prod at.exact at.within c.requires.sound.fits c.in-Reduce.is in
+    stored_reduction index _ _ _ _ _ at.entries at.actions _ _ _ c.loop-place-test.true c.index-tokens-place.is c.index-actions-place.is _ at.exact at.within
+    c.requires.sound.fits c.in-Reduce.is in
     stored.token
 
 pub made_at-requires-clause-counted : goal.made_at-requires-clause-counted
@@ -34,35 +32,28 @@ made_at-requires-clause-counted g c =
 pub made_at-requires-clause-action : goal.made_at-requires-clause-action
 made_at-requires-clause-action g c =
     let index = g.StorageT.StorageIndex.index in
-    let d = c.args.self.now in
     let at = c.actions_of.ensures in
     let stored =
-    stored_reduction index d.grm.now d.stable.now (index c.unwrap_or-top.result.0) c.actions_of.result.0.now c.actions_of.result.1.now at.entries at.actions
-    c.loop-place.place c.index-tokens-place.result c.index-actions-place.result c.loop-place-test.true c.index-tokens-place.is c.index-actions-place.is
-    c.in-Reduce.prod at.exact at.within c.requires.sound.fits c.in-Reduce.is in
-    chain_action index d.grm.now d.stable.now d.cap c.args.s c.unwrap_or-top.result c.args.above c.unwrap_or-top.ensures c.args.from
-    (index c.index-tokens-place.result.0) (index c.in-Reduce.prod.0) stored.action
+    stored_reduction index _ _ _ _ _ at.entries at.actions _ _ _ c.loop-place-test.true c.index-tokens-place.is c.index-actions-place.is _ at.exact at.within
+    c.requires.sound.fits c.in-Reduce.is in
+    chain_action index c.args.self.now.grm.now _ c.args.self.now.cap c.args.s _ c.args.above c.unwrap_or-top.ensures c.args.from _ _ stored.action
 
 pub bounds-row-from : goal.bounds-row-from
 bounds-row-from g c =
     let index = g.StorageT.StorageIndex.index in
-    let d = c.args.self.now in
     let at = c.actions_of.ensures in
     let stored =
-    stored_reduction index d.grm.now d.stable.now (index c.unwrap_or-top.result.0) c.actions_of.result.0.now c.actions_of.result.1.now at.entries at.actions
-    c.loop-place.place c.index-tokens-place.result c.index-actions-place.result c.loop-place-test.true c.index-tokens-place.is c.index-actions-place.is
-    c.in-Reduce.prod at.exact at.within c.requires.sound.fits c.in-Reduce.is in
+    stored_reduction index _ _ _ _ _ at.entries at.actions _ _ _ c.loop-place-test.true c.index-tokens-place.is c.index-actions-place.is _ at.exact at.within
+    c.requires.sound.fits c.in-Reduce.is in
     omega (arith, stored.token, c.from.ensures, c.requires.counts.room.tokens)
 
 pub offset_bounds-row-from : goal.offset_bounds-row-from
 offset_bounds-row-from g c =
     let index = g.StorageT.StorageIndex.index in
-    let d = c.args.self.now in
     let at = c.actions_of.ensures in
     let stored =
-    stored_reduction index d.grm.now d.stable.now (index c.unwrap_or-top.result.0) c.actions_of.result.0.now c.actions_of.result.1.now at.entries at.actions
-    c.loop-place.place c.index-tokens-place.result c.index-actions-place.result c.loop-place-test.true c.index-tokens-place.is c.index-actions-place.is
-    c.in-Reduce.prod at.exact at.within c.requires.sound.fits c.in-Reduce.is in
+    stored_reduction index _ _ _ _ _ at.entries at.actions _ _ _ c.loop-place-test.true c.index-tokens-place.is c.index-actions-place.is _ at.exact at.within
+    c.requires.sound.fits c.in-Reduce.is in
     let within : c.from.result < length c.loop-place.row = omega (arith, stored.token, c.from.ensures, c.requires.counts.room.tokens) in
     omega (arith, within)
 
@@ -74,9 +65,8 @@ returns-in-None-clause-longest g c =
     let start = index c.args.s.0 ∷ option_to_list (plain_goto index c.args.above) in
     let t = index c.index-tokens-place.result.0 in
     let stored =
-    stored_reduction index d.grm.now d.stable.now (index c.unwrap_or-top.result.0) c.actions_of.result.0.now c.actions_of.result.1.now at.entries at.actions
-    c.loop-place.place c.index-tokens-place.result c.index-actions-place.result c.loop-place-test.true c.index-tokens-place.is c.index-actions-place.is
-    c.in-Reduce.prod at.exact at.within c.requires.sound.fits c.in-Reduce.is in
+    stored_reduction index _ _ _ _ _ at.entries at.actions _ _ _ c.loop-place-test.true c.index-tokens-place.is c.index-actions-place.is _ at.exact at.within
+    c.requires.sound.fits c.in-Reduce.is in
     (t, stored.token, counted_long d.grm.now d.stable.now t start d.cap c.in_ok-made.field-0 c.in_ok-made.ensures c.in-None.is)
 
 pub loop-place-preserved : goal.loop-place-preserved
@@ -120,18 +110,10 @@ loop-place-preserved g c =
 
 pub returns-clause-longest : goal.returns-clause-longest
 returns-clause-longest g c =
-    let index = g.StorageT.StorageIndex.index in
-    let d = c.args.self.now in
-    let at = c.actions_of.ensures in
-    chain_longest index d.grm.now d.stable.now d.cap c.args.s c.unwrap_or-top.result c.args.above c.unwrap_or-top.ensures c.args.from
-    c.actions_of.result.0.now c.actions_of.result.1.now at.entries at.actions c.loop-place.place c.loop-place.longest c.loop-place.row c.loop-place-test.false
-    c.loop-place.invariant
+    chain_longest g.StorageT.StorageIndex.index _ _ _ c.args.s _ _ c.unwrap_or-top.ensures _ _ _ c.actions_of.ensures.entries c.actions_of.ensures.actions _ _ _
+    c.loop-place-test.false c.loop-place.invariant
 
 pub returns-clause-row : goal.returns-clause-row
 returns-clause-row g c =
-    let index = g.StorageT.StorageIndex.index in
-    let d = c.args.self.now in
-    let at = c.actions_of.ensures in
-    chain_lengths index d.grm.now d.stable.now d.cap c.args.s c.unwrap_or-top.result c.args.above c.unwrap_or-top.ensures c.args.from
-    c.actions_of.result.0.now c.actions_of.result.1.now at.entries at.actions c.loop-place.place c.loop-place.longest c.loop-place.row c.loop-place-test.false
-    c.loop-place.invariant
+    chain_lengths g.StorageT.StorageIndex.index _ _ _ c.args.s _ _ c.unwrap_or-top.ensures _ _ _ c.actions_of.ensures.entries c.actions_of.ensures.actions _ _ _
+    c.loop-place-test.false c.loop-place.invariant

@@ -5,5 +5,5 @@ pub returns-clause-longest : goal.returns-clause-longest
 returns-clause-longest g c =
     let index = g.StorageT.StorageIndex.index in
     let d = c.args.self.now in
-    last_goto d.grm.now d.stable.now d.cap (index c.args.s.0) c.args.from c.loop-rule.longest (index c.args.rule.0) (index c.args.next.0) _ c.count-2.result
+    last_goto d.grm.now d.stable.now d.cap (index c.args.s.0) c.args.from c.loop-rule.longest (index c.args.goto.0.0) (index c.args.goto.1.0) _ c.count-2.result
     c.requires.goto.goes c.loop-rule.invariant.reach c.count-2.ensures.longest

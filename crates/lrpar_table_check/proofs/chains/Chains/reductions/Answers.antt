@@ -1,5 +1,4 @@
 use Rattle.std.proofs.Common.{◌≡◌, arith, subst, ℕ}
-use Rattle.std.proofs.lemmas.List.{length-map}
 use Rattle.lrpar_table_stacks.specs.ReductionStep.{IsStepOf}
 use Rattle.lrpar_table_stacks.specs.declared.reduction.Step.{Step}
 use Rattle.lrpar_table_stacks.specs.Stack.{states_of}
@@ -12,30 +11,26 @@ pub loop-made-init : goal.loop-made-init
 loop-made-init g c =
     let index = g.StorageT.StorageIndex.index in
     record {
-      some = c.requires.some;
-      within = c.requires.within;
+      states = c.requires.states;
       comes = comes_first c.args.self.now.grm.now c.args.self.now.stable.now (index c.args.t.0) (states_of index c.args.states.now.items);
     }
 
-pub take_step-requires-clause-some : goal.take_step-requires-clause-some
-take_step-requires-clause-some g c = rw length-map c.loop-made.invariant.some
-
-pub take_step-requires-clause-within : goal.take_step-requires-clause-within
-take_step-requires-clause-within g c = c.loop-made.invariant.within
+pub take_step-requires-clause-states : goal.take_step-requires-clause-states
+take_step-requires-clause-states g c = c.loop-made.invariant.states
 
 pub returns-in-LeavesNone : goal.returns-in-LeavesNone
 returns-in-LeavesNone g c =
     let index = g.StorageT.StorageIndex.index in
     length_dropped c.args.self.now.grm.now c.args.self.now.stable.now (index c.args.t.0) (states_of index c.args.states.now.items) c.args.self.now.cap
     (states_of index c.loop-made.states.items) (states_of index c.take_step.new.states.items) c.loop-made.made c.in_ok-step.step
-    c.loop-made.invariant.comes c.loop-made-test.true c.in-LeavesNone.is c.in_ok-step.ensures.step
+    c.loop-made.invariant.comes c.loop-made-test.true c.in-LeavesNone.is c.in_ok-step.ensures.taken.of_states
 
 pub returns-in-Stays : goal.returns-in-Stays
 returns-in-Stays g c =
     let index = g.StorageT.StorageIndex.index in
     length_stays c.args.self.now.grm.now c.args.self.now.stable.now (index c.args.t.0) (states_of index c.args.states.now.items) c.args.self.now.cap
     (states_of index c.loop-made.states.items) (states_of index c.take_step.new.states.items) c.loop-made.made c.in_ok-step.step
-    c.loop-made.invariant.comes (omega (arith, c.loop-made-test.true)) c.in-Stays.is c.in_ok-step.ensures.step
+    c.loop-made.invariant.comes (omega (arith, c.loop-made-test.true)) c.in-Stays.is c.in_ok-step.ensures.taken.of_states
 
 pub loop-made-preserved : goal.loop-made-preserved
 loop-made-preserved g c =
@@ -45,20 +40,15 @@ loop-made-preserved g c =
     let t = index c.args.t.0 in
     let states = states_of index c.loop-made.states.items in
     let after = states_of index c.take_step.new.states.items in
-    let reduced = subst (λ (s : Step). IsStepOf grm table t states s after) c.in-Reduced.is c.in_ok-step.ensures.step in
-    let within = reduced_within grm table t states reduced.0 after c.requires.sound.closed c.loop-made.invariant.within reduced.1 in
+    let reduced = subst (λ (s : Step). IsStepOf grm table t states s after) c.in-Reduced.is c.in_ok-step.ensures.taken.of_states in
     record {
-      some = rw length-map at within.0;
-      within = within.1;
+      states = reduced_within grm table t states reduced.0 after c.requires.sound.closed c.loop-made.invariant.states.within reduced.1;
       comes = comes_more grm table t (states_of index c.args.states.now.items) states after c.loop-made.made c.in_ok-step.step
-          c.loop-made.invariant.comes c.in-Reduced.is c.in_ok-step.ensures.step;
+          c.loop-made.invariant.comes c.in-Reduced.is c.in_ok-step.ensures.taken.of_states;
     }
 
-pub take_step-requires-2-clause-some : goal.take_step-requires-2-clause-some
-take_step-requires-2-clause-some g c = rw length-map c.loop-made.invariant.some
-
-pub take_step-requires-2-clause-within : goal.take_step-requires-2-clause-within
-take_step-requires-2-clause-within g c = c.loop-made.invariant.within
+pub take_step-requires-2-clause-states : goal.take_step-requires-2-clause-states
+take_step-requires-2-clause-states g c = c.loop-made.invariant.states
 
 pub returns-in-Reduced-step : goal.returns-in-Reduced-step
 returns-in-Reduced-step g c =
@@ -66,7 +56,7 @@ returns-in-Reduced-step g c =
     let end : c.loop-made.made ≡ c.args.self.now.cap = omega (arith, c.loop-made-test.false, c.loop-made.auto.made-end) in
     longer c.args.self.now.grm.now c.args.self.now.stable.now (index c.args.t.0) (states_of index c.args.states.now.items) c.args.self.now.cap
     (states_of index c.loop-made.states.items) (states_of index c.take_step-2.new.states.items) c.loop-made.made c.in_ok-step-2.step
-    c.loop-made.invariant.comes end c.in-Reduced-step.is c.in_ok-step-2.ensures.step
+    c.loop-made.invariant.comes end c.in-Reduced-step.is c.in_ok-step-2.ensures.taken.of_states
 
 pub returns-in-Stays-step : goal.returns-in-Stays-step
 returns-in-Stays-step g c =
@@ -78,4 +68,4 @@ returns-in-Stays-step g c =
     let end : c.loop-made.made ≡ cap = omega (arith, c.loop-made-test.false, c.loop-made.auto.made-end) in
     subst (λ (n : ℕ). IsLength grm table cap (index c.args.t.0) start n) end
     (length_stays grm table (index c.args.t.0) start cap (states_of index c.loop-made.states.items) (states_of index c.take_step-2.new.states.items)
-    c.loop-made.made c.in_ok-step-2.step c.loop-made.invariant.comes (omega (arith, end)) c.in-Stays-step.is c.in_ok-step-2.ensures.step)
+    c.loop-made.made c.in_ok-step-2.step c.loop-made.invariant.comes (omega (arith, end)) c.in-Stays-step.is c.in_ok-step-2.ensures.taken.of_states)

@@ -1,7 +1,4 @@
-use Rattle.std.proofs.Common.{◌<◌, length}
-use Rattle.std.specs.List.{All}
-use Rattle.lrpar_table_rows.specs.Table.{states_len}
-use Rattle.lrpar_table_stacks.specs.Stack.{states_of}
+use Rattle.lrpar_table_stacks.specs.Stack.{AreSomeStatesOf, states_of}
 use Rattle.lrpar_table_check.proofs.LengthLemmas.{Comes}
 use Rattle.lrpar_table_check.proofs.chains.Chains.reductions.Given as goal
 
@@ -11,7 +8,6 @@ invariant-loop-made g l =
     let index = g.StorageT.StorageIndex.index in
     let table = l.self.stable.now in
     record {
-      some : 0 < length l.states.items;
-      within : All (λ s. s < states_len table) (states_of index l.states.items);
+      states : AreSomeStatesOf table (states_of index l.states.items);
       comes : Comes l.self.grm.now table (index l.t.0) (states_of index l.fn.states.items) (states_of index l.states.items) l.made;
     }
