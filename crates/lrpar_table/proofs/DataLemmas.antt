@@ -1,18 +1,16 @@
 -- What is checked of a table that was built with a choice. Without precedences it is that of the grammar alone: the canonical one, or one
 -- with merged item sets.
-use Rattle.std.proofs.Common.{Result, IfErr, IfOk, ◌≡◌, ◌≤◌, ℕ, ap, subst, sym}
+use Rattle.std.proofs.Common.{Result, IfErr, IfOk, ◌≡◌, ℕ, subst, sym}
 use Rattle.std.proofs.lemmas.Result.{IfErr-weaker, IfOk-weaker}
 use Rattle.lrpar_grammar.specs.Grammar.{Grammar, IsWellFormed}
 use Rattle.lrpar_table_precedence.specs.Precedence.{PrecedenceLists, no_precedences}
-use Rattle.lrpar_table_rows.specs.Graph.{Graph, graph_len}
+use Rattle.lrpar_table_rows.specs.Graph.{Graph}
 use Rattle.lrpar_table_rows.specs.Table.{Table as TableOf}
 use Rattle.lrpar_table_build.specs.Built.{IsBuilt, IsBuiltBy}
 use Rattle.lrpar_table_build.proofs.BuiltLemmas.{built_without}
-use Rattle.lrpar_table_check.specs.Checked.{Checked, IsChecked}
+use Rattle.lrpar_table_check.specs.Checked.{Checked}
 use Rattle.lrpar_table_merge.specs.Merged.{IsMerged}
 use Rattle.lrpar_table_merge.specs.MergedBy.{IsMergedBy}
-use Rattle.lrpar_table_merge.specs.Minimised.{IsMinimisedBy}
-use Rattle.lrpar_table_merge.specs.declared.build.Minimiser.{Minimiser}
 use Rattle.lrpar_table_merge.specs.declared.build.Minimiser.TheVariants.{Canonical, Pager}
 use Rattle.lrpar_table_merge.proofs.MergedByNoneLemmas.{merged_by_none_is_merged, none_decide}
 use Rattle.lrpar_table_merge.proofs.MergedCompleteLemmas.{merged_tables_are_complete_without_conflicts}
@@ -23,18 +21,6 @@ use Rattle.lrpar_table.specs.TableLaws.{IsCompleteWithoutConflicts}
 use Rattle.lrpar_table.specs.declared.build.Unbuilt.{Unbuilt}
 use Rattle.lrpar_table.specs.declared.build.Unbuilt.TheVariants.{Chains, Table}
 use Rattle.lrpar_table.proofs.CompleteLemmas.{built_tables_are_complete_without_conflicts}
-
-pub minimised_data : (minimiser : Minimiser) (g : Grammar) (lists : PrecedenceLists) (most bound : ℕ) (graph : Graph) (table : TableOf) (d : Checked)
-    → IsMinimisedBy minimiser g lists graph table → graph_len graph ≤ most → d ≡ record { grammar = g; graph = graph; table = table; cap = bound }
-    → IsChecked d → IsMinimisedData minimiser g lists most bound d
-minimised_data minimiser g lists most bound graph table d built room made checked =
-    let same_graph : d.graph ≡ graph = ap (λ (x : Checked). x.graph) made in record {
-      grammar = ap (λ (x : Checked). x.grammar) made;
-      cap_is = ap (λ (x : Checked). x.cap) made;
-      built = subst (λ (x : Checked). IsMinimisedBy minimiser g lists x.graph x.table) (sym made) built;
-      room = subst (λ (x : Graph). graph_len x ≤ most) (sym same_graph) room;
-      checked = checked;
-    }
 
 module _ (g : Grammar) (lists : PrecedenceLists) (none : lists ≡ no_precedences) where
   -- without precedences, a canonical table is that of the grammar alone
