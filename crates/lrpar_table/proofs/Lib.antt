@@ -2,4 +2,3 @@ pub mod CompleteLemmas
 pub mod ResolvedLemmas
 pub mod DataLemmas
 pub mod ViableLemmas
-pub mod MergedDataLemmas

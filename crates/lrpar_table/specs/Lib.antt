@@ -1,3 +1,3 @@
-pub mod ParserData
 pub mod TableLaws
 pub mod MergedParserData
+pub mod ParserData

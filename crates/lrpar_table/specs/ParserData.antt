@@ -1,10 +1,12 @@
 -- A checked table of a grammar alone, and why there is none.
-use Rattle.std.specs.Prelude.{◌≡◌, ◌≤◌, ℕ}
+use Rattle.std.specs.Prelude.{◌≡◌, ◌≤◌, ℕ, IfErr, IfOk, Result}
 use Rattle.lrpar_grammar.specs.Grammar.{Grammar}
 use Rattle.lrpar_table_rows.specs.Graph.{graph_len}
 use Rattle.lrpar_table_precedence.specs.Precedence.{PrecedenceLists}
-use Rattle.lrpar_table_build.specs.Built.{IsBuildRefusal, IsBuilt, IsBuiltBy}
+use Rattle.lrpar_table_build.specs.Built.{IsBuildRefusal, IsBuilt}
 use Rattle.lrpar_table_check.specs.Checked.{Checked, IsChainFault, IsChecked, Unchecked}
+use Rattle.lrpar_table_merge.specs.declared.build.Minimiser.TheVariants.{Canonical}
+use Rattle.lrpar_table.specs.MergedParserData.{IsMinimisedData, IsRefusedMinimised, IsUnminimised}
 use Rattle.lrpar_table.specs.TableLaws.{IsCompleteWithoutConflicts}
 use Rattle.lrpar_table.specs.declared.build.Unbuilt.{Unbuilt}
 use Rattle.lrpar_table.specs.declared.build.Unbuilt.TheVariants.{Chains, Table}
@@ -31,20 +33,20 @@ abbrev pub IsUnbuilt : {S : Type 0} → ℕ → Grammar → ℕ → ℕ → Unbu
 IsUnbuilt limit g most bound (Table fault grm) = (grm ≡ g) × IsBuildRefusal g most limit fault
 IsUnbuilt limit g most bound (Chains refused) = IsRefusedBuilt g most bound refused
 
--- the same by precedences: whether it is complete isn't said
-pub record IsParserDataBy (g : Grammar) (precedences : PrecedenceLists) (most cap : ℕ) (d : Checked) : Type 0 where
-  pub grammar : d.grammar ≡ g
-  pub cap_is : d.cap ≡ cap
-  pub built : IsBuiltBy g precedences d.graph d.table
-  pub room : graph_len d.graph ≤ most
-  pub checked : IsChecked d
+-- if the result is a checked table, it is one that is built of the grammar
+abbrev pub GivesParserData : {E : Type 0} → Grammar → ℕ → ℕ → Result Checked E → Type 0
+GivesParserData g most cap result = IfOk result (IsParserDataOf g most cap)
 
-pub record IsRefusedBuiltBy (g : Grammar) (precedences : PrecedenceLists) (most cap : ℕ) (refused : Unchecked) : Type 0 where
-  pub grammar : refused.grammar ≡ g
-  pub built : IsBuiltBy g precedences refused.graph refused.table
-  pub room : graph_len refused.graph ≤ most
-  pub fault : IsChainFault g refused.table cap refused.fault
+-- the same by precedences: whether it is complete isn't said
+abbrev pub IsParserDataBy : Grammar → PrecedenceLists → ℕ → ℕ → Checked → Type 0
+IsParserDataBy g precedences most cap = IsMinimisedData Canonical g precedences most cap
+
+abbrev pub IsRefusedBuiltBy : Grammar → PrecedenceLists → ℕ → ℕ → Unchecked → Type 0
+IsRefusedBuiltBy g precedences most cap = IsRefusedMinimised Canonical g precedences most cap
 
 abbrev pub IsUnbuiltBy : {S : Type 0} → ℕ → Grammar → PrecedenceLists → ℕ → ℕ → Unbuilt S → Type 0
-IsUnbuiltBy limit g precedences most bound (Table fault grm) = (grm ≡ g) × IsBuildRefusal g most limit fault
-IsUnbuiltBy limit g precedences most bound (Chains refused) = IsRefusedBuiltBy g precedences most bound refused
+IsUnbuiltBy limit g precedences most bound = IsUnminimised Canonical limit g precedences most bound
+
+-- if there is no checked table by the precedences, the result says why
+abbrev pub TellsUnbuiltBy : {T S : Type 0} → ℕ → Grammar → PrecedenceLists → ℕ → ℕ → Result T (Unbuilt S) → Type 0
+TellsUnbuiltBy limit g precedences most bound result = IfErr result (IsUnbuiltBy limit g precedences most bound)

@@ -1,7 +1,7 @@
 //! The table builder, and the checked table of a grammar alone.
 ghost use Rattle.std.specs.Prelude.{IfErr, IfOk};
-ghost use Rattle.lrpar_table.specs.MergedParserData.{IsMergedData, IsMinimisedData, IsUnmerged, IsUnminimised};
-ghost use Rattle.lrpar_table.specs.ParserData.{IsParserDataBy, IsParserDataOf, IsUnbuilt, IsUnbuiltBy};
+ghost use Rattle.lrpar_table.specs.MergedParserData.{GivesMergedData, IsMinimisedData, TellsUnmerged, TellsWhy};
+ghost use Rattle.lrpar_table.specs.ParserData.{GivesParserData, IsParserDataBy, IsUnbuilt, TellsUnbuiltBy};
 
 use lrpar_grammar::grammar::YaccGrammar;
 use lrpar_grammar::span::StorageIndex;
@@ -48,16 +48,19 @@ pub fn parser_data<StorageT: StorageIndex>(
     max_states: usize,
     cap: u16,
 ) -> Result<ParserData<StorageT>, Unbuilt<StorageT>>
-    ensures built { IfOk result (IsParserDataOf grm max_states cap) }
+    ensures built { GivesParserData grm max_states cap result }
     ensures refused { IfErr result (IsUnbuilt StorageT.limit grm max_states cap) }
 {
-    match from_yacc(alloc, &grm, max_states) {
-        Err(fault) => Err(Unbuilt::Table(fault, grm)),
-        Ok((sgraph, stable)) => match ParserData::of_safe(alloc, grm, sgraph, stable, cap) {
-            Ok(data) => Ok(data),
-            Err(refused) => Err(Unbuilt::Chains(refused)),
-        },
-    }
+    let _start = grm.start_prod();
+    let precedences = Precedences::none(alloc);
+    parser_data_by(
+        alloc,
+        grm,
+        &precedences,
+        Minimiser::Canonical,
+        max_states,
+        cap,
+    )
 }
 
 /// The same by precedences: the checked table of the grammar that `from_yacc_with` builds. It is safe, so all that holds of a
@@ -72,15 +75,16 @@ pub fn parser_data_with<StorageT: StorageIndex>(
     cap: u16,
 ) -> Result<ParserData<StorageT>, Unbuilt<StorageT>>
     ensures built { IfOk result (IsParserDataBy grm precedences.now max_states cap) }
-    ensures refused { IfErr result (IsUnbuiltBy StorageT.limit grm precedences.now max_states cap) }
+    ensures refused { TellsUnbuiltBy StorageT.limit grm precedences.now max_states cap result }
 {
-    match from_yacc_with(alloc, &grm, precedences, max_states) {
-        Err(fault) => Err(Unbuilt::Table(fault, grm)),
-        Ok((sgraph, stable)) => match ParserData::of_safe(alloc, grm, sgraph, stable, cap) {
-            Ok(data) => Ok(data),
-            Err(refused) => Err(Unbuilt::Chains(refused)),
-        },
-    }
+    parser_data_by(
+        alloc,
+        grm,
+        precedences,
+        Minimiser::Canonical,
+        max_states,
+        cap,
+    )
 }
 
 /// The checked table of the grammar with merged item sets, at most `max_states` of them, as `from_yacc_by` builds it with
@@ -94,8 +98,8 @@ pub fn merged_parser_data<StorageT: StorageIndex>(
     max_states: usize,
     cap: u16,
 ) -> Result<ParserData<StorageT>, Unbuilt<StorageT>>
-    ensures built { IfOk result (IsMergedData grm max_states cap) }
-    ensures refused { IfErr result (IsUnmerged grm max_states cap) }
+    ensures built { GivesMergedData grm max_states cap result }
+    ensures refused { TellsUnmerged grm max_states cap result }
 {
     let precedences = Precedences::none(alloc);
     parser_data_by(alloc, grm, &precedences, Minimiser::Pager, max_states, cap)
@@ -113,7 +117,7 @@ pub fn parser_data_by<StorageT: StorageIndex>(
     cap: u16,
 ) -> Result<ParserData<StorageT>, Unbuilt<StorageT>>
     ensures built { IfOk result (IsMinimisedData minimiser grm precedences.now max_states cap) }
-    ensures refused { IfErr result (IsUnminimised minimiser StorageT.limit grm precedences.now max_states cap) }
+    ensures refused { TellsWhy minimiser StorageT.limit grm precedences.now max_states cap result }
 {
     match from_yacc_by(alloc, &grm, precedences, minimiser, max_states) {
         Err(fault) => Err(Unbuilt::Table(fault, grm)),

@@ -13,7 +13,8 @@ use Rattle.lrpar_table_items.specs.Next.{kernel_at, kernel_rows}
 use Rattle.lrpar_table_merge.specs.Compatible.{HaveSameCores, lookaheads_at, lr0_core}
 use Rattle.lrpar_table_merge.specs.PassedOn.{AreBeginnings}
 use Rattle.lrpar_table_merge.specs.Propagated.{AreAlike}
-use Rattle.lrpar_table_merge.proofs.PropagateLemmas.{among_low}
+use Rattle.lrpar_table_merge.specs.StoredKernels.{AreSameCores, HasNoLookahead, HaveNoItem, IsSameCore, KeepCores, StayAlike, StayCores, StaysCore}
+use Rattle.lrpar_table_merge.proofs.PropagateLemmas.{alike_on, among_low}
 use Rattle.lrpar_table_merge.proofs.UniteLemmas.{at_other, at_same, map_set_same}
 
 -- a list that was lent and written back
@@ -32,6 +33,18 @@ no_lookaheads cores none x h =
     let low = h.1.1 in
     let at : lookaheads_at cores k ≡ h.0.tokens = get_or-map (λ (c : CoreSet). c.tokens) cores k h.0 [] low ∙ ap (λ (c : CoreSet). c.tokens) h.1.2 in
     false≢true (sym (none k low x.token) ∙ subst (λ row. IsTrue (has row x.token)) (sym at) h.2.2)
+
+-- the cores at the first n places have no lookaheads; all are still cores of a grammar, with the same LR(0) cores
+pub record AreClearedTo {S : Type 0} (index : S → ℕ) (first now : List (CoreItems S)) (n : ℕ) : Type 0 where
+  pub cores : StayCores index first now
+  pub same : AreSameCores index now first
+  pub none : (k : ℕ) → k < n → (t : ℕ) → has (lookaheads_at (map (core_set index) now) k) t ≡ false
+
+-- the same of the first n kernels
+pub record AreKernelsClearedTo {S A : Type 0} (index : S → ℕ) (first now : List (Vec (CoreItems S) A)) (n : ℕ) : Type 0 where
+  pub cores : KeepCores index first now
+  pub alike : StayAlike index first now
+  pub none : (s : ℕ) → s < n → (x : ItemOf) → IsAmong (kernel_at (kernel_rows index now) s) x → ⊥
 
 module _ {S : Type 0} (index : S → ℕ) (kernel : List (CoreItems S)) (place : ℕ) (core d : CoreItems S) (low : place < length kernel) where
   low_value : place < length (map (core_set index) kernel)
@@ -67,6 +80,15 @@ module _ {S : Type 0} (index : S → ℕ) (kernel : List (CoreItems S)) (place :
       let was = subst (IsCoreOf g) (get_or-map (core_set index) kernel place d (core_set index d) low) (are place (core_set index d) low_value) in
       subst (All (IsCoreOf g)) (sym (map-set (core_set index) kernel place core))
       (All-set (IsCoreOf g) (map (core_set index) kernel) place (core_set index core) (stays was) are)
+
+  -- so one more core is cleared
+  pub cleared_on : (first : List (CoreItems S)) → AreClearedTo index first kernel place → StaysCore index (get_or kernel place d) core
+      → IsSameCore index core (get_or kernel place d) → HasNoLookahead core → AreClearedTo index first (set kernel place core) (place + 1)
+  cleared_on first so_far stays same none = record {
+    cores = λ g are. cores_more g (stays g) (so_far.cores g are);
+    same = same_more same ∙ so_far.same;
+    none = cleared_more none so_far.none;
+  }
 
 module _ {S A : Type 0} (index : S → ℕ) (kernels : List (Vec (CoreItems S) A)) (state : ℕ) (new d : Vec (CoreItems S) A) (low : state < length kernels) where
   abbrev cores_of : Vec (CoreItems S) A → List CoreSet
@@ -116,6 +138,17 @@ module _ {S A : Type 0} (index : S → ℕ) (kernels : List (Vec (CoreItems S) A
   kernels_more g stays are =
       let was = subst (All (IsCoreOf g)) (get_or-map cores_of kernels state d (cores_of d) low) (are state (cores_of d) low_row) in
       subst (All (All (IsCoreOf g))) (sym rows_set) (All-set (All (IsCoreOf g)) (kernel_rows index kernels) state (cores_of new) (stays was) are)
+
+  -- so one more kernel is cleared
+  pub kernels_cleared_on : (first : List (Vec (CoreItems S) A)) → AreKernelsClearedTo index first kernels state
+      → StayCores index (get_or kernels state d).items new.items → AreSameCores index new.items (get_or kernels state d).items
+      → HaveNoItem index new.items → AreKernelsClearedTo index first (set kernels state new) (state + 1)
+  kernels_cleared_on first so_far stays same none =
+      let rows = kernel_rows index kernels in record {
+        cores = λ g are. kernels_more g (stays g) (so_far.cores g are);
+        alike = alike_on (kernel_rows index first) rows (kernel_rows index (set kernels state new)) so_far.alike (alike_more same);
+        none = empty_more none so_far.none;
+      }
 
 -- if no kernel in range has an item, none has
 pub all_empty : (kernels : List (List CoreSet)) (n : ℕ) → length kernels ≡ n → ((s : ℕ) → s < n → (x : ItemOf) → IsAmong (kernel_at kernels s) x → ⊥)

@@ -29,3 +29,4 @@ pub mod FromLemmas
 pub mod ClearLemmas
 pub mod RoundLemmas
 pub mod MisfitLemmas
+pub mod ExpandedLemmas

@@ -11,7 +11,7 @@ use Rattle.lrpar_table_build.specs.Built.{AreResolvedInOrder, shift_reduce_cmp}
 use Rattle.lrpar_table_build.specs.BuilderLaws.{AreConflictsBy, AreConflictsOf, AreResolvedBy}
 use Rattle.lrpar_table_build.proofs.DecidedLemmas.{first_decided}
 use Rattle.lrpar_table_build.proofs.MemberLemmas.{member_none, sorted_none}
-use Rattle.lrpar_table_merge.specs.Merged.{ActsAsMerged, Along, IsMergedTable}
+use Rattle.lrpar_table_merge.specs.Merged.{ActsAsMerged, Along, IsMergedTable, IsTableOfMerged}
 use Rattle.lrpar_table_merge.specs.MergedBy.{ActsAsMergedBy, IsMergedTableBy}
 use Rattle.lrpar_table_merge.specs.MergedByLaws.{DecideNothing, MergedByNoneIsMerged}
 use Rattle.lrpar_table_merge.proofs.ListLemmas.{empty_list}
@@ -19,6 +19,21 @@ use Rattle.lrpar_table_merge.proofs.ListLemmas.{empty_list}
 -- no precedences decide nothing
 pub none_decide : DecideNothing no_precedences
 none_decide p t = refl
+
+-- a table whose actions are of one kind is a table with those of another kind, if an action of the one kind is one of the other
+table_acting : (g : Grammar) (graph : Graph) (table : Table) (goes : ℕ → GrammarSymbol → ℕ → Type 0) (Acts Others : ℕ → ℕ → Type 0)
+    → ((s t : ℕ) → Acts s t → Others s t) → IsTableOfMerged Acts g graph table goes → IsTableOfMerged Others g graph table goes
+table_acting g graph table goes Acts Others on is = record {
+  states = is.states;
+  start = is.start;
+  tokens = is.tokens;
+  rules = is.rules;
+  acts = λ s t within below. on s t (is.acts s t within below);
+  gotos = is.gotos;
+  no_state = is.no_state;
+  no_token = is.no_token;
+  no_rule = is.no_rule;
+}
 
 module _ (g : Grammar) (lists : PrecedenceLists) (nothing : DecideNothing lists) (graph : Graph) where
   -- a shift that meets a reduction wins
@@ -48,30 +63,12 @@ module _ (g : Grammar) (lists : PrecedenceLists) (nothing : DecideNothing lists)
     }
 
     pub table_with : IsMergedTable g graph table goes → IsMergedTableBy g lists graph table goes
-    table_with is = record {
-      states = is.states;
-      start = is.start;
-      tokens = is.tokens;
-      rules = is.rules;
-      acts = λ s t within below. acts_with s t (is.acts s t within below);
-      gotos = is.gotos;
-      no_state = is.no_state;
-      no_token = is.no_token;
-      no_rule = is.no_rule;
-    }
+    table_with is =
+        table_acting g graph table goes (ActsAsMerged g (sets_of graph) goes table) (ActsAsMergedBy g lists (sets_of graph) goes table) acts_with is
 
     table_without : IsMergedTableBy g lists graph table goes → IsMergedTable g graph table goes
-    table_without is = record {
-      states = is.states;
-      start = is.start;
-      tokens = is.tokens;
-      rules = is.rules;
-      acts = λ s t within below. acts_without s t (is.acts s t within below);
-      gotos = is.gotos;
-      no_state = is.no_state;
-      no_token = is.no_token;
-      no_rule = is.no_rule;
-    }
+    table_without is =
+        table_acting g graph table goes (ActsAsMergedBy g lists (sets_of graph) goes table) (ActsAsMerged g (sets_of graph) goes table) acts_without is
 
   -- all conflicts are listed
   pub conflicts_with : (conflicts : Option ConflictLists) → AreConflictsOf g graph conflicts → AreConflictsBy g lists graph conflicts

@@ -2,14 +2,13 @@
 -- complete item the table has the item's action: so it has, if each state calls for one action at each token; and if it has, no two
 -- actions can be called for.
 use Rattle.std.proofs.Common.{◌≡◌, ◌<◌, ◌+◌, ◌∙◌, refl, sym, ap, subst, arith, ℕ, List, None, Option, Some, length, slice_get}
-use Rattle.std.specs.List.{Contains}
 use Rattle.lrpar_grammar.specs.Grammar.{Grammar, GrammarSymbol, IsWellFormed, Nonterminal, Terminal, end_token, prod_len, start_prod, symbols_of}
 use Rattle.lrpar_table_precedence.specs.Precedence.{no_precedences}
 use Rattle.lrpar_table_rows.proofs.GraphLemmas.{state_in_range}
 use Rattle.lrpar_table_rows.specs.Graph.{Graph, HasItem, graph_len, item_at}
 use Rattle.lrpar_table_rows.specs.Table.{Accepts, ConflictLists, ReduceBy, ReduceReduce, ShiftReduce, ShiftTo, Table, action_of, states_len}
 use Rattle.lrpar_table_items.specs.Canonical.{HasReduce, IsReduceConflict, IsShiftConflict, sets_of}
-use Rattle.lrpar_table_build.specs.BuilderLaws.{AcceptAlone, AreConflictsBy, AreConflictsOf, lists_in}
+use Rattle.lrpar_table_build.specs.BuilderLaws.{AcceptAlone, AreConflictsBy, AreConflictsOf}
 use Rattle.lrpar_table_build.proofs.ReachedLemmas.{symbol_listed}
 use Rattle.lrpar_table_conditions.specs.Complete.{IsComplete, IsCompleteAt, StepsOn}
 use Rattle.lrpar_table_conditions.specs.declared.completeness.CompletenessCondition.{CompletenessCondition}
@@ -19,8 +18,7 @@ use Rattle.lrpar_table_merge.specs.Merged.{Along, AreMerged, IsMergedTable}
 use Rattle.lrpar_table_merge.specs.MergedLaws.{MergedTablesAreCompleteWithoutConflicts}
 use Rattle.lrpar_table_merge.proofs.MergedByNoneLemmas.{conflicts_with, none_decide}
 use Rattle.lrpar_table_merge.proofs.MergedHeldLemmas.{held_within}
-use Rattle.lrpar_table_merge.proofs.ListLemmas.{empty_list}
-use Rattle.lrpar_table_merge.proofs.MergedConflictLemmas.{item_known, no_reduction_at_end, no_shift_conflict, no_shift_of_end, only_reduction}
+use Rattle.lrpar_table_merge.proofs.MergedConflictLemmas.{item_known, no_reduction_at_end, no_shift_conflict, no_shift_of_end, none_listed, only_reduction}
 
 module _ (g : Grammar) (graph : Graph) (table : Table) (goes : ℕ → GrammarSymbol → ℕ → Type 0) (well : IsWellFormed g)
     (merged : AreMerged g (graph_len graph) (sets_of graph) goes) (resolved : IsMergedTable g graph table goes) where
@@ -123,21 +121,15 @@ module _ (g : Grammar) (graph : Graph) (table : Table) (goes : ℕ → GrammarSy
           let reduction = reduced x.state x.token x.prod within conflict.1.0 in
           let same : ShiftTo to.0 ≡ ReduceBy x.prod = sym to.1 ∙ reduction in absurd (cc)
 
-      none_listed : (c : Option ConflictLists) → conflicts ≡ c → c ≡ None
-      none_listed None is = refl
-      none_listed (Some lists) is =
-          absurd (are.some lists is
-          (empty_list lists.reduce_reduce (λ x there.
-          let listed = subst (λ (c : Option ConflictLists). Contains (lists_in c).reduce_reduce x) (sym is) there in
-          let conflict = (are.reduce_reduce x).0 listed in no_reduce_conflict x conflict.0 conflict.2))
-          (empty_list lists.shift_reduce (λ x there.
-          let listed = subst (λ (c : Option ConflictLists). Contains (lists_in c).shift_reduce x) (sym is) there in
-          let conflict = (are.shift_reduce x).0 listed in no_shift_beside x conflict.0 conflict.2)))
+      none_there : conflicts ≡ None
+      none_there =
+          none_listed conflicts are.some
+          (λ x there. let conflict = (are.reduce_reduce x).0 there in no_reduce_conflict x conflict.0 conflict.2)
+          (λ x there. let conflict = (are.shift_reduce x).0 there in no_shift_beside x conflict.0 conflict.2)
 
 pub merged_tables_are_complete_without_conflicts : MergedTablesAreCompleteWithoutConflicts
 merged_tables_are_complete_without_conflicts g graph table well built =
     let goes = Along built.steps in (
-      λ complete. none_listed g graph table goes well built.merged built.resolved table.conflicts built.conflicts built.accept_alone complete
-          table.conflicts refl,
+      λ complete. none_there g graph table goes well built.merged built.resolved table.conflicts built.conflicts built.accept_alone complete,
       λ none. is_complete g graph table goes well built.merged built.resolved table.conflicts built.conflicts built.accept_alone none,
     )

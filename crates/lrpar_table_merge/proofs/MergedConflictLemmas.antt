@@ -1,6 +1,6 @@
 -- Merged item sets without listed conflicts: no state calls for two reductions at one token, for accept and something else, or for a
 -- shift and a reduction between which the precedences don't decide.
-use Rattle.std.proofs.Common.{◌≡◌, ◌≢◌, ◌<◌, refl, subst, inl, inr, arith, ℕ, [], None, Option}
+use Rattle.std.proofs.Common.{◌≡◌, ◌≢◌, ◌<◌, refl, subst, inl, inr, arith, ℕ, [], None, Option, Some}
 use Rattle.std.specs.List.{Contains}
 use Rattle.std.proofs.lemmas.Bool.{cases_eq}
 use Rattle.lrpar_grammar.specs.Grammar.{Grammar, GrammarSymbol, IsWellFormed, Terminal, end_token, start_prod}
@@ -13,7 +13,17 @@ use Rattle.lrpar_table_build.specs.BuilderLaws.{AcceptAlone, AreConflictsBy, lis
 use Rattle.lrpar_table_build.proofs.DecidedLemmas.{first_reduction}
 use Rattle.lrpar_table_build.proofs.ReachedLemmas.{no_end_token}
 use Rattle.lrpar_table_merge.specs.Merged.{AreMerged}
+use Rattle.lrpar_table_merge.proofs.ListLemmas.{empty_list}
 use Rattle.lrpar_table_merge.proofs.MergedHeldLemmas.{held_at_end, held_items}
+
+-- lists of conflicts in which no conflict can be are not there
+pub none_listed : (conflicts : Option ConflictLists)
+    → ((lists : ConflictLists) → conflicts ≡ Some lists → lists.reduce_reduce ≡ [] → lists.shift_reduce ≡ [] → ⊥)
+    → ((x : ReduceReduce) → Contains (lists_in conflicts).reduce_reduce x → ⊥) → ((x : ShiftReduce) → Contains (lists_in conflicts).shift_reduce x → ⊥)
+    → conflicts ≡ None
+none_listed None some no_reduce no_shift = refl
+none_listed (Some lists) some no_reduce no_shift =
+    absurd (some lists refl (empty_list lists.reduce_reduce no_reduce) (empty_list lists.shift_reduce no_shift))
 
 module _ (g : Grammar) (graph : Graph) (goes : ℕ → GrammarSymbol → ℕ → Type 0) (well : IsWellFormed g)
     (merged : AreMerged g (graph_len graph) (sets_of graph) goes) where

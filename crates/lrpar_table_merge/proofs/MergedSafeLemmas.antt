@@ -9,7 +9,7 @@ use Rattle.lrpar_table_precedence.specs.declared.precedence.Resolution.{Resoluti
 use Rattle.lrpar_table_precedence.specs.declared.precedence.Resolution.TheVariants.{Shift, Reduce, Error}
 use Rattle.lrpar_table_rows.specs.Graph.{Graph, HasItem, graph_len, item_at}
 use Rattle.lrpar_table_rows.specs.Safe.{GoesBy, IsSafe, IsSafeAt}
-use Rattle.lrpar_table_rows.specs.Table.{Accepts, Fails, ReduceBy, ShiftTo, Table, action_of, goto_of, states_len}
+use Rattle.lrpar_table_rows.specs.Table.{Accepts, Fails, ReduceBy, ShiftTo, Table, TableAction, action_of, goto_of, states_len}
 use Rattle.lrpar_table_rows.specs.declared.condition.SafetyCondition.{SafetyCondition}
 use Rattle.lrpar_table_rows.specs.declared.condition.SafetyCondition.TheVariants.{S2, S3, S4, S5, S6, S7, S8}
 use Rattle.lrpar_table_rows.proofs.GraphLemmas.{state_in_range}
@@ -26,105 +26,83 @@ use Rattle.lrpar_table_merge.proofs.MergedByNoneLemmas.{none_decide, table_with}
 use Rattle.lrpar_table_merge.proofs.MergedHeldLemmas.{held_at_end, held_fresh, held_items, held_start_item, held_with_rule}
 
 module _ (g : Grammar) (graph : Graph) (table : Table) (goes : ℕ → GrammarSymbol → ℕ → Type 0) where
-  -- the action of the state at token t, and the items that call for it
-  data IsMergedAction (s t : ℕ) : Type 0 where
-    Shifting : (next : ℕ) → action_of table s t ≡ ShiftTo next → HasAfterDot g (sets_of graph) s (Terminal t) → goes s (Terminal t) next
-        → IsMergedAction s t
-    Reducing : (p : ℕ) → action_of table s t ≡ ReduceBy p → HasFirstReduce g (sets_of graph) s t p → IsMergedAction s t
-    Accepting : action_of table s t ≡ Accepts → HasAccept g (sets_of graph) s t → IsMergedAction s t
-    Failing : action_of table s t ≡ Fails → IsMergedAction s t
+  -- items of the state call for the action at token t
+  abbrev CallsFor : ℕ → ℕ → TableAction → Type 0
+  CallsFor s t (ShiftTo next) = HasAfterDot g (sets_of graph) s (Terminal t) × goes s (Terminal t) next
+  CallsFor s t (ReduceBy p) = HasReduce g (sets_of graph) s t p
+  CallsFor s t Accepts = HasAccept g (sets_of graph) s t
+  CallsFor s t Fails = Unit {0}
 
   -- a shift and a reduction meet, and precedences may decide
   meeting : (s t : ℕ) (o : Option Resolution) (p next : ℕ) → HasAfterDot g (sets_of graph) s (Terminal t) → HasFirstReduce g (sets_of graph) s t p
-      → action_of table s t ≡ chosen o next p → goes s (Terminal t) next → IsMergedAction s t
-  meeting s t None p next before first is go = Shifting next is before go
-  meeting s t (Some Shift) p next before first is go = Shifting next is before go
-  meeting s t (Some Reduce) p next before first is go = Reducing p is first
-  meeting s t (Some Error) p next before first is go = Failing is
+      → goes s (Terminal t) next → CallsFor s t (chosen o next p)
+  meeting s t None p next before first go = (before, go)
+  meeting s t (Some Shift) p next before first go = (before, go)
+  meeting s t (Some Reduce) p next before first go = first.0
+  meeting s t (Some Error) p next before first go = tt
 
-  acting : (lists : PrecedenceLists) (s t : ℕ) → ActsAsMergedBy g lists (sets_of graph) goes table s t → IsMergedAction s t
+  acting : (lists : PrecedenceLists) (s t : ℕ) → ActsAsMergedBy g lists (sets_of graph) goes table s t → CallsFor s t (action_of table s t)
   acting lists s t acts =
+      let is : (action : TableAction) → action_of table s t ≡ action → CallsFor s t action → CallsFor s t (action_of table s t) =
+      λ action same. subst (CallsFor s t) (sym same) in
       elim (before_decided g graph s (Terminal t)) [
         | inl before ↦
             elim (first_decided g graph s t) [
               | inl first ↦
                   let met = acts.meets before first.0 first.1 in
-                  meeting s t (resolution_of lists first.0 t) first.0 met.0 before first.1 met.1 met.2
-              | inr no_reduction ↦ let shift = acts.shifts before no_reduction in Shifting shift.0 shift.1 before shift.2
+                  is _ met.1 (meeting s t (resolution_of lists first.0 t) first.0 met.0 before first.1 met.2)
+              | inr no_reduction ↦ let shift = acts.shifts before no_reduction in is (ShiftTo shift.0) shift.1 (before, shift.2)
             ]
         | inr no_shift ↦
             elim (first_decided g graph s t) [
-              | inl first ↦ Reducing first.0 (acts.reduces no_shift first.0 first.1) first.1
+              | inl first ↦ is (ReduceBy first.0) (acts.reduces no_shift first.0 first.1) first.1.0
               | inr no_reduction ↦
                   elim (item_decided g graph s (start_prod g) 1 t) [
-                    | inl accept ↦ Accepting (acts.accepts no_shift no_reduction accept) accept
-                    | inr no_accept ↦ Failing (acts.fails no_shift no_reduction no_accept)
+                    | inl accept ↦ is Accepts (acts.accepts no_shift no_reduction accept) accept
+                    | inr no_accept ↦ is Fails (acts.fails no_shift no_reduction no_accept) tt
                   ]
             ]
       ]
 
+  -- the state goes by the rule along a transition, or not at all
+  abbrev GoesOn : ℕ → ℕ → Option ℕ → Type 0
+  GoesOn s r None = Unit {0}
+  GoesOn s r (Some next) = goes s (Nonterminal r) next
+
   module _ (lists : PrecedenceLists) (resolved : IsMergedTableBy g lists graph table goes) where
-    -- in range, the table's action is one of the set's; out of range, it is an error
-    action_there : (s t : ℕ) → IsMergedAction s t
+    -- in range, items call for the table's action; out of range, it is an error
+    action_there : (s t : ℕ) → CallsFor s t (action_of table s t)
     action_there s t =
         elim (cases_lt s (states_len table)) [
-          | inr past ↦ Failing (resolved.no_state s t past)
+          | inr past ↦ subst (CallsFor s t) (sym (resolved.no_state s t past)) tt
           | inl within ↦
               elim (cases_lt t (tokens_len g)) [
-                | inr past ↦ let is = resolved.tokens in Failing (resolved.no_token s t (omega (arith, past, is)))
+                | inr past ↦ let is = resolved.tokens in subst (CallsFor s t) (sym (resolved.no_token s t (omega (arith, past, is)))) tt
                 | inl below ↦ acting lists s t (resolved.acts s t within below)
               ]
         ]
 
-    shift_of_item : (s t next : ℕ) → action_of table s t ≡ ShiftTo next → HasAfterDot g (sets_of graph) s (Terminal t) × goes s (Terminal t) next
-    shift_of_item s t next at =
-        elim (action_there s t) [
-          | Shifting to is before go ↦ let same : to ≡ next = cc in (before, subst (goes s (Terminal t)) same go)
-          | Reducing p is candidate ↦ absurd (cc)
-          | Accepting is candidate ↦ absurd (cc)
-          | Failing is ↦ absurd (cc)
-        ]
+    -- so the items call for each action that is there
+    called_for : (s t : ℕ) (action : TableAction) → action_of table s t ≡ action → CallsFor s t action
+    called_for s t action at = subst (CallsFor s t) at (action_there s t)
 
-    reduction_of_item : (s t p : ℕ) → action_of table s t ≡ ReduceBy p → HasReduce g (sets_of graph) s t p
-    reduction_of_item s t p at =
-        elim (action_there s t) [
-          | Shifting to is before go ↦ absurd (cc)
-          | Reducing by is candidate ↦ let same : by ≡ p = cc in subst (λ (n : ℕ). HasReduce g (sets_of graph) s t n) same candidate.0
-          | Accepting is candidate ↦ absurd (cc)
-          | Failing is ↦ absurd (cc)
-        ]
-
-    accept_of_item : (s t : ℕ) → action_of table s t ≡ Accepts → HasAccept g (sets_of graph) s t
-    accept_of_item s t at =
-        elim (action_there s t) [
-          | Shifting to is before go ↦ absurd (cc)
-          | Reducing by is candidate ↦ absurd (cc)
-          | Accepting is candidate ↦ candidate
-          | Failing is ↦ absurd (cc)
-        ]
-
-    -- so is the goto by a rule
-    goto_of_item : (s r next : ℕ) → s < states_len table → goto_of table s r ≡ Some next → goes s (Nonterminal r) next
-    goto_of_item s r next within at =
+    -- so it is with the goto by a rule
+    goto_there : (s r : ℕ) → s < states_len table → GoesOn s r (goto_of table s r)
+    goto_there s r within =
         elim (cases_lt r (rules_len g)) [
-          | inr past ↦
-              let is = resolved.rules in
-              let none : goto_of table s r ≡ None = resolved.no_rule s r (omega (arith, past, is)) in absurd (cc)
+          | inr past ↦ let is = resolved.rules in subst (GoesOn s r) (sym (resolved.no_rule s r (omega (arith, past, is)))) tt
           | inl below ↦
               let gotos = resolved.gotos s r within below in
               elim (before_decided g graph s (Nonterminal r)) [
-                | inl before ↦
-                    let to = gotos.goes_on before in
-                    let there : goto_of table s r ≡ Some to.0 = to.1 in
-                    let same : to.0 ≡ next = cc in subst (goes s (Nonterminal r)) same to.2
-                | inr none ↦ let stays : goto_of table s r ≡ None = gotos.stays none in absurd (cc)
+                | inl before ↦ let to = gotos.goes_on before in subst (GoesOn s r) (sym to.1) to.2
+                | inr none ↦ subst (GoesOn s r) (sym (gotos.stays none)) tt
               ]
         ]
 
     -- the table goes only along the transitions
     goes_along : (s : ℕ) (X : GrammarSymbol) (next : ℕ) → s < states_len table → GoesBy table s X next → goes s X next
-    goes_along s (Terminal t) next within go = (shift_of_item s t next go).1
-    goes_along s (Nonterminal r) next within go = goto_of_item s r next within go
+    goes_along s (Terminal t) next within go = (called_for s t (ShiftTo next) go).1
+    goes_along s (Nonterminal r) next within go = subst (GoesOn s r) go (goto_there s r within)
 
     module _ (well : IsWellFormed g) (merged : AreMerged g (graph_len graph) (sets_of graph) goes) where
       -- a state holds its items
@@ -138,10 +116,10 @@ module _ (g : Grammar) (graph : Graph) (table : Table) (goes : ℕ → GrammarSy
       safe_at S2 s within = λ here p k has.
           held_fresh g goes (graph_len graph) (sets_of graph) merged s (item_at p k has.0) (holds s p k has.0 has.1) (here ∙ resolved.start)
       safe_at S3 s within = λ next at.
-          let before = (shift_of_item s (end_token g) next at).0 in no_end_token g well before.0.prod before.0.dot (end_token g) refl before.2
+          let before = (called_for s (end_token g) (ShiftTo next) at).0 in no_end_token g well before.0.prod before.0.dot (end_token g) refl before.2
       safe_at S4 s within = λ X next go p k has.
           (merged.step s X next (low s within) (goes_along s X next within go)).cores p k has.0 has.1
-      safe_at S5 s within = λ t p at. let candidate = reduction_of_item s t p at in (candidate.0, (t, candidate.1))
+      safe_at S5 s within = λ t p at. let candidate = called_for s t (ReduceBy p) at in (candidate.0, (t, candidate.1))
       safe_at S6 s within = λ p has listed.
           let item = item_at p 0 has.0 in
           let here = holds s p 0 has.0 has.1 in
@@ -151,7 +129,7 @@ module _ (g : Grammar) (graph : Graph) (table : Table) (goes : ℕ → GrammarSy
           let known = (held_items g goes well s item here).prod in
           let to = (resolved.gotos s (rule_of g p) within (rule_of_within g p well known)).goes_on before in (to.0, to.1)
       safe_at S7 s within = λ t at.
-          let candidate = accept_of_item s t at in
+          let candidate = called_for s t Accepts at in
           (held_at_end g goes well s (item_at (start_prod g) 1 t) (holds s (start_prod g) 1 t candidate) refl, (t, candidate))
       safe_at S8 s within = record {
         never_back = λ X go.
@@ -169,7 +147,7 @@ module _ (g : Grammar) (graph : Graph) (table : Table) (goes : ℕ → GrammarSy
           tokens = resolved.tokens;
           rules = resolved.rules;
           reduces = λ s t p at.
-              let candidate = reduction_of_item s t p at in
+              let candidate = called_for s t (ReduceBy p) at in
               (held_items g goes well s (item_at p (prod_len g p) t) (holds s p (prod_len g p) t candidate.1)).prod;
           items = λ s p k t has. held_items g goes well s (item_at p k t) (holds s p k t has);
         };

@@ -1,5 +1,6 @@
 -- Lookaheads that are passed on from state to state: one kernel, those of a row, and all that a state passes on.
 use Rattle.std.proofs.Common.{Vec, ◌≡◌, ◌≢◌, ◌<◌, ◌+◌, ◌||◌, ◌⊎◌, ◌∙◌, refl, sym, ap, subst, inl, inr, arith, ℕ, Bool, true, false, IsTrue, List, [], Option, Some, get_or, length, map, set}
+use Rattle.std.specs.Bool.{OnFalse}
 use Rattle.std.proofs.lemmas.Bool.{cases_Bool, cases_eq, cases_lt, false≢true}
 use Rattle.std.proofs.lemmas.List.{get_or-set_other, get_or-set_same, get_or_past, length-map}
 use Rattle.lrpar_grammar.specs.Tokens.{has}
@@ -9,7 +10,7 @@ use Rattle.lrpar_table_items.specs.declared.cores.CoreItems.{CoreItems}
 use Rattle.lrpar_table_items.specs.Next.{kernel_at, kernel_rows}
 use Rattle.lrpar_table_items.proofs.CoreLemmas.{among_nil}
 use Rattle.lrpar_table_merge.specs.PassedOn.{IsPassedTo, all_missing}
-use Rattle.lrpar_table_merge.specs.Propagated.{AreAdded, AreAlike, ArePassedAlong, HasGrown, IsPassedAlong, step_at}
+use Rattle.lrpar_table_merge.specs.Propagated.{AreAdded, AreAlike, ArePassedAlong, HasGrown, IsMarkedIf, IsPassedAlong, step_at}
 use Rattle.lrpar_table_merge.proofs.PassLemmas.{kernel_value}
 
 -- a list of cores that isn't empty
@@ -73,6 +74,15 @@ alike_on first before after one two = record { len = two.len ∙ one.len; cores 
 
 pub added_itself : (kernels : List (List CoreSet)) (waits : List Bool) → AreAdded kernels waits kernels waits
 added_itself kernels waits = record { alike = alike_itself kernels; kept = λ s x h. h; still = λ s h. h; marked = λ s off x h. h }
+
+-- a kernel was passed to a state, which was marked if its kernel grew
+module _ (before after : List (List CoreSet)) (state : ℕ) (waited waits : List Bool) where
+  pub added_if : (next : List CoreSet) → IsPassedTo before state next after → state < length waited → (grown : Bool)
+      → OnFalse grown (after ≡ before) → IsMarkedIf grown state waited waits → AreAdded before waited after waits
+  added_if next passed low true same marked = subst (AreAdded before waited after) (sym marked.0) (added_marked before after state next passed waited low)
+  added_if next passed low false same marked =
+      subst (λ marks. AreAdded before waited after marks) (sym marked.1)
+      (subst (λ kernels. AreAdded before waited kernels waited) (sym same) (added_itself before waited))
 
 -- a state that doesn't wait didn't, if those that waited still do
 pub off_before : (waited waits : List Bool) (s : ℕ) → (IsTrue (has waited s) → IsTrue (has waits s)) → has waits s ≡ false → has waited s ≡ false

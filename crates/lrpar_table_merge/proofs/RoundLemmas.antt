@@ -1,5 +1,5 @@
 -- Rounds over the states, until none waits.
-use Rattle.std.proofs.Common.{◌≡◌, ◌≢◌, ◌<◌, ◌+◌, ◌||◌, ◌∙◌, refl, sym, ap, subst, inl, inr, arith, ℕ, Bool, true, false, List, Some, length, set}
+use Rattle.std.proofs.Common.{Vec, ◌≡◌, ◌≢◌, ◌<◌, ◌+◌, ◌||◌, ◌∙◌, refl, sym, ap, subst, inl, inr, arith, ℕ, Bool, true, false, List, Some, length, set}
 use Rattle.std.proofs.lemmas.Bool.{cases_eq, cases_lt, false≢true}
 use Rattle.std.proofs.lemmas.List.{get_or-set_other, get_or-set_same, get_or_past}
 use Rattle.lrpar_grammar.specs.Grammar.{Grammar, GrammarSymbol}
@@ -8,11 +8,16 @@ use Rattle.lrpar_table_rows.specs.Graph.{ItemOf, item_at}
 use Rattle.lrpar_table_items.specs.Canonical.{AreSame}
 use Rattle.lrpar_table_items.specs.Cores.{CoreSet, IsAmong}
 use Rattle.lrpar_table_items.specs.ItemSets.{IsInClosure, IsStartItem}
-use Rattle.lrpar_table_items.specs.Next.{kernel_at}
+use Rattle.lrpar_table_items.specs.Next.{kernel_at, kernel_rows}
+use Rattle.lrpar_table_items.specs.declared.cores.CoreItems.{CoreItems}
 use Rattle.lrpar_table_build.proofs.SetLemmas.{closure_more}
 use Rattle.lrpar_table_merge.specs.Held.{GoesBy, IsHeld, Starts, TransitionsOf, next_of, transitions_at}
+use Rattle.lrpar_table_merge.specs.MergedStates.{all_transitions}
 use Rattle.lrpar_table_merge.specs.PassedOn.{AreBeginnings, IsPassedTo, all_missing}
+use Rattle.lrpar_table_merge.specs.Passing.{HasPassedOn, IsUnderWay}
 use Rattle.lrpar_table_merge.specs.Propagated.{AreAdded, ArePropagated, DoesWait, HasGrown, HasSettled, HaveBegun, IsPassedFrom, IsRoundTo, LeadOn, PassesOn}
+use Rattle.lrpar_table_merge.specs.StoredKernels.{AreKernelsIfFilled}
+use Rattle.lrpar_table_merge.specs.declared.held.Transitions.{Transitions}
 use Rattle.lrpar_table_merge.proofs.HeldLemmas.{advanced_held, all_held, closure_held}
 use Rattle.lrpar_table_merge.proofs.PropagateLemmas.{among_low, off_before}
 use Rattle.lrpar_table_merge.proofs.WithinLemmas.{closure_root}
@@ -94,6 +99,23 @@ settled state before after waited waits false low grows =
             ],
       ),
     )
+
+-- so propagation went on
+pub passed_on : {S A : Type 0} (index : S → ℕ) (g : Grammar) (all : List Transitions) (state : ℕ) (old new : List (Vec (CoreItems S) A))
+    (waited waits : List Bool) (grown : Bool) → state < length waited → IsUnderWay index g all old waited
+    → IsPassedFrom g (GoesBy (all_transitions all)) state (kernel_rows index old) (kernel_rows index new)
+    → AreAdded (kernel_rows index old) (set waited state false) (kernel_rows index new) waits → AreKernelsIfFilled index g new
+    → HasGrown (kernel_rows index old) (set waited state false) (kernel_rows index new) waits grown
+    → HasPassedOn index g all state old waited new waits grown
+passed_on index g all state old new waited waits grown low so_far from added filled growth =
+    let before = kernel_rows index old in
+    let after = kernel_rows index new in record {
+      goes_on = record {
+        alike = added.alike;
+        propagated = propagated_more g (GoesBy (all_transitions all)) state before after waited waits so_far from added filled;
+      };
+      settled = settled state before after waited waits grown low growth;
+    }
 
 -- a round over one more state
 pub round_more : (first before after : List (List CoreSet)) (waited waits : List Bool) (n : ℕ) (was more : Bool) → IsRoundTo first before waited n was

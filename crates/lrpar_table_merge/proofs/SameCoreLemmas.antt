@@ -1,8 +1,10 @@
 -- Values that represent cores, and what the cores are.
-use Rattle.std.proofs.Common.{◌≡◌, ◌<◌, ◌∙◌, refl, sym, ap, arith, ℕ, List, [], ◌∷◌, get_or, length, map}
-use Rattle.std.proofs.lemmas.List.{get_or-map, length-map}
+use Rattle.std.proofs.Common.{◌≡◌, ◌<◌, ◌≤◌, ◌+◌, ◌↔◌, ◌∙◌, refl, sym, ap, arith, ℕ, Bool, true, false, IsTrue, List, [], ◌∷◌, get_or, length, map, take}
+use Rattle.std.proofs.lemmas.Bool.{false≢true}
+use Rattle.std.proofs.lemmas.List.{get_or-map, length-map, take_all}
 use Rattle.lrpar_table_items.specs.Cores.{CoreSet, core_set}
 use Rattle.lrpar_table_items.specs.declared.cores.CoreItems.{CoreItems}
+use Rattle.lrpar_table_items.proofs.FindLemmas.{same_at, same_more}
 use Rattle.lrpar_table_merge.specs.Compatible.{HaveSameCores, lookaheads_at, lr0_core}
 
 -- the LR(0) core of a value
@@ -31,6 +33,31 @@ module _ {S : Type 0} (index : S → ℕ) where
       → length other ≡ length kernel
   same_len kernel other same =
       sym (length-map other (lr0_of index)) ∙ sym (ap length (values_of_same kernel other same)) ∙ length-map kernel (lr0_of index)
+
+  -- if a test of one place finds no difference, or finds one: whether the kernels have the same cores, or have them up to there
+  module _ (kernel other : List (CoreItems S)) (place : ℕ) (core next : CoreItems S) (same : Bool) (low : place < length kernel)
+      (below : place < length other) (is : core ≡ get_or kernel place core) (at : next ≡ get_or other place next)
+      (test : IsTrue same ↔ (lr0_of index core ≡ lr0_of index next)) where
+    pub differ_at : same ≡ false → IsTrue false ↔ HaveSameCores (map (core_set index) kernel) (map (core_set index) other)
+    differ_at differs = (
+      λ h. absurd (false≢true h),
+      λ all. absurd (false≢true (sym differs ∙ test.1 (same_at (lr0_of index) kernel other place core next low below is at (values_of_same kernel other all)))),
+    )
+
+    pub same_to : same ≡ true → map (lr0_of index) (take place kernel) ≡ map (lr0_of index) (take place other)
+        → map (lr0_of index) (take (place + 1) kernel) ≡ map (lr0_of index) (take (place + 1) other)
+    same_to agrees so_far = same_more (lr0_of index) kernel other place core next low below is at so_far (test.0 agrees)
+
+  -- the places of both are all tested
+  pub same_through : (kernel other : List (CoreItems S)) (place : ℕ) → length kernel ≤ place → length other ≤ place
+      → map (lr0_of index) (take place kernel) ≡ map (lr0_of index) (take place other)
+      → IsTrue true ↔ HaveSameCores (map (core_set index) kernel) (map (core_set index) other)
+  same_through kernel other place long past same = (
+    λ h.
+        same_of_values kernel other
+        (ap (map (lr0_of index)) (sym (take_all place kernel long)) ∙ same ∙ ap (map (lr0_of index)) (take_all place other past)),
+    λ h. refl,
+  )
 
   -- the lookaheads of the core at a place
   pub lookaheads_of : (kernel : List (CoreItems S)) (i : ℕ) (d : CoreItems S) → i < length kernel

@@ -1,22 +1,20 @@
 -- Each canonical item set is within a merged one: a path of symbols leads to a state whose set has all items that gotos reach by the path.
 -- So what a canonical set calls for, this merged set calls for, too; and if the merged sets have no conflicts, or precedences resolve all
 -- of them, so it is with the canonical ones.
-use Rattle.std.proofs.Common.{◌≡◌, ◌<◌, refl, sym, subst, arith, ℕ, List, [], ◌∷◌, None, Option, Some}
-use Rattle.std.specs.List.{Contains}
+use Rattle.std.proofs.Common.{◌≡◌, ◌<◌, refl, sym, subst, arith, ℕ, List, [], ◌∷◌, None, Option}
 use Rattle.lrpar_grammar.specs.Grammar.{Grammar, GrammarSymbol, IsWellFormed, Terminal}
 use Rattle.lrpar_table_precedence.specs.Precedence.{PrecedenceLists, no_precedences}
 use Rattle.lrpar_table_rows.specs.Graph.{Graph, ItemOf, graph_len}
 use Rattle.lrpar_table_rows.specs.Table.{ConflictLists, ReduceReduce, ShiftReduce}
 use Rattle.lrpar_table_items.specs.Canonical.{HasAfterDot, HasReduce, IsCanonical, IsReduceConflict, IsUnresolvedConflict, sets_of}
 use Rattle.lrpar_table_items.specs.ItemSets.{Added, IsAdvanced, IsInClosure, IsReachedBy, IsStartItem, Own}
-use Rattle.lrpar_table_build.specs.BuilderLaws.{AreConflictsBy, lists_in}
+use Rattle.lrpar_table_build.specs.BuilderLaws.{AreConflictsBy}
 use Rattle.lrpar_table_merge.specs.Held.{Closes, IsHeld, Starts, Steps}
 use Rattle.lrpar_table_merge.specs.Merged.{Along, AreMerged, IsWithin, LeadsAlong}
 use Rattle.lrpar_table_merge.specs.MergedLaws.{CanonicalSetsAreWithinMerged, NoMergedConflictsAreNoCanonical}
 use Rattle.lrpar_table_merge.specs.MergedByLaws.{NoMergedConflictsByAreNoCanonical}
-use Rattle.lrpar_table_merge.proofs.ListLemmas.{empty_list}
 use Rattle.lrpar_table_merge.proofs.MergedByNoneLemmas.{conflicts_with, none_decide}
-use Rattle.lrpar_table_merge.proofs.MergedConflictLemmas.{no_shift_conflict, only_reduction}
+use Rattle.lrpar_table_merge.proofs.MergedConflictLemmas.{no_shift_conflict, none_listed, only_reduction}
 
 -- a closure that has an item comes from an item
 pub closure_root : (g : Grammar) (items : ItemOf → Type 0) (x : ItemOf) → IsInClosure g items x → (y : ItemOf) × items y
@@ -92,25 +90,18 @@ module _ (g : Grammar) (graph other : Graph) (goes : ℕ → GrammarSymbol → �
         let reduction : HasReduce g (sets_of graph) s x.token x.prod = (reduce.0, in_merged.2 _ reduce.1) in
         no_shift_conflict g graph goes well merged lists conflicts are none s x.token x.prod in_merged.1 before reduction conflict.1
 
-    none_listed : (others c : Option ConflictLists) → AreConflictsBy g lists other others → others ≡ c → c ≡ None
-    none_listed others None those is = refl
-    none_listed others (Some found) those is =
-        absurd (those.some found is
-        (empty_list found.reduce_reduce (λ x there.
-        let listed = subst (λ (c : Option ConflictLists). Contains (lists_in c).reduce_reduce x) (sym is) there in
-        let conflict = (those.reduce_reduce x).0 listed in no_reduce x conflict.0 conflict.2))
-        (empty_list found.shift_reduce (λ x there.
-        let listed = subst (λ (c : Option ConflictLists). Contains (lists_in c).shift_reduce x) (sym is) there in
-        let conflict = (those.shift_reduce x).0 listed in no_shift x conflict.0 conflict.2)))
+    none_there : (others : Option ConflictLists) → AreConflictsBy g lists other others → others ≡ None
+    none_there others those =
+        none_listed others those.some (λ x there. let conflict = (those.reduce_reduce x).0 there in no_reduce x conflict.0 conflict.2)
+        (λ x there. let conflict = (those.shift_reduce x).0 there in no_shift x conflict.0 conflict.2)
 
 pub no_merged_conflicts_by_are_no_canonical : NoMergedConflictsByAreNoCanonical
 no_merged_conflicts_by_are_no_canonical g lists graph table other other_table well is none built =
-    none_listed g graph other (Along is.steps) well is.merged built.canonical lists table.conflicts is.conflicts none
-    other_table.conflicts other_table.conflicts built.conflicts refl
+    none_there g graph other (Along is.steps) well is.merged built.canonical lists table.conflicts is.conflicts none other_table.conflicts built.conflicts
 
 -- without precedences, the same by none
 pub no_merged_conflicts_are_no_canonical : NoMergedConflictsAreNoCanonical
 no_merged_conflicts_are_no_canonical g graph table other other_table well is none built =
-    none_listed g graph other (Along is.steps) well is.merged built.canonical no_precedences table.conflicts
-    (conflicts_with g no_precedences none_decide graph table.conflicts is.conflicts) none other_table.conflicts other_table.conflicts
-    (conflicts_with g no_precedences none_decide other other_table.conflicts built.conflicts) refl
+    none_there g graph other (Along is.steps) well is.merged built.canonical no_precedences table.conflicts
+    (conflicts_with g no_precedences none_decide graph table.conflicts is.conflicts) none other_table.conflicts
+    (conflicts_with g no_precedences none_decide other other_table.conflicts built.conflicts)

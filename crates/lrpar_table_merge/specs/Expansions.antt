@@ -21,8 +21,8 @@ pub record IsExpanded {S : Type 0} (index : S → ℕ) (g : Grammar) (kernel : L
 abbrev pub IsExpansionOf : {S : Type 0} → (S → ℕ) → Grammar → Expansion S → Type 0
 IsExpansionOf index g expansion = IsExpanded index g (map (core_set index) expansion.kernel.items) expansion.successors
 
--- each item set is that of its kernel, and closures can be made
-pub record HaveSets {S : Type 0} (index : S → ℕ) (g : Grammar) (expansions : Expansions S) : Type 0 where
+-- item sets of the grammar are kept: each is that of its kernel, and closures can be made
+pub record AreKept {S : Type 0} (index : S → ℕ) (g : Grammar) (expansions : Expansions S) : Type 0 where
   pub sets : AreSets g expansions.sets
   pub all : All (IsExpansionOf index g) expansions.all.items
 

@@ -34,33 +34,49 @@ pub record AreMerged (g : Grammar) (len : ℕ) (sets : ℕ → ItemOf → Type 0
   pub step : (s : ℕ) (X : GrammarSymbol) (n : ℕ) → s < len → goes s X n → IsMergedStep g len sets s X n
   pub once : (s : ℕ) (X : GrammarSymbol) (n m : ℕ) → s < len → goes s X n → goes s X m → n ≡ m
 
+-- if items of state s call for a reduction at token t, and none for a shift, the action is the reduction by the least production
+abbrev pub ReducesOtherwise : Grammar → (ℕ → ItemOf → Type 0) → Table → ℕ → ℕ → Type 0
+ReducesOtherwise g sets table s t = ¬ (HasAfterDot g sets s (Terminal t)) → (p : ℕ) → HasFirstReduce g sets s t p → action_of table s t ≡ ReduceBy p
+
+-- if an item calls for accept, and none for a shift or a reduction, the action is accept
+abbrev pub AcceptsOtherwise : Grammar → (ℕ → ItemOf → Type 0) → Table → ℕ → ℕ → Type 0
+AcceptsOtherwise g sets table s t =
+    ¬ (HasAfterDot g sets s (Terminal t)) → ((p : ℕ) → ¬ (HasReduce g sets s t p)) → HasAccept g sets s t → action_of table s t ≡ Accepts
+
+-- if items call for nothing, the action is an error
+abbrev pub FailsOtherwise : Grammar → (ℕ → ItemOf → Type 0) → Table → ℕ → ℕ → Type 0
+FailsOtherwise g sets table s t =
+    ¬ (HasAfterDot g sets s (Terminal t)) → ((p : ℕ) → ¬ (HasReduce g sets s t p)) → ¬ (HasAccept g sets s t) → action_of table s t ≡ Fails
+
 -- the action of state s at token t is what conflict resolution gives: the shift along the transition, if items call for one; otherwise
 -- the reduction by the least production; otherwise accept; otherwise an error
 pub record ActsAsMerged (g : Grammar) (sets : ℕ → ItemOf → Type 0) (goes : ℕ → GrammarSymbol → ℕ → Type 0) (table : Table) (s t : ℕ) : Type 0 where
   pub shifts : HasAfterDot g sets s (Terminal t) → (next : ℕ) × (action_of table s t ≡ ShiftTo next) × goes s (Terminal t) next
-  pub reduces : ¬ (HasAfterDot g sets s (Terminal t)) → (p : ℕ) → HasFirstReduce g sets s t p → action_of table s t ≡ ReduceBy p
-  pub accepts : ¬ (HasAfterDot g sets s (Terminal t)) → ((p : ℕ) → ¬ (HasReduce g sets s t p)) → HasAccept g sets s t
-      → action_of table s t ≡ Accepts
-  pub fails : ¬ (HasAfterDot g sets s (Terminal t)) → ((p : ℕ) → ¬ (HasReduce g sets s t p)) → ¬ (HasAccept g sets s t)
-      → action_of table s t ≡ Fails
+  pub reduces : ReducesOtherwise g sets table s t
+  pub accepts : AcceptsOtherwise g sets table s t
+  pub fails : FailsOtherwise g sets table s t
 
 -- the goto of state s by rule r is along the transition
 pub record GoesAsMerged (g : Grammar) (sets : ℕ → ItemOf → Type 0) (goes : ℕ → GrammarSymbol → ℕ → Type 0) (table : Table) (s r : ℕ) : Type 0 where
   pub goes_on : HasAfterDot g sets s (Nonterminal r) → (next : ℕ) × (goto_of table s r ≡ Some next) × goes s (Nonterminal r) next
   pub stays : ¬ (HasAfterDot g sets s (Nonterminal r)) → goto_of table s r ≡ None
 
--- the table has a state for each set of the graph, and starts in number 0; it has the grammar's tokens and rules; each state has the
--- actions of its set after conflict resolution, and the set's gotos; and past its states, tokens and rules it has no entries
-pub record IsMergedTable (g : Grammar) (graph : Graph) (table : Table) (goes : ℕ → GrammarSymbol → ℕ → Type 0) : Type 0 where
+-- the table has a state for each set of the graph, and starts in number 0; it has the grammar's tokens and rules; each state s has at each
+-- token t an action with `Acts s t`, and its set's gotos; and past its states, tokens and rules it has no entries
+pub record IsTableOfMerged (Acts : ℕ → ℕ → Type 0) (g : Grammar) (graph : Graph) (table : Table) (goes : ℕ → GrammarSymbol → ℕ → Type 0) : Type 0 where
   pub states : graph_len graph ≡ states_len table
   pub start : table.start ≡ 0
   pub tokens : table.tokens ≡ tokens_len g
   pub rules : table.rules ≡ rules_len g
-  pub acts : (s t : ℕ) → s < states_len table → t < tokens_len g → ActsAsMerged g (sets_of graph) goes table s t
+  pub acts : (s t : ℕ) → s < states_len table → t < tokens_len g → Acts s t
   pub gotos : (s r : ℕ) → s < states_len table → r < rules_len g → GoesAsMerged g (sets_of graph) goes table s r
   pub no_state : (s t : ℕ) → states_len table ≤ s → action_of table s t ≡ Fails
   pub no_token : (s t : ℕ) → table.tokens ≤ t → action_of table s t ≡ Fails
   pub no_rule : (s r : ℕ) → table.rules ≤ r → goto_of table s r ≡ None
+
+-- each state has the actions of its set after conflict resolution
+abbrev pub IsMergedTable : Grammar → Graph → Table → (ℕ → GrammarSymbol → ℕ → Type 0) → Type 0
+IsMergedTable g graph table goes = IsTableOfMerged (ActsAsMerged g (sets_of graph) goes table) g graph table goes
 
 -- the transitions that a function gives: the next state of each state by each symbol, if there is one
 abbrev pub Along : (ℕ → GrammarSymbol → Option ℕ) → ℕ → GrammarSymbol → ℕ → Type 0

@@ -1,16 +1,16 @@
 -- Tables of merged item sets whose conflicts are resolved by precedences.
-use Rattle.std.specs.Prelude.{◌≡◌, ◌<◌, ◌≤◌, ℕ, Option, None}
-use Rattle.lrpar_grammar.specs.Grammar.{Grammar, GrammarSymbol, Terminal, rules_len, tokens_len}
+use Rattle.std.specs.Prelude.{◌≡◌, ◌<◌, ℕ, Option}
+use Rattle.lrpar_grammar.specs.Grammar.{Grammar, GrammarSymbol, Terminal}
 use Rattle.lrpar_table_precedence.specs.Precedence.{PrecedenceLists, resolution_of}
 use Rattle.lrpar_table_rows.specs.Graph.{Graph, ItemOf, graph_len}
-use Rattle.lrpar_table_rows.specs.Table.{Table, ShiftTo, ReduceBy, Accepts, Fails, action_of, goto_of, states_len}
-use Rattle.lrpar_table_items.specs.Canonical.{HasAfterDot, HasAccept, HasFirstReduce, HasReduce, IsAcceptConflict, sets_of}
+use Rattle.lrpar_table_rows.specs.Table.{Table, ShiftTo, action_of}
+use Rattle.lrpar_table_items.specs.Canonical.{HasAfterDot, HasFirstReduce, HasReduce, IsAcceptConflict, sets_of}
 use Rattle.lrpar_table_items.specs.Resolution.{chosen}
 use Rattle.lrpar_table_items.specs.declared.fault.BuildFault.{BuildFault}
 use Rattle.lrpar_table_items.specs.declared.fault.BuildFault.TheVariants.{AcceptReduceConflict, Memory, StorageTooSmall, TooManyStates}
 use Rattle.lrpar_table_build.specs.Built.{AreInOrder, AreResolvedInOrder}
 use Rattle.lrpar_table_build.specs.BuilderLaws.{AcceptAlone, AreConflictsBy, AreResolvedBy, lists_in}
-use Rattle.lrpar_table_merge.specs.Merged.{Along, AreMerged, GoesAsMerged}
+use Rattle.lrpar_table_merge.specs.Merged.{AcceptsOtherwise, Along, AreMerged, FailsOtherwise, IsTableOfMerged, ReducesOtherwise}
 
 -- the action of state s at token t is what conflict resolution with precedences gives. If items call for a shift and for a reduction,
 -- it is what the precedences decide between the shift and the reduction by the least production, and the shift, if they decide
@@ -21,24 +21,13 @@ pub record ActsAsMergedBy (g : Grammar) (lists : PrecedenceLists) (sets : ℕ �
       → (next : ℕ) × (action_of table s t ≡ chosen (resolution_of lists p t) next p) × goes s (Terminal t) next
   pub shifts : HasAfterDot g sets s (Terminal t) → ((p : ℕ) → ¬ (HasReduce g sets s t p))
       → (next : ℕ) × (action_of table s t ≡ ShiftTo next) × goes s (Terminal t) next
-  pub reduces : ¬ (HasAfterDot g sets s (Terminal t)) → (p : ℕ) → HasFirstReduce g sets s t p → action_of table s t ≡ ReduceBy p
-  pub accepts : ¬ (HasAfterDot g sets s (Terminal t)) → ((p : ℕ) → ¬ (HasReduce g sets s t p)) → HasAccept g sets s t
-      → action_of table s t ≡ Accepts
-  pub fails : ¬ (HasAfterDot g sets s (Terminal t)) → ((p : ℕ) → ¬ (HasReduce g sets s t p)) → ¬ (HasAccept g sets s t)
-      → action_of table s t ≡ Fails
+  pub reduces : ReducesOtherwise g sets table s t
+  pub accepts : AcceptsOtherwise g sets table s t
+  pub fails : FailsOtherwise g sets table s t
 
--- the table has a state for each set of the graph, and starts in number 0; it has the grammar's tokens and rules; each state has the
--- actions of its set after conflict resolution by precedences, and the set's gotos; and past its states, tokens and rules it has no entries
-pub record IsMergedTableBy (g : Grammar) (lists : PrecedenceLists) (graph : Graph) (table : Table) (goes : ℕ → GrammarSymbol → ℕ → Type 0) : Type 0 where
-  pub states : graph_len graph ≡ states_len table
-  pub start : table.start ≡ 0
-  pub tokens : table.tokens ≡ tokens_len g
-  pub rules : table.rules ≡ rules_len g
-  pub acts : (s t : ℕ) → s < states_len table → t < tokens_len g → ActsAsMergedBy g lists (sets_of graph) goes table s t
-  pub gotos : (s r : ℕ) → s < states_len table → r < rules_len g → GoesAsMerged g (sets_of graph) goes table s r
-  pub no_state : (s t : ℕ) → states_len table ≤ s → action_of table s t ≡ Fails
-  pub no_token : (s t : ℕ) → table.tokens ≤ t → action_of table s t ≡ Fails
-  pub no_rule : (s r : ℕ) → table.rules ≤ r → goto_of table s r ≡ None
+-- the table is one of merged item sets, and each state has the actions of its set after conflict resolution by precedences
+abbrev pub IsMergedTableBy : Grammar → PrecedenceLists → Graph → Table → (ℕ → GrammarSymbol → ℕ → Type 0) → Type 0
+IsMergedTableBy g lists graph table goes = IsTableOfMerged (ActsAsMergedBy g lists (sets_of graph) goes table) g graph table goes
 
 -- with some transitions, the graph has merged item sets, and the table their actions after conflict resolution by the precedences; the
 -- table has the conflicts of the sets that the precedences don't resolve, and those that they do, in order; and no set has an
@@ -67,3 +56,7 @@ IsTableRefusal g (AcceptReduceConflict n) = HasMergedAcceptConflict g n
 IsTableRefusal g Memory = Unit {0}
 IsTableRefusal g TooManyStates = ⊥
 IsTableRefusal g StorageTooSmall = ⊥
+
+-- a graph and a table that are merged by the precedences
+abbrev pub AreMergedBy : Grammar → PrecedenceLists → Graph × Table → Type 0
+AreMergedBy g lists built = IsMergedBy g lists built.0 built.1

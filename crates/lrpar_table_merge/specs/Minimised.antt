@@ -3,6 +3,7 @@ use Rattle.std.specs.Prelude.{ℕ}
 use Rattle.lrpar_grammar.specs.Grammar.{Grammar}
 use Rattle.lrpar_table_precedence.specs.Precedence.{PrecedenceLists}
 use Rattle.lrpar_table_rows.specs.Graph.{Graph}
+use Rattle.lrpar_table_rows.specs.Safe.{IsSafe}
 use Rattle.lrpar_table_rows.specs.Table.{Table}
 use Rattle.lrpar_table_items.specs.declared.fault.BuildFault.{BuildFault}
 use Rattle.lrpar_table_items.specs.declared.fault.BuildFault.TheVariants.{AcceptReduceConflict, Memory, StorageTooSmall, TooManyStates}
@@ -31,7 +32,15 @@ IsMergeFault StorageTooSmall = Unit {0}
 IsMergeFault (AcceptReduceConflict n) = ⊥
 IsMergeFault Memory = Unit {0}
 
--- why no table is built, if `most` states are allowed and the storage type has `limit` numbers
-abbrev pub IsMinimisedRefusal : Minimiser → Grammar → ℕ → ℕ → BuildFault → Type 0
-IsMinimisedRefusal Canonical g most limit fault = IsBuildRefusal g most limit fault
-IsMinimisedRefusal Pager g most limit fault = IsMergingRefusal g fault
+-- why no table is built by the minimiser, if `most` states are allowed and the storage type has `limit` numbers
+abbrev pub IsRefusalBy : Minimiser → Grammar → ℕ → ℕ → BuildFault → Type 0
+IsRefusalBy Canonical g most limit fault = IsBuildRefusal g most limit fault
+IsRefusalBy Pager g most limit fault = IsMergingRefusal g fault
+
+-- a graph and a table that are built by the precedences and the minimiser
+abbrev pub AreMinimisedBy : Minimiser → Grammar → PrecedenceLists → Graph × Table → Type 0
+AreMinimisedBy minimiser g lists built = IsMinimisedBy minimiser g lists built.0 built.1
+
+-- a graph and a table that are safe
+abbrev pub AreSafe : Grammar → Graph × Table → Type 0
+AreSafe g built = IsSafe g built.0 built.1

@@ -1,5 +1,5 @@
 -- Lookaheads that are passed on from state to state, until nothing grows.
-use Rattle.std.specs.Prelude.{◌≡◌, ◌<◌, ◌↔◌, ◌⊎◌, ℕ, Bool, false, IsTrue, List, Option, Some, None, length, slice_index_or}
+use Rattle.std.specs.Prelude.{◌≡◌, ◌<◌, ◌↔◌, ◌⊎◌, ℕ, Bool, true, false, IsTrue, List, Option, Some, None, length, slice_index_or, slice_set}
 use Rattle.std.specs.Bool.{OnFalse, OnTrue}
 use Rattle.lrpar_grammar.specs.Grammar.{Grammar, GrammarSymbol}
 use Rattle.lrpar_grammar.specs.Tokens.{has}
@@ -24,6 +24,10 @@ AreNoneOrKernels g kernels = (n : ℕ) → IsNoneOrKernel g (kernel_at kernels n
 -- state s waits: its kernel got items that weren't passed on
 abbrev pub DoesWait : List Bool → ℕ → Type 0
 DoesWait waits s = IsTrue (has waits s)
+
+-- state s was marked as waiting, if its kernel grew
+abbrev pub IsMarkedIf : Bool → ℕ → List Bool → List Bool → Type 0
+IsMarkedIf grown s waited waits = OnTrue grown (waits ≡ slice_set waited s true) × OnFalse grown (waits ≡ waited)
 
 -- there are as many kernels, and each has the same LR(0) cores
 pub record AreAlike (before after : List (List CoreSet)) : Type 0 where

@@ -1,11 +1,10 @@
 //! The table builder with a choice: canonical item sets, or merged ones.
 ghost use Rattle.std.specs.Prelude.{◌≡◌, ◌≤◌, IfErr, IfOk, IfSome, length};
 ghost use Rattle.lrpar_grammar.specs.Grammar.{IsWellFormed};
-ghost use Rattle.lrpar_table_rows.specs.Graph.{graph_len};
-ghost use Rattle.lrpar_table_rows.specs.Safe.{IsSafe};
-ghost use Rattle.lrpar_table_merge.specs.Expansions.{HaveSets};
-ghost use Rattle.lrpar_table_merge.specs.MergedBy.{IsMergedBy};
-ghost use Rattle.lrpar_table_merge.specs.Minimised.{IsMergeFault, IsMergingRefusal, IsMinimisedBy, IsMinimisedRefusal};
+ghost use Rattle.lrpar_table_build.specs.Built.{HaveAtMost};
+ghost use Rattle.lrpar_table_merge.specs.Expansions.{AreKept};
+ghost use Rattle.lrpar_table_merge.specs.MergedBy.{AreMergedBy};
+ghost use Rattle.lrpar_table_merge.specs.Minimised.{AreMinimisedBy, AreSafe, IsMergeFault, IsMergingRefusal, IsRefusalBy};
 ghost use Rattle.lrpar_table_merge.specs.StoredKernels.{HaveCores};
 ghost use Rattle.lrpar_table_merge.specs.StoredStates.{AreStatesOf};
 
@@ -53,11 +52,11 @@ pub fn from_yacc_by<StorageT: StorageIndex>(
     max_states: usize,
 ) -> Result<(StateGraph<StorageT>, StateTable<StorageT>), BuildFault>
     // Canonical item sets or merged ones, and a table with their actions after conflict resolution.
-    ensures built { IfOk result (λ built. IsMinimisedBy minimiser grm.now precedences.now built.0 built.1) }
-    ensures safe { IfOk result (λ built. IsSafe grm.now built.0 built.1) }
-    ensures room { IfOk result (λ built. graph_len built.0 ≤ max_states) }
+    ensures built { IfOk result (AreMinimisedBy minimiser grm.now precedences.now) }
+    ensures safe { IfOk result (AreSafe grm.now) }
+    ensures room { IfOk result (HaveAtMost max_states) }
     // As for `from_yacc`; `AcceptReduceConflict`: a merged set calls for accept and a reduction.
-    ensures refused { IfErr result (IsMinimisedRefusal minimiser grm.now max_states StorageT.limit) }
+    ensures refused { IfErr result (IsRefusalBy minimiser grm.now max_states StorageT.limit) }
 {
     match minimiser {
         Minimiser::Canonical => from_yacc_with(alloc, grm, precedences, max_states),
@@ -73,8 +72,8 @@ fn merged_table<StorageT: StorageIndex>(
     precedences: &Precedences,
     max_states: usize,
 ) -> Result<(StateGraph<StorageT>, StateTable<StorageT>), BuildFault>
-    ensures built { IfOk result (λ built. IsMergedBy grm.now precedences.now built.0 built.1) }
-    ensures room { IfOk result (λ built. graph_len built.0 ≤ max_states) }
+    ensures built { IfOk result (AreMergedBy grm.now precedences.now) }
+    ensures room { IfOk result (HaveAtMost max_states) }
     ensures well_formed { IsWellFormed grm.now }
     ensures refused { IfErr result (IsMergingRefusal grm.now) }
 {
@@ -115,7 +114,7 @@ fn settled<StorageT: StorageIndex>(
     kernels: &mut [Vec<CoreItems<StorageT>>],
 ) -> Result<Vec<State<StorageT>>, HeldFault>
     requires well_formed { IsWellFormed grm.now }
-    requires sets { HaveSets StorageT.index grm.now expansions.old }
+    requires kept { AreKept StorageT.index grm.now expansions.old }
     requires cores { HaveCores StorageT.index grm.now kernels.old }
     requires fit { length kernels.old ≤ StorageT.limit }
     ensures states { IfOk result (AreStatesOf StorageT.index grm.now) }

@@ -2,7 +2,7 @@
 ghost use Rattle.std.specs.Prelude.{◌<◌, IfOk, IfSome, length};
 ghost use Rattle.lrpar_grammar.specs.Grammar.{IsWellFormed};
 ghost use Rattle.lrpar_table_items.specs.Working.{AreSets};
-ghost use Rattle.lrpar_table_merge.specs.Expansions.{ExpandsKernel, HasKernel, HaveSets, IsKeptAt, IsPlaceOf, IsReadAt};
+ghost use Rattle.lrpar_table_merge.specs.Expansions.{AreKept, ExpandsKernel, HasKernel, IsKeptAt, IsPlaceOf, IsReadAt};
 ghost use Rattle.lrpar_table_merge.specs.StoredKernels.{IsKernelOf};
 
 use lrpar_grammar::grammar::YaccGrammar;
@@ -41,7 +41,7 @@ impl<StorageT: StorageIndex> Drop for Expansions<StorageT> {
 impl<StorageT: StorageIndex> Expansions<StorageT> {
     /// No item sets.
     pub(crate) fn new(alloc: Global, grm: &YaccGrammar<StorageT>) -> Result<Self, AllocError>
-        ensures { IfOk result (HaveSets StorageT.index grm.now) }
+        ensures { IfOk result (AreKept StorageT.index grm.now) }
     {
         let sets = Sets::new(alloc, grm)?;
         Ok(Expansions {
@@ -60,14 +60,19 @@ impl<StorageT: StorageIndex> Expansions<StorageT> {
     ) -> Result<usize, AllocError>
         requires well_formed { IsWellFormed grm.now }
         requires kernel { IsKernelOf StorageT.index grm.now kernel.now }
-        requires sets { HaveSets StorageT.index grm.now self.old }
-        ensures sets { HaveSets StorageT.index grm.now self.new }
+        requires kept { AreKept StorageT.index grm.now self.old }
+        ensures kept { AreKept StorageT.index grm.now self.new }
         ensures expanded { IfOk result (IsKeptAt StorageT.index grm.now self.new kernel.now) }
     {
-        match self.find(kernel) {
-            Some(place) => Ok(place),
-            None => self.push(alloc, grm, kernel),
+        if let Some(place) = self.find(kernel) {
+            return Ok(place);
         }
+        let expansion = expansion_of(alloc, grm, &mut self.sets, kernel)?;
+        let key = copied(alloc, kernel)?;
+        let place = self.all.len();
+        self.all.push(expansion)?;
+        self.places.insert(key, place)?;
+        Ok(place)
     }
 
     /// The closure and the kernels at a place.
@@ -89,27 +94,6 @@ impl<StorageT: StorageIndex> Expansions<StorageT> {
         } else {
             None
         }
-    }
-
-    // Makes the item set of the kernel. Returns its place.
-    fn push(
-        &mut self,
-        alloc: Global,
-        grm: &YaccGrammar<StorageT>,
-        kernel: &[CoreItems<StorageT>],
-    ) -> Result<usize, AllocError>
-        requires well_formed { IsWellFormed grm.now }
-        requires kernel { IsKernelOf StorageT.index grm.now kernel.now }
-        requires sets { HaveSets StorageT.index grm.now self.old }
-        ensures sets { HaveSets StorageT.index grm.now self.new }
-        ensures expanded { IfOk result (IsKeptAt StorageT.index grm.now self.new kernel.now) }
-    {
-        let expansion = expansion_of(alloc, grm, &mut self.sets, kernel)?;
-        let key = copied(alloc, kernel)?;
-        let place = self.all.len();
-        self.all.push(expansion)?;
-        self.places.insert(key, place)?;
-        Ok(place)
     }
 }
 

@@ -3,7 +3,7 @@
 //! D. Pager, 'A practical general method for constructing LR(k) parsers', Acta Informatica 7, 1977.
 ghost use Rattle.std.specs.Prelude.{◌≡◌, ◌<◌, ◌≤◌, ℕ, IfErr, IfOk, IfSome, OnOk, length};
 ghost use Rattle.lrpar_grammar.specs.Grammar.{IsWellFormed};
-ghost use Rattle.lrpar_table_merge.specs.Expansions.{HaveSets};
+ghost use Rattle.lrpar_table_merge.specs.Expansions.{AreKept};
 ghost use Rattle.lrpar_table_merge.specs.Minimised.{IsMergeFault};
 ghost use Rattle.lrpar_table_merge.specs.Merging.{AreMerging};
 ghost use Rattle.lrpar_table_merge.specs.StoredKernels.{AreKernelsOf, AreSameCores, HaveCores, HaveSameRooms, IsKernelOf, StaysKernel};
@@ -46,8 +46,8 @@ pub(crate) fn merge<StorageT: StorageIndex>(
     max_states: usize,
 ) -> Result<(Vec<Vec<CoreItems<StorageT>>>, Vec<Transitions>), BuildFault>
     requires well_formed { IsWellFormed grm.now }
-    requires sets { HaveSets StorageT.index grm.now expansions.old }
-    ensures sets { HaveSets StorageT.index grm.now expansions.new }
+    requires kept { AreKept StorageT.index grm.now expansions.old }
+    ensures kept { AreKept StorageT.index grm.now expansions.new }
     ensures cores { IfOk result (λ merged. HaveCores StorageT.index grm.now merged.0.items) }
     ensures room { IfOk result (λ merged. length merged.0.items ≤ max_states) }
     ensures fits { IfOk result (λ merged. length merged.0.items ≤ StorageT.limit) }
@@ -85,9 +85,9 @@ impl<StorageT: StorageIndex> Merging<StorageT> {
         max_states: usize,
     ) -> Result<(), BuildFault>
         requires well_formed { IsWellFormed grm.now }
-        requires sets { HaveSets StorageT.index grm.now expansions.old }
+        requires kept { AreKept StorageT.index grm.now expansions.old }
         requires merging { AreMerging StorageT.index grm.now max_states StorageT.limit self.old }
-        ensures sets { HaveSets StorageT.index grm.now expansions.new }
+        ensures kept { AreKept StorageT.index grm.now expansions.new }
         ensures merging { OnOk result (AreMerging StorageT.index grm.now max_states StorageT.limit self.new) }
         ensures fault { IfErr result IsMergeFault }
     {
@@ -109,9 +109,9 @@ impl<StorageT: StorageIndex> Merging<StorageT> {
         max_states: usize,
     ) -> Result<bool, BuildFault>
         requires well_formed { IsWellFormed grm.now }
-        requires sets { HaveSets StorageT.index grm.now expansions.old }
+        requires kept { AreKept StorageT.index grm.now expansions.old }
         requires merging { AreMerging StorageT.index grm.now max_states StorageT.limit self.old }
-        ensures sets { HaveSets StorageT.index grm.now expansions.new }
+        ensures kept { AreKept StorageT.index grm.now expansions.new }
         ensures merging { OnOk result (AreMerging StorageT.index grm.now max_states StorageT.limit self.new) }
         ensures fault { IfErr result IsMergeFault }
     {
@@ -138,10 +138,10 @@ impl<StorageT: StorageIndex> Merging<StorageT> {
         number: usize,
     ) -> Result<(), BuildFault>
         requires well_formed { IsWellFormed grm.now }
-        requires sets { HaveSets StorageT.index grm.now expansions.old }
+        requires kept { AreKept StorageT.index grm.now expansions.old }
         requires number { number < length self.old.states.items }
         requires merging { AreMerging StorageT.index grm.now max_states StorageT.limit self.old }
-        ensures sets { HaveSets StorageT.index grm.now expansions.new }
+        ensures kept { AreKept StorageT.index grm.now expansions.new }
         ensures merging { OnOk result (AreMerging StorageT.index grm.now max_states StorageT.limit self.new) }
         ensures fault { IfErr result IsMergeFault }
     {

@@ -2,7 +2,7 @@
 ghost use Rattle.std.specs.Prelude.{◌≡◌, ◌<◌, ◌≤◌, ◌↔◌, IfErr, IfOk, IsTrue, None, length, slice_index_or};
 ghost use Rattle.lrpar_grammar.specs.Grammar.{IsWellFormed};
 ghost use Rattle.lrpar_table_items.specs.Working.{AreSuccessors};
-ghost use Rattle.lrpar_table_merge.specs.Expansions.{HaveSets, IsKeptAt};
+ghost use Rattle.lrpar_table_merge.specs.Expansions.{AreKept, IsKeptAt};
 ghost use Rattle.lrpar_table_merge.specs.Passing.{AreKernelsHeld};
 ghost use Rattle.lrpar_table_merge.specs.StoredKernels.{AreKernelsIfFilled, HaveAnItem, IsKernelIfFilled, IsKernelOf};
 ghost use Rattle.lrpar_table_merge.specs.StoredStates.{AreStatesOf, FitsGoto, HasGivenGotos, HasGivenShifts, HasGivenSteps, IsGivenNext, IsMisfitAt, IsStateAt};
@@ -32,11 +32,11 @@ pub(crate) fn merged_states<StorageT: StorageIndex>(
     kernels: &[Vec<CoreItems<StorageT>>],
 ) -> Result<Vec<State<StorageT>>, HeldFault>
     requires well_formed { IsWellFormed grm.now }
-    requires sets { HaveSets StorageT.index grm.now expansions.old }
+    requires kept { AreKept StorageT.index grm.now expansions.old }
     requires some { 0 < length kernels.now }
     requires fit { length kernels.now ≤ StorageT.limit }
     requires held { AreKernelsHeld StorageT.index grm.now all.now kernels.now }
-    ensures sets { HaveSets StorageT.index grm.now expansions.new }
+    ensures kept { AreKept StorageT.index grm.now expansions.new }
     ensures states { IfOk result (AreStatesOf StorageT.index grm.now) }
     ensures len { IfOk result (λ states. length states.items ≡ length kernels.now) }
 {
@@ -58,11 +58,11 @@ fn merged_state<StorageT: StorageIndex>(
     number: usize,
 ) -> Result<State<StorageT>, HeldFault>
     requires well_formed { IsWellFormed grm.now }
-    requires sets { HaveSets StorageT.index grm.now expansions.old }
+    requires kept { AreKept StorageT.index grm.now expansions.old }
     requires number { number < length kernels.now }
     requires fit { length kernels.now ≤ StorageT.limit }
     requires kernels { AreKernelsIfFilled StorageT.index grm.now kernels.now }
-    ensures sets { HaveSets StorageT.index grm.now expansions.new }
+    ensures kept { AreKept StorageT.index grm.now expansions.new }
     ensures state { IfOk result (IsStateAt StorageT.index grm.now kernels.now all.now number) }
 {
     let place = expanded(alloc, grm, expansions, &kernels[number])?;
@@ -89,9 +89,9 @@ fn expanded<StorageT: StorageIndex>(
     kernel: &[CoreItems<StorageT>],
 ) -> Result<usize, HeldFault>
     requires well_formed { IsWellFormed grm.now }
-    requires sets { HaveSets StorageT.index grm.now expansions.old }
+    requires kept { AreKept StorageT.index grm.now expansions.old }
     requires kernel { IsKernelIfFilled StorageT.index grm.now kernel.now }
-    ensures sets { HaveSets StorageT.index grm.now expansions.new }
+    ensures kept { AreKept StorageT.index grm.now expansions.new }
     ensures is_kernel { IfOk result (λ _. IsKernelOf StorageT.index grm.now kernel.now) }
     ensures expanded { IfOk result (IsKeptAt StorageT.index grm.now expansions.new kernel.now) }
 {

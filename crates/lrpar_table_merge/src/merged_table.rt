@@ -1,7 +1,7 @@
 //! The state graph and the table of merged item sets.
-ghost use Rattle.std.specs.Prelude.{◌≡◌, ◌≤◌, IfErr, IfOk, length};
-ghost use Rattle.lrpar_table_rows.specs.Graph.{graph_len};
-ghost use Rattle.lrpar_table_merge.specs.MergedBy.{IsMergedBy, IsTableRefusal};
+ghost use Rattle.std.specs.Prelude.{◌≤◌, IfErr, IfOk, length};
+ghost use Rattle.lrpar_table_build.specs.Built.{HaveStates};
+ghost use Rattle.lrpar_table_merge.specs.MergedBy.{AreMergedBy, IsTableRefusal};
 ghost use Rattle.lrpar_table_merge.specs.StoredStates.{AreStatesOf};
 
 use lrpar_grammar::grammar::YaccGrammar;
@@ -26,8 +26,8 @@ pub(crate) fn table_of_merged<StorageT: StorageIndex>(
 ) -> Result<(StateGraph<StorageT>, StateTable<StorageT>), BuildFault>
     requires states { AreStatesOf StorageT.index grm.now states }
     requires fit { length states.items ≤ StorageT.limit }
-    ensures merged { IfOk result (λ built. IsMergedBy grm.now precedences.now built.0 built.1) }
-    ensures len { IfOk result (λ built. graph_len built.0 ≡ length states.items) }
+    ensures merged { IfOk result (AreMergedBy grm.now precedences.now) }
+    ensures len { IfOk result (HaveStates (length states.items)) }
     ensures refused { IfErr result (IsTableRefusal grm.now) }
 {
     let _start = grm.start_prod();

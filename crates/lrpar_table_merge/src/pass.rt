@@ -2,7 +2,7 @@
 ghost use Rattle.std.specs.Prelude.{◌≡◌, ◌<◌, IfErr, IfOk, OnOk, length, map};
 ghost use Rattle.lrpar_table_items.specs.Cores.{core_set};
 ghost use Rattle.lrpar_table_merge.specs.Passing.{AddsItems, HasMisfit, IsMisfitAlong, PassesAlong, PassesRow, ShareGrammarAll, ShareGrammarIfAny, StayKernelsAll, StayKernelsIfAny, TellsGrowth};
-ghost use Rattle.lrpar_table_merge.specs.Propagated.{step_at};
+ghost use Rattle.lrpar_table_merge.specs.Propagated.{IsMarkedIf, step_at};
 
 use crate::held::{HeldFault, pass_to};
 use lrpar_grammar::span::StorageIndex;
@@ -65,10 +65,18 @@ fn pass_one<StorageT: StorageIndex>(
         None => Err(HeldFault::Misfit),
         Some(state) => {
             let grown = pass_to(kernels, state, next)?;
-            if grown {
-                waits[state] = true;
-            }
+            mark(waits, state, grown);
             Ok(grown)
         }
+    }
+}
+
+// Marks the state as waiting, if its kernel grew.
+fn mark(waits: &mut [bool], state: usize, grown: bool)
+    requires { state < length waits.old }
+    ensures { IsMarkedIf grown state waits.old waits.new }
+{
+    if grown {
+        waits[state] = true;
     }
 }

@@ -1,11 +1,11 @@
 //! The items that states hold, propagated from the start along transitions until nothing grows.
 ghost use Rattle.std.specs.Prelude.{◌≡◌, ◌<◌, ◌↔◌, IfErr, IfOk, IsTrue, OnOk, length};
 ghost use Rattle.lrpar_grammar.specs.Grammar.{IsWellFormed};
-ghost use Rattle.lrpar_table_merge.specs.Expansions.{HaveSets};
+ghost use Rattle.lrpar_table_merge.specs.Expansions.{AreKept};
 ghost use Rattle.lrpar_table_merge.specs.Held.{transitions_at};
 ghost use Rattle.lrpar_table_merge.specs.MergedStates.{all_transitions};
-ghost use Rattle.lrpar_table_merge.specs.Passing.{BeginsAtStart, EndsRound, HasGoneOn, HasPassedOn, HavePropagated, IsPropagationFault, IsStartFault, IsStuckFault, IsStuckFaultAt, IsUnderWay, PassesFrom};
-ghost use Rattle.lrpar_table_merge.specs.StoredKernels.{AreKernelsIfFilled, AreWithoutItems, HaveAnItem, HaveCores, StayAlike};
+ghost use Rattle.lrpar_table_merge.specs.Passing.{BeginsAtStart, EndsRound, HasGoneOn, HasPassedOn, HavePropagated, IsPropagationFault, IsStartFault, IsStuckFault, IsStuckFaultAt, IsUnderWay};
+ghost use Rattle.lrpar_table_merge.specs.StoredKernels.{AreWithoutItems, HaveAnItem, HaveCores, StayAlike};
 
 use crate::clear::clear_kernels;
 use crate::expansions::Expansions;
@@ -34,9 +34,9 @@ pub(crate) fn propagate<StorageT: StorageIndex>(
     kernels: &mut [Vec<CoreItems<StorageT>>],
 ) -> Result<(), HeldFault>
     requires well_formed { IsWellFormed grm.now }
-    requires sets { HaveSets StorageT.index grm.now expansions.old }
+    requires kept { AreKept StorageT.index grm.now expansions.old }
     requires cores { HaveCores StorageT.index grm.now kernels.old }
-    ensures sets { HaveSets StorageT.index grm.now expansions.new }
+    ensures kept { AreKept StorageT.index grm.now expansions.new }
     ensures len { length kernels.new ≡ length kernels.old }
     ensures some { OnOk result (0 < length kernels.new) }
     ensures held { OnOk result (HavePropagated StorageT.index grm.now all.now kernels.old kernels.new) }
@@ -78,10 +78,10 @@ fn pass_rounds<StorageT: StorageIndex>(
     waits: &mut [bool],
 ) -> Result<(), HeldFault>
     requires well_formed { IsWellFormed grm.now }
-    requires sets { HaveSets StorageT.index grm.now expansions.old }
+    requires kept { AreKept StorageT.index grm.now expansions.old }
     requires waits { length waits.old ≡ length kernels.old }
     requires propagated { IsUnderWay StorageT.index grm.now all.now kernels.old waits.old }
-    ensures sets { HaveSets StorageT.index grm.now expansions.new }
+    ensures kept { AreKept StorageT.index grm.now expansions.new }
     ensures held { OnOk result (HavePropagated StorageT.index grm.now all.now kernels.old kernels.new) }
     ensures stuck { IfErr result (IsStuckFault StorageT.index grm.now all.now kernels.old) }
 {
@@ -99,10 +99,10 @@ fn pass_round<StorageT: StorageIndex>(
     waits: &mut [bool],
 ) -> Result<bool, HeldFault>
     requires well_formed { IsWellFormed grm.now }
-    requires sets { HaveSets StorageT.index grm.now expansions.old }
+    requires kept { AreKept StorageT.index grm.now expansions.old }
     requires waits { length waits.old ≡ length kernels.old }
     requires propagated { IsUnderWay StorageT.index grm.now all.now kernels.old waits.old }
-    ensures sets { HaveSets StorageT.index grm.now expansions.new }
+    ensures kept { AreKept StorageT.index grm.now expansions.new }
     ensures propagated { OnOk result (HasGoneOn StorageT.index grm.now all.now kernels.old kernels.new waits.new) }
     ensures round { IfOk result (EndsRound StorageT.index kernels.old kernels.new waits.new) }
     ensures stuck { IfErr result (IsStuckFault StorageT.index grm.now all.now kernels.old) }
@@ -115,7 +115,8 @@ fn pass_round<StorageT: StorageIndex>(
     Ok(grown)
 }
 
-// If the state waits, passes on its items, so that it doesn't wait any more, unless its own kernel grows. Returns whether any kernel grew.
+// If the state waits, passes its items on along its transitions, and marks each state that grew as waiting. So it doesn't wait any more,
+// unless its own kernel grows. Returns whether any kernel grew. A state without an item passes nothing on.
 fn pass_waiting<StorageT: StorageIndex>(
     alloc: Global,
     grm: &YaccGrammar<StorageT>,
@@ -126,11 +127,11 @@ fn pass_waiting<StorageT: StorageIndex>(
     waits: &mut [bool],
 ) -> Result<bool, HeldFault>
     requires well_formed { IsWellFormed grm.now }
-    requires sets { HaveSets StorageT.index grm.now expansions.old }
+    requires kept { AreKept StorageT.index grm.now expansions.old }
     requires waits { length waits.old ≡ length kernels.old }
     requires state { state < length kernels.old }
     requires propagated { IsUnderWay StorageT.index grm.now all.now kernels.old waits.old }
-    ensures sets { HaveSets StorageT.index grm.now expansions.new }
+    ensures kept { AreKept StorageT.index grm.now expansions.new }
     ensures passed { IfOk result (HasPassedOn StorageT.index grm.now all.now state kernels.old waits.old kernels.new waits.new) }
     ensures stuck { IfErr result (IsStuckFaultAt StorageT.index grm.now all.now kernels.old state) }
 {
@@ -138,33 +139,11 @@ fn pass_waiting<StorageT: StorageIndex>(
         return Ok(false);
     }
     waits[state] = false;
-    pass_from(alloc, grm, expansions, all, state, kernels, waits)
-}
-
-// Passes the items of the state on along its transitions, and marks each state that grew as waiting. Returns whether any kernel grew. A
-// state without an item is passed over.
-fn pass_from<StorageT: StorageIndex>(
-    alloc: Global,
-    grm: &YaccGrammar<StorageT>,
-    expansions: &mut Expansions<StorageT>,
-    all: &[Transitions],
-    state: usize,
-    kernels: &mut [Vec<CoreItems<StorageT>>],
-    waits: &mut [bool],
-) -> Result<bool, HeldFault>
-    requires well_formed { IsWellFormed grm.now }
-    requires sets { HaveSets StorageT.index grm.now expansions.old }
-    requires beginnings { AreKernelsIfFilled StorageT.index grm.now kernels.old }
-    requires waits { length waits.old ≡ length kernels.old }
-    requires state { state < length kernels.old }
-    ensures sets { HaveSets StorageT.index grm.now expansions.new }
-    ensures passed { IfOk result (PassesFrom StorageT.index grm.now all.now state kernels.old waits.old kernels.new waits.new) }
-    ensures stuck { IfErr result (IsStuckFaultAt StorageT.index grm.now all.now kernels.old state) }
-{
-    if !has_items(&kernels[state]) {
+    let kernel: &[CoreItems<StorageT>] = &kernels[state];
+    if !has_items(kernel) {
         return Ok(false);
     }
-    let place = expansions.expand(alloc, grm, &kernels[state])?;
+    let place = expansions.expand(alloc, grm, kernel)?;
     let successors = expansions.at(place);
     let by_rules = pass_all(kernels, waits, rules_from(all, state), &successors.rules)?;
     let by_tokens = pass_all(kernels, waits, tokens_from(all, state), &successors.tokens)?;

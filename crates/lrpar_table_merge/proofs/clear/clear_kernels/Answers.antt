@@ -1,8 +1,8 @@
-use Rattle.std.proofs.Common.{◌<◌, arith, length, set}
+use Rattle.std.proofs.Common.{◌<◌, arith, length}
 use Rattle.lrpar_table_items.specs.Next.{kernel_rows}
-use Rattle.lrpar_table_merge.proofs.ClearLemmas.{alike_more, all_empty, empty_more, kernels_more}
+use Rattle.lrpar_table_merge.proofs.ClearLemmas.{all_empty, kernels_cleared_on}
 use Rattle.lrpar_table_merge.proofs.PassLemmas.{rows_len}
-use Rattle.lrpar_table_merge.proofs.PropagateLemmas.{alike_itself, alike_on}
+use Rattle.lrpar_table_merge.proofs.PropagateLemmas.{alike_itself}
 use Rattle.lrpar_table_merge.proofs.clear.clear_kernels.Goals as goal
 
 pub loop-state-init : goal.loop-state-init
@@ -12,19 +12,10 @@ loop-state-init g c =
 
 pub loop-state-preserved : goal.loop-state-preserved
 loop-state-preserved g c =
-    let index = g.StorageT.StorageIndex.index in
-    let kernels = c.loop-state.kernels in
-    let state = c.loop-state.state in
-    let d = c.index-kernels-state.result in
-    let so_far = c.loop-state.invariant in
     let one = c.clear_kernel.ensures in
-    let low : state < length kernels = omega (arith, c.loop-state-test.true, c.loop-state.auto.kernels) in record {
-      cores = λ grm are. kernels_more index kernels state c.clear_kernel.new.kernel d low grm (one.cores grm) (so_far.cores grm are);
-      alike =
-          alike_on (kernel_rows index c.args.kernels.now) (kernel_rows index kernels) (kernel_rows index (set kernels state c.clear_kernel.new.kernel))
-          so_far.alike (alike_more index kernels state c.clear_kernel.new.kernel d low one.same);
-      none = empty_more index kernels state c.clear_kernel.new.kernel d low one.none so_far.none;
-    }
+    let low : c.loop-state.state < length c.loop-state.kernels = omega (arith, c.loop-state-test.true, c.loop-state.auto.kernels) in
+    kernels_cleared_on g.StorageT.StorageIndex.index c.loop-state.kernels c.loop-state.state c.clear_kernel.new.kernel c.index-kernels-state.result low
+    c.args.kernels.now c.loop-state.invariant one.cores one.same one.none
 
 pub returns-clause-none : goal.returns-clause-none
 returns-clause-none g c =

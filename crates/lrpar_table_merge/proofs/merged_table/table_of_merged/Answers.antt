@@ -1,13 +1,10 @@
-use Rattle.std.proofs.Common.{◌≡◌, ◌<◌, ◌↔◌, ◌∙◌, ℕ, sym, subst, arith, length, map}
+use Rattle.std.proofs.Common.{◌∙◌, sym, subst, arith, length, map}
 use Rattle.std.proofs.lemmas.List.{length-map}
 use Rattle.std.proofs.lemmas.Result.{IfErr-weaker}
-use Rattle.lrpar_grammar.specs.Grammar.{tokens_len}
-use Rattle.lrpar_table_rows.specs.Graph.{HasItem, graph_len}
-use Rattle.lrpar_table_items.specs.Resolution.{IsAcceptReduce}
-use Rattle.lrpar_table_items.specs.StateRows.{IsRefusalOf, IsRefusedState, item_rows, table_of_states}
-use Rattle.lrpar_table_items.specs.States.{state_at, state_of}
+use Rattle.lrpar_table_items.specs.StateRows.{IsRefusalOf, IsRefusedState}
+use Rattle.lrpar_table_items.specs.States.{state_of}
 use Rattle.lrpar_table_build.proofs.TablesLemmas.{ok_four}
-use Rattle.lrpar_table_merge.specs.MergedBy.{IsMergedBy, IsTableRefusal}
+use Rattle.lrpar_table_merge.specs.MergedBy.{AreMergedBy, IsTableRefusal}
 use Rattle.lrpar_table_merge.proofs.MergedStateLemmas.{merged_refusal, states_merged_by}
 use Rattle.lrpar_table_merge.proofs.merged_table.table_of_merged.Goals as goal
 
@@ -21,10 +18,7 @@ returns-clause-merged g c =
     let precedences = c.args.precedences.now in
     let states = map (state_of g.StorageT.StorageIndex.index) c.args.states.items in
     let len = length-map c.args.states.items (state_of g.StorageT.StorageIndex.index) in
-    ok_four c.state_tables.result (λ made. graph_len made.0 ≡ length c.args.states.items)
-    (λ made. (s p k t : ℕ) → HasItem made.0 s p k t ↔ HasItem (item_rows grm states) s p k t) (λ made. made.1 ≡ table_of_states precedences grm states)
-    (λ _. (s t : ℕ) → s < length c.args.states.items → t < tokens_len grm → ¬ (IsAcceptReduce grm (state_at states s).cores (state_at states s).shifts t))
-    (λ made. IsMergedBy grm precedences made.0 made.1)
+    ok_four c.state_tables.result _ _ _ _ (AreMergedBy grm precedences)
     (λ made long items is none.
     states_merged_by grm c.start_prod-start.ensures.well_formed states c.requires.states precedences made.0 made.1 (long ∙ sym len) items is
     (λ s t below within. none s t (omega (arith, len, below)) within))

@@ -1,10 +1,10 @@
 use Rattle.lrpar_table_merge.specs.Merging.{AreMerging}
-use Rattle.lrpar_table_merge.specs.Expansions.{HaveSets}
+use Rattle.lrpar_table_merge.specs.Expansions.{AreKept}
 use Rattle.lrpar_table_merge.proofs.merge.Merging.work_on_all.Given as goal
 
 -- each state has a kernel
 abbrev pub invariant-loop-number : goal.invariant-loop-number
 invariant-loop-number g l = record {
-  sets : HaveSets g.StorageT.StorageIndex.index l.grm l.expansions;
+  kept : AreKept g.StorageT.StorageIndex.index l.grm l.expansions;
   merging : AreMerging g.StorageT.StorageIndex.index l.grm l.max_states g.StorageT.StorageIndex.limit l.self;
 }
