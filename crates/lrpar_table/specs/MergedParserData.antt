@@ -1,5 +1,5 @@
 -- A checked table by a minimiser, one with merged item sets of a grammar alone, and why there is none.
-use Rattle.std.specs.Prelude.{◌≡◌, ◌≤◌, ℕ, IfErr, IfOk, Result}
+use Rattle.std.specs.Prelude.{◌≡◌, ◌≤◌, ℕ}
 use Rattle.lrpar_grammar.specs.Grammar.{Grammar}
 use Rattle.lrpar_table_rows.specs.Graph.{graph_len}
 use Rattle.lrpar_table_check.specs.Checked.{Checked, IsChainFault, IsChecked, Unchecked}
@@ -35,14 +35,6 @@ abbrev pub IsUnmerged : {S : Type 0} → Grammar → ℕ → ℕ → Unbuilt S �
 IsUnmerged g most bound (Table fault grm) = (grm ≡ g) × IsMergingRefusal g fault
 IsUnmerged g most bound (Chains refused) = IsRefusedMerged g most bound refused
 
--- if the result is a checked table, it has merged item sets of the grammar
-abbrev pub GivesMergedData : {E : Type 0} → Grammar → ℕ → ℕ → Result Checked E → Type 0
-GivesMergedData g most cap result = IfOk result (IsMergedData g most cap)
-
--- if there is no checked table with merged item sets, the result says why
-abbrev pub TellsUnmerged : {T S : Type 0} → Grammar → ℕ → ℕ → Result T (Unbuilt S) → Type 0
-TellsUnmerged g most bound result = IfErr result (IsUnmerged g most bound)
-
 -- the checked table is the one that is built by the precedences and the minimiser, with at most `most` states, and has this cap
 pub record IsMinimisedData (minimiser : Minimiser) (g : Grammar) (precedences : PrecedenceLists) (most cap : ℕ) (d : Checked) : Type 0 where
   pub grammar : d.grammar ≡ g
@@ -62,7 +54,3 @@ pub record IsRefusedMinimised (minimiser : Minimiser) (g : Grammar) (precedences
 abbrev pub IsUnminimised : {S : Type 0} → Minimiser → ℕ → Grammar → PrecedenceLists → ℕ → ℕ → Unbuilt S → Type 0
 IsUnminimised minimiser limit g precedences most bound (Table fault grm) = (grm ≡ g) × IsRefusalBy minimiser g most limit fault
 IsUnminimised minimiser limit g precedences most bound (Chains refused) = IsRefusedMinimised minimiser g precedences most bound refused
-
--- if there is no checked table by the minimiser, the result says why
-abbrev pub TellsWhy : {T S : Type 0} → Minimiser → ℕ → Grammar → PrecedenceLists → ℕ → ℕ → Result T (Unbuilt S) → Type 0
-TellsWhy minimiser limit g precedences most bound result = IfErr result (IsUnminimised minimiser limit g precedences most bound)

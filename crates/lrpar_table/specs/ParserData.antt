@@ -1,5 +1,5 @@
 -- A checked table of a grammar alone, and why there is none.
-use Rattle.std.specs.Prelude.{◌≡◌, ◌≤◌, ℕ, IfErr, IfOk, Result}
+use Rattle.std.specs.Prelude.{◌≡◌, ◌≤◌, ℕ}
 use Rattle.lrpar_grammar.specs.Grammar.{Grammar}
 use Rattle.lrpar_table_rows.specs.Graph.{graph_len}
 use Rattle.lrpar_table_precedence.specs.Precedence.{PrecedenceLists}
@@ -33,10 +33,6 @@ abbrev pub IsUnbuilt : {S : Type 0} → ℕ → Grammar → ℕ → ℕ → Unbu
 IsUnbuilt limit g most bound (Table fault grm) = (grm ≡ g) × IsBuildRefusal g most limit fault
 IsUnbuilt limit g most bound (Chains refused) = IsRefusedBuilt g most bound refused
 
--- if the result is a checked table, it is one that is built of the grammar
-abbrev pub GivesParserData : {E : Type 0} → Grammar → ℕ → ℕ → Result Checked E → Type 0
-GivesParserData g most cap result = IfOk result (IsParserDataOf g most cap)
-
 -- the same by precedences: whether it is complete isn't said
 abbrev pub IsParserDataBy : Grammar → PrecedenceLists → ℕ → ℕ → Checked → Type 0
 IsParserDataBy g precedences most cap = IsMinimisedData Canonical g precedences most cap
@@ -46,7 +42,3 @@ IsRefusedBuiltBy g precedences most cap = IsRefusedMinimised Canonical g precede
 
 abbrev pub IsUnbuiltBy : {S : Type 0} → ℕ → Grammar → PrecedenceLists → ℕ → ℕ → Unbuilt S → Type 0
 IsUnbuiltBy limit g precedences most bound = IsUnminimised Canonical limit g precedences most bound
-
--- if there is no checked table by the precedences, the result says why
-abbrev pub TellsUnbuiltBy : {T S : Type 0} → ℕ → Grammar → PrecedenceLists → ℕ → ℕ → Result T (Unbuilt S) → Type 0
-TellsUnbuiltBy limit g precedences most bound result = IfErr result (IsUnbuiltBy limit g precedences most bound)

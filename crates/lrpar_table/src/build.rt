@@ -1,7 +1,7 @@
 //! The table builder, and the checked table of a grammar alone.
 ghost use Rattle.std.specs.Prelude.{IfErr, IfOk};
-ghost use Rattle.lrpar_table.specs.MergedParserData.{GivesMergedData, IsMinimisedData, TellsUnmerged, TellsWhy};
-ghost use Rattle.lrpar_table.specs.ParserData.{GivesParserData, IsParserDataBy, IsUnbuilt, TellsUnbuiltBy};
+ghost use Rattle.lrpar_table.specs.MergedParserData.{IsMergedData, IsMinimisedData, IsUnmerged, IsUnminimised};
+ghost use Rattle.lrpar_table.specs.ParserData.{IsParserDataBy, IsParserDataOf, IsUnbuilt, IsUnbuiltBy};
 
 use lrpar_grammar::grammar::YaccGrammar;
 use lrpar_grammar::span::StorageIndex;
@@ -48,7 +48,7 @@ pub fn parser_data<StorageT: StorageIndex>(
     max_states: usize,
     cap: u16,
 ) -> Result<ParserData<StorageT>, Unbuilt<StorageT>>
-    ensures built { GivesParserData grm max_states cap result }
+    ensures built { IfOk result (IsParserDataOf grm max_states cap) }
     ensures refused { IfErr result (IsUnbuilt StorageT.limit grm max_states cap) }
 {
     let _start = grm.start_prod();
@@ -75,7 +75,7 @@ pub fn parser_data_with<StorageT: StorageIndex>(
     cap: u16,
 ) -> Result<ParserData<StorageT>, Unbuilt<StorageT>>
     ensures built { IfOk result (IsParserDataBy grm precedences.now max_states cap) }
-    ensures refused { TellsUnbuiltBy StorageT.limit grm precedences.now max_states cap result }
+    ensures refused { IfErr result (IsUnbuiltBy StorageT.limit grm precedences.now max_states cap) }
 {
     parser_data_by(
         alloc,
@@ -98,8 +98,8 @@ pub fn merged_parser_data<StorageT: StorageIndex>(
     max_states: usize,
     cap: u16,
 ) -> Result<ParserData<StorageT>, Unbuilt<StorageT>>
-    ensures built { GivesMergedData grm max_states cap result }
-    ensures refused { TellsUnmerged grm max_states cap result }
+    ensures built { IfOk result (IsMergedData grm max_states cap) }
+    ensures refused { IfErr result (IsUnmerged grm max_states cap) }
 {
     let precedences = Precedences::none(alloc);
     parser_data_by(alloc, grm, &precedences, Minimiser::Pager, max_states, cap)
@@ -117,7 +117,7 @@ pub fn parser_data_by<StorageT: StorageIndex>(
     cap: u16,
 ) -> Result<ParserData<StorageT>, Unbuilt<StorageT>>
     ensures built { IfOk result (IsMinimisedData minimiser grm precedences.now max_states cap) }
-    ensures refused { TellsWhy minimiser StorageT.limit grm precedences.now max_states cap result }
+    ensures refused { IfErr result (IsUnminimised minimiser StorageT.limit grm precedences.now max_states cap) }
 {
     match from_yacc_by(alloc, &grm, precedences, minimiser, max_states) {
         Err(fault) => Err(Unbuilt::Table(fault, grm)),

@@ -1,4 +1,4 @@
-use Rattle.std.proofs.Common.{◌<◌, ◌∙◌, refl, sym, ap, subst, arith, false, length, map, rules, set}
+use Rattle.std.proofs.Common.{◌∙◌, refl, sym, ap, subst, arith, false, length, map, rules, set}
 use Rattle.std.proofs.lemmas.Bool.{false≢true}
 use Rattle.lrpar_grammar.specs.Grammar.{Nonterminal, Terminal}
 use Rattle.lrpar_table_items.specs.Canonical.{AreSame}
