@@ -173,18 +173,3 @@ listed_after index span names input most sequences before old out full count beg
           ∙ ap (λ t. before ++ t) (repaired most texts (omega arith) (count ∙ ap digits (sym same))),
       each,
     )
-
--- what holds for each element of a mapped list
-pub mapped_at : {A B : Type 0} (P : B → Type 0) (f : A → B) (xs : List A) (i : ℕ) (x : A) → i < length xs → x ≡ get_or xs i x → AllByRecursion P (map f xs) → P (f x)
-mapped_at P f [] i x below at all = absurd (omega arith)
-mapped_at {A = A} P f (y ∷ ys) zero x below at all = let Q : A → Type 0 = λ z. P (f z) in subst Q (sym at) all.0
-mapped_at P f (y ∷ ys) (suc i) x below at all = mapped_at P f ys i x (omega arith) at all.1
-
--- one more element of a mapped list; and all of them, at the list's end
-pub mapped_next : {A B : Type 0} (P : B → Type 0) (f : A → B) (xs : List A) (i : ℕ) (x : A) → i < length xs → x ≡ get_or xs i x
-    → AllByRecursion P (map f (take i xs)) → P (f x) → AllByRecursion P (map f (take (i + 1) xs))
-mapped_next P f xs i x below at so_far here =
-    rw (taken xs i x below at, map-append f (take i xs) (x ∷ [])) (all_both P (map f (take i xs)) (f x ∷ []) so_far (here, tt))
-
-pub mapped_all : {A B : Type 0} (P : B → Type 0) (f : A → B) (xs : List A) (i : ℕ) → length xs ≤ i → AllByRecursion P (map f (take i xs)) → AllByRecursion P (map f xs)
-mapped_all {A = A} P f xs i long so_far = let Q : List A → Type 0 = λ ys. AllByRecursion P (map f ys) in subst Q (taken_all xs i long) so_far
