@@ -1,7 +1,7 @@
 -- The texts of the sequences of an error.
 use Rattle.std.proofs.Common.{◌≡◌, ℕ, zero, suc, ◌+◌, ◌<◌, ◌≤◌, List, [], ◌∷◌, ◌++◌, Option, Vec, length, map, take, drop, get_or, refl, ap, sym, ◌∙◌, arith, append_assoc, append-nil, subst, codes}
 use Rattle.std.specs.List.{AllByRecursion, AllZip, flat_map}
-use Rattle.std.proofs.lemmas.List.{take_more, length-take, map-append}
+use Rattle.std.proofs.lemmas.List.{take_more, length-take}
 use Rattle.std.proofs.lemmas.Grind.{flat_map-append}
 use Rattle.lrpar_grammar_places.specs.Span.{Extent}
 use Rattle.lrpar_parse_lexemes.specs.declared.repairs.ParseRepair.{ParseRepair}
@@ -13,7 +13,6 @@ use Rattle.lrpar_parse_errors.specs.ErrorText.{digits, numbering, numbered, repa
 use Rattle.lrpar_parse_lexemes.specs.declared.pp_fault.PpFault.{PpFault}
 use Rattle.lrpar_parse_lexemes.specs.declared.pp_fault.PpFault.TheVariants.{NoPrintedName, Memory}
 use Rattle.lrpar_parse_errors.proofs.SequenceTextLemmas.{IsInRange, named_append, named_parts, unnamed_within}
-use Rattle.lrpar_grammar_places.proofs.ListLemmas.{all_both}
 
 -- one more sequence after its number
 numbered_more : (most i : ℕ) (texts : List (List ℕ)) (text : List ℕ)

@@ -1,6 +1,6 @@
 -- Tests of all elements of a list.
 use denote.Param.Members.{Mut}
-use Rattle.std.proofs.Common.{◌≡◌, ◌<◌, ◌+◌, ◌↔◌, ℕ, zero, suc, Bool, true, false, IsTrue, List, [], ◌∷◌, length, map, MatchOption, Option, slice_index_or, refl, arith}
+use Rattle.std.proofs.Common.{◌≡◌, ◌↔◌, zero, suc, Bool, true, false, IsTrue, List, [], ◌∷◌, map, MatchOption, Option, refl, arith}
 use Rattle.std.proofs.lemmas.Bool.{MatchBool-at_true, false≢true}
 use Rattle.std.proofs.lemmas.Iterator.{YieldsList, cases_from_all}
 use Rattle.std.proofs.lemmas.Iterator.Search.{true_from_All}

@@ -103,7 +103,9 @@ fn sequences_fit<LexemeT: Lexeme<StorageT>, StorageT: StorageIndex>(
 ) -> bool
     ensures { IsTrue result ↔ FitSequences StorageT.index LexemeT.parts input.now sequences.now }
 {
-    sequences.iter().all(|sequence| repairs_fit(sequence, input))
+    sequences
+        .iter()
+        .all(|sequence| repairs_fit(sequence, input))
 }
 
 // Whether the lexemes of a sequence lie in the input.
