@@ -1,7 +1,7 @@
 -- The texts of the sequences of an error.
 use Rattle.std.proofs.Common.{◌≡◌, ℕ, zero, suc, ◌+◌, ◌<◌, ◌≤◌, List, [], ◌∷◌, ◌++◌, Option, Vec, length, map, take, drop, get_or, refl, ap, sym, ◌∙◌, arith, append_assoc, append-nil, subst, codes}
 use Rattle.std.specs.List.{AllByRecursion, AllZip, flat_map}
-use Rattle.std.proofs.lemmas.List.{take_more, length-take, map-append}
+use Rattle.std.proofs.lemmas.List.{take_more, length-take}
 use Rattle.std.proofs.lemmas.Grind.{flat_map-append}
 use Rattle.lrpar_grammar_places.specs.Span.{Extent}
 use Rattle.lrpar_parse_lexemes.specs.declared.repairs.ParseRepair.{ParseRepair}
@@ -13,7 +13,6 @@ use Rattle.lrpar_parse_errors.specs.ErrorText.{digits, numbering, numbered, repa
 use Rattle.lrpar_parse_lexemes.specs.declared.pp_fault.PpFault.{PpFault}
 use Rattle.lrpar_parse_lexemes.specs.declared.pp_fault.PpFault.TheVariants.{NoPrintedName, Memory}
 use Rattle.lrpar_parse_errors.proofs.SequenceTextLemmas.{IsInRange, named_append, named_parts, unnamed_within}
-use Rattle.lrpar_grammar_places.proofs.ListLemmas.{all_both}
 
 -- one more sequence after its number
 numbered_more : (most i : ℕ) (texts : List (List ℕ)) (text : List ℕ)
@@ -173,18 +172,3 @@ listed_after index span names input most sequences before old out full count beg
           ∙ ap (λ t. before ++ t) (repaired most texts (omega arith) (count ∙ ap digits (sym same))),
       each,
     )
-
--- what holds for each element of a mapped list
-pub mapped_at : {A B : Type 0} (P : B → Type 0) (f : A → B) (xs : List A) (i : ℕ) (x : A) → i < length xs → x ≡ get_or xs i x → AllByRecursion P (map f xs) → P (f x)
-mapped_at P f [] i x below at all = absurd (omega arith)
-mapped_at {A = A} P f (y ∷ ys) zero x below at all = let Q : A → Type 0 = λ z. P (f z) in subst Q (sym at) all.0
-mapped_at P f (y ∷ ys) (suc i) x below at all = mapped_at P f ys i x (omega arith) at all.1
-
--- one more element of a mapped list; and all of them, at the list's end
-pub mapped_next : {A B : Type 0} (P : B → Type 0) (f : A → B) (xs : List A) (i : ℕ) (x : A) → i < length xs → x ≡ get_or xs i x
-    → AllByRecursion P (map f (take i xs)) → P (f x) → AllByRecursion P (map f (take (i + 1) xs))
-mapped_next P f xs i x below at so_far here =
-    rw (taken xs i x below at, map-append f (take i xs) (x ∷ [])) (all_both P (map f (take i xs)) (f x ∷ []) so_far (here, tt))
-
-pub mapped_all : {A B : Type 0} (P : B → Type 0) (f : A → B) (xs : List A) (i : ℕ) → length xs ≤ i → AllByRecursion P (map f (take i xs)) → AllByRecursion P (map f xs)
-mapped_all {A = A} P f xs i long so_far = let Q : List A → Type 0 = λ ys. AllByRecursion P (map f ys) in subst Q (taken_all xs i long) so_far

@@ -5,3 +5,4 @@ pub mod LexParseTextLemmas
 pub mod MessageLemmas
 pub mod ActedOnLemmas
 pub mod SpacesLemmas
+pub mod TestLemmas

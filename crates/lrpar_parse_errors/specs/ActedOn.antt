@@ -1,4 +1,5 @@
 -- The tokens at which a state of a table has an action.
+use denote.Ref.{Bor}
 use Rattle.std.specs.Prelude.{◌≢◌, ◌↔◌, ℕ, List, Contains, map}
 use Rattle.std.specs.List.Sorted.{IsStrictlyIncreasing}
 use Rattle.lrpar_grammar_places.specs.declared.span.TIdx.{TIdx}
@@ -12,5 +13,5 @@ pub record AreActedOn (table : Table) (s : ℕ) (tokens : List ℕ) : Type 0 whe
   pub exact : (t : ℕ) → Contains tokens t ↔ (action_of table s t ≢ Fails)
 
 -- these are the tokens at which the error's state has an action, by the checked table
-abbrev pub AreExpected : {X S : Type 0} → (S → ℕ) → Checked → Failure X → List (TIdx S) → Type 0
-AreExpected index d e tokens = AreActedOn d.table e.state (map (λ token. index token.0) tokens)
+abbrev pub AreExpected : {X S : Type 0} → (S → ℕ) → Checked → Failure X → Bor (List (TIdx S)) → Type 0
+AreExpected index d e tokens = AreActedOn d.table e.state (map (λ token. index token.0) tokens.now)

@@ -8,5 +8,6 @@ pub mod LexParseText
 pub mod SequenceText
 pub mod PrintedParts
 pub mod ActedOn
+pub mod StoredRepairs
 pub mod StoredSequences
 pub mod StoredErrors

@@ -29,9 +29,9 @@ module _ {S L X Y : Type 0} (place : Y → Extent) (parts : X → LexemeParts S)
   abbrev pub IsTextOf : {A : Type 0} → Grammar → List ℕ → LexParseError S L X Y → String A → Type 0
   IsTextOf g input e = λ text. IsErrorText place (λ x. (parts x).span) (IsPrintedName g) input e (string_bytes text)
 
-  -- this is the text of the error that names a byte alone
-  abbrev pub IsByteText : {A : Type 0} → LexParseError S L X Y → String A → Type 0
-  IsByteText e = HasText (unfit_text place (λ x. (parts x).span) e)
+  -- if there is a result, it is the text of the error that names a byte alone
+  abbrev pub TellsByte : {A E : Type 0} → LexParseError S L X Y → Result (String A) E → Type 0
+  TellsByte e result = IfOk result (HasText (unfit_text place (λ x. (parts x).span) e))
 
   -- if the error fits the input, the result is its text, with the names that a grammar prints
   abbrev pub GivesText : {A E : Type 0} → Grammar → List ℕ → LexParseError S L X Y → Result (String A) E → Type 0
@@ -39,7 +39,7 @@ module _ {S L X Y : Type 0} (place : Y → Extent) (parts : X → LexemeParts S)
 
   -- if the error doesn't fit the input, the result is the text that names a byte alone
   abbrev pub GivesByte : {A E : Type 0} → List ℕ → LexParseError S L X Y → Result (String A) E → Type 0
-  GivesByte input e result = ¬ (FitsInput input e) → IfOk result (IsByteText e)
+  GivesByte input e result = ¬ (FitsInput input e) → TellsByte e result
 
 module _ {S L X Y : Type 0} (index : S → ℕ) (parts : X → LexemeParts S) where
   -- the fault names the first token of the error's sequences for which nothing is printed, or is `Memory`

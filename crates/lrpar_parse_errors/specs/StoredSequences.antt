@@ -1,14 +1,14 @@
 -- Repair sequences and their parts as they are stored, and their texts. `index` gives the number of a value of the storage type, `parts` the
 -- parts of a lexeme, and `names` says what is printed for a token.
 use denote.Ref.{Bor}
-use Rattle.std.specs.Prelude.{◌≡◌, ◌∷◌, ℕ, List, [], MatchOption, Option, String, Vec, map}
+use Rattle.std.specs.Prelude.{◌≡◌, ◌<◌, ◌∷◌, ℕ, List, [], MatchOption, OnOk, Option, Result, String, Vec, length, map}
 use Rattle.std.specs.List.{AllByRecursion, AllZip}
 use Rattle.lrpar_grammar_places.specs.Span.{Extent}
 use Rattle.lrpar_parse_lexemes.specs.Lexemes.{LexemeParts}
 use Rattle.lrpar_parse_lexemes.specs.Repairs.{repair_of, repairs_of}
 use Rattle.lrpar_parse_lexemes.specs.declared.pp_fault.PpFault.{PpFault}
 use Rattle.lrpar_parse_lexemes.specs.declared.repairs.ParseRepair.{ParseRepair}
-use Rattle.lrpar_parse_errors.specs.ErrorText.{numbered, repairs_text, tokens_of}
+use Rattle.lrpar_parse_errors.specs.ErrorText.{repairs_text, tokens_of}
 use Rattle.lrpar_parse_errors.specs.Printed.{IsPpFault}
 use Rattle.lrpar_parse_errors.specs.PrintedParts.{part_of, sequence_parts}
 use Rattle.lrpar_parse_errors.specs.SequenceText.{IsPartText, IsPartsText, PartFits, RepairFits, RepairsFit, inserted, inserted_by, joined, parts_of}
@@ -20,13 +20,17 @@ use Rattle.lrpar_parse_errors.specs.declared.printed_parts.Part.TheVariants.{Del
 abbrev pub FitsPart : {S : Type 0} → (S → ℕ) → List ℕ → Part S → Type 0
 FitsPart index input part = PartFits input (part_of index part)
 
--- the text of a part was added
-abbrev pub AppendsPart : {S A : Type 0} → (S → ℕ) → (ℕ → Option (List ℕ) → Type 0) → List ℕ → Part S → String A → String A → Type 0
-AppendsPart index names input part old new = (text : List ℕ) × Appends old new text × IsPartText names input (part_of index part) text
+-- if the call succeeded, the text of the part was added
+abbrev pub PushesPart : {S A T E : Type 0} → (S → ℕ) → (ℕ → Option (List ℕ) → Type 0) → List ℕ → Part S → String A → String A → Result T E → Type 0
+PushesPart index names input part old new result = OnOk result ((text : List ℕ) × Appends old new text × IsPartText names input (part_of index part) text)
 
 -- the fault names the part's token, for which nothing is printed, or is `Memory`
 abbrev pub IsPartFault : {S : Type 0} → (S → ℕ) → (ℕ → Option (List ℕ) → Type 0) → Part S → PpFault S → Type 0
 IsPartFault index names part = IsPpFault index names (inserted_by (part_of index part))
+
+-- fewer repairs are left after the next part
+abbrev pub LeavesFewer : {S X : Type 0} → List (ParseRepair X S) → Part S × Bor (List (ParseRepair X S)) → Type 0
+LeavesFewer repairs = λ next. length next.1.now < length repairs
 
 module _ {S X : Type 0} (index : S → ℕ) (parts : X → LexemeParts S) where
   -- the first part that is printed for the repairs, and the repairs after it; none if there are no repairs
@@ -35,10 +39,11 @@ module _ {S X : Type 0} (index : S → ℕ) (parts : X → LexemeParts S) where
       MatchOption found (sequence_parts index (λ x. (parts x).span) repairs ≡ [])
       (λ next. sequence_parts index (λ x. (parts x).span) repairs ≡ part_of index next.0 ∷ sequence_parts index (λ x. (parts x).span) next.1.now)
 
-  -- a deletion before the repairs is printed as one with the deletions that touch it: as `whole`, and the repairs `after` are left
-  abbrev pub JoinsDeletions : Extent → List (ParseRepair X S) → Extent → List (ParseRepair X S) → Type 0
-  JoinsDeletions first repairs whole after =
-      joined first (sequence_parts index (λ x. (parts x).span) repairs) ≡ part_of index (Delete whole) ∷ sequence_parts index (λ x. (parts x).span) after
+  -- a deletion before the repairs is printed as one with the deletions that touch it: as `whole.0`, and the repairs `whole.1` are left
+  abbrev pub JoinsDeletions : Extent → List (ParseRepair X S) → Extent × Bor (List (ParseRepair X S)) → Type 0
+  JoinsDeletions first repairs whole =
+      joined first (sequence_parts index (λ x. (parts x).span) repairs)
+      ≡ part_of index (Delete whole.0) ∷ sequence_parts index (λ x. (parts x).span) whole.1.now
 
   -- the part of the input that the repair names starts and ends between two characters of the input
   abbrev pub FitsRepair : List ℕ → ParseRepair X S → Type 0
@@ -53,22 +58,16 @@ module _ {S X : Type 0} (index : S → ℕ) (parts : X → LexemeParts S) where
   FitSequences input sequences = AllByRecursion (RepairsFit (λ x. (parts x).span) input) (repairs_of index sequences)
 
   module _ (names : ℕ → Option (List ℕ) → Type 0) where
-    -- the text of the sequence was added
-    abbrev pub AppendsSequence : {A B : Type 0} → List ℕ → Vec (ParseRepair X S) B → String A → String A → Type 0
-    AppendsSequence input sequence old new =
-        (text : List ℕ) × Appends old new text × IsPartsText names input (sequence_parts index (λ x. (parts x).span) sequence.items) text
+    -- if the call succeeded, the text of the sequence was added
+    abbrev pub PushesSequence : {A B T E : Type 0} → List ℕ → Vec (ParseRepair X S) B → String A → String A → Result T E → Type 0
+    PushesSequence input sequence old new result =
+        OnOk result ((text : List ℕ) × Appends old new text × IsPartsText names input (sequence_parts index (λ x. (parts x).span) sequence.items) text)
 
-    -- the texts of the sequences were added, each after its number
-    abbrev pub AppendsListed : {A B : Type 0} → List ℕ → ℕ → List (Vec (ParseRepair X S) B) → String A → String A → Type 0
-    AppendsListed input most sequences old new =
-        (texts : List (List ℕ)) × Appends old new (numbered most 1 texts)
-        × AllZip (IsPartsText names input) (map (parts_of (λ x. (parts x).span)) (repairs_of index sequences)) texts
-
-    -- the same with the words before them, or the words that there are none
-    abbrev pub AppendsRepairs : {A B : Type 0} → List ℕ → List (Vec (ParseRepair X S) B) → String A → String A → Type 0
-    AppendsRepairs input sequences old new =
-        (texts : List (List ℕ)) × Appends old new (repairs_text texts)
-        × AllZip (IsPartsText names input) (map (parts_of (λ x. (parts x).span)) (repairs_of index sequences)) texts
+    -- if it did, the texts of the sequences were added, each after its number, or the words that there are none
+    abbrev pub PushesRepairs : {A B T E : Type 0} → List ℕ → List (Vec (ParseRepair X S) B) → String A → String A → Result T E → Type 0
+    PushesRepairs input sequences old new result =
+        OnOk result ((texts : List (List ℕ)) × Appends old new (repairs_text texts)
+        × AllZip (IsPartsText names input) (map (parts_of (λ x. (parts x).span)) (repairs_of index sequences)) texts)
 
     -- the fault names the first token of the sequence for which nothing is printed, or is `Memory`
     abbrev pub IsFaultIn : {B : Type 0} → Vec (ParseRepair X S) B → PpFault S → Type 0

@@ -1,10 +1,10 @@
 //! The texts of errors.
-ghost use Rattle.std.specs.Prelude.{◌↔◌, IfOk, OnOk, IfErr, IsTrue};
+ghost use Rattle.std.specs.Prelude.{◌↔◌, IfOk, IfErr, IsTrue};
 ghost use Rattle.std.specs.Str.{IsCharBoundary};
 ghost use Rattle.lrpar_grammar.specs.SpansFit.{IsPartOf};
 ghost use Rattle.lrpar_parse_errors.specs.ErrorText.{numbering, place_text};
-ghost use Rattle.lrpar_parse_errors.specs.StoredSequences.{AppendsListed, AppendsRepairs, FitRepairs, FitSequences, FitsRepair, IsFaultOf};
-ghost use Rattle.lrpar_parse_errors.specs.Strings.{Appends};
+ghost use Rattle.lrpar_parse_errors.specs.StoredSequences.{FitRepairs, FitSequences, FitsRepair, IsFaultOf, PushesRepairs};
+ghost use Rattle.lrpar_parse_errors.specs.Strings.{Pushes};
 
 use crate::errors::LexParseError;
 use crate::names::{ByFunction, TokenNames};
@@ -15,16 +15,18 @@ use lrpar_parse_lexemes::lex_api::{LexError, Lexeme, LexerTypes, NonStreamingLex
 use lrpar_parse_lexemes::{ParseRepair, PpFault};
 use std::alloc::{AllocError, Global};
 
-impl<StorageT: StorageIndex, LexerTypesT: LexerTypes<StorageT = StorageT>> LexParseError<
-    StorageT,
-    LexerTypesT,
-> {
+impl<
+    StorageT: StorageIndex,
+    LexemeT: Lexeme<StorageT>,
+    ErrorT: LexError,
+    LexerTypesT: LexerTypes<StorageT = StorageT, LexemeT = LexemeT, LexErrorT = ErrorT>,
+> LexParseError<StorageT, LexerTypesT> {
     ghost use Rattle.lrpar_parse_errors.specs.StoredErrors.{FitsInput, IsFaultBy, IsFaultWith, IsTextBy, IsTextWith};
 
     /// Whether each part of the input that the error names starts and ends between two characters of the input. `pp` requires
     /// it. Takes time linear in the repairs, and no memory.
     pub fn fits(&self, input: &str) -> bool
-        ensures { IsTrue result ↔ FitsInput LexerTypesT.LexErrorT.place LexerTypesT.LexemeT.parts input.now self.now }
+        ensures { IsTrue result ↔ FitsInput ErrorT.place LexemeT.parts input.now self.now }
     {
         match self {
             LexParseError::LexError(error) => is_part(error.span(), input),
@@ -52,10 +54,10 @@ impl<StorageT: StorageIndex, LexerTypesT: LexerTypes<StorageT = StorageT>> LexPa
         F: Fn(TIdx<StorageT>) -> Option<&'input str> + Drop,
     >(&self, alloc: Global, lexer: &L, epp: F) -> Result<String, PpFault<StorageT>>
         requires epp { F.IsAlwaysCallable epp }
-        requires fits { FitsInput LexerTypesT.LexErrorT.place LexerTypesT.LexemeT.parts (L.text lexer.now) self.now }
-        ensures text { IfOk result (IsTextWith LexerTypesT.LexErrorT.place LexerTypesT.LexemeT.parts
+        requires fits { FitsInput ErrorT.place LexemeT.parts (L.text lexer.now) self.now }
+        ensures text { IfOk result (IsTextWith ErrorT.place LexemeT.parts
             StorageT.index (F.post epp) (L.text lexer.now) self.now) }
-        ensures fault { IfErr result (IsFaultWith StorageT.index LexerTypesT.LexemeT.parts (F.post epp) self.now) }
+        ensures fault { IfErr result (IsFaultWith StorageT.index LexemeT.parts (F.post epp) self.now) }
     {
         self.text_by(alloc, lexer, &ByFunction(epp))
     }
@@ -67,10 +69,10 @@ impl<StorageT: StorageIndex, LexerTypesT: LexerTypes<StorageT = StorageT>> LexPa
         N: TokenNames<'input, StorageT>,
     >(&self, alloc: Global, lexer: &L, names: &N) -> Result<String, PpFault<StorageT>>
         requires names { N.can_name names.now }
-        requires fits { FitsInput LexerTypesT.LexErrorT.place LexerTypesT.LexemeT.parts (L.text lexer.now) self.now }
-        ensures text { IfOk result (IsTextBy LexerTypesT.LexErrorT.place LexerTypesT.LexemeT.parts
+        requires fits { FitsInput ErrorT.place LexemeT.parts (L.text lexer.now) self.now }
+        ensures text { IfOk result (IsTextBy ErrorT.place LexemeT.parts
             (N.prints names.now) (L.text lexer.now) self.now) }
-        ensures fault { IfErr result (IsFaultBy StorageT.index LexerTypesT.LexemeT.parts (N.prints names.now) self.now) }
+        ensures fault { IfErr result (IsFaultBy StorageT.index LexemeT.parts (N.prints names.now) self.now) }
     {
         let mut out = String::new(alloc);
         match self {
@@ -101,12 +103,9 @@ fn sequences_fit<LexemeT: Lexeme<StorageT>, StorageT: StorageIndex>(
 ) -> bool
     ensures { IsTrue result ↔ FitSequences StorageT.index LexemeT.parts input.now sequences.now }
 {
-    for sequence in sequences {
-        if !repairs_fit(sequence, input) {
-            return false;
-        }
-    }
-    true
+    sequences
+        .iter()
+        .all(|sequence| repairs_fit(sequence, input))
 }
 
 // Whether the lexemes of a sequence lie in the input.
@@ -116,12 +115,7 @@ fn repairs_fit<LexemeT: Lexeme<StorageT>, StorageT: StorageIndex>(
 ) -> bool
     ensures { IsTrue result ↔ FitRepairs StorageT.index LexemeT.parts input.now repairs.now }
 {
-    for repair in repairs {
-        if !repair_fits(repair, input) {
-            return false;
-        }
-    }
-    true
+    repairs.iter().all(|repair| repair_fits(repair, input))
 }
 
 // Whether the lexeme of a repair lies in the input, if it has one.
@@ -146,7 +140,7 @@ fn push_place<'input, LexerTypesT: LexerTypes, L: NonStreamingLexer<'input, Lexe
 ) -> Result<(), AllocError>
     requires start { IsCharBoundary (L.text lexer.now) span.start }
     requires end { IsCharBoundary (L.text lexer.now) span.end }
-    ensures { OnOk result (Appends out.old out.new (place_text what.now (L.text lexer.now) span.start)) }
+    ensures { Pushes (place_text what.now (L.text lexer.now) span.start) out.old out.new result }
 {
     let ((line, column), _) = lexer.line_col(span);
     write!(out, "{what} at line {line} column {column}.")
@@ -159,7 +153,7 @@ fn push_numbering(
     most: usize,
     number: usize,
 ) -> Result<(), AllocError>
-    ensures { OnOk result (Appends out.old out.new (numbering most number)) }
+    ensures { Pushes (numbering most number) out.old out.new result }
 {
     let number = number.to_string(alloc)?;
     out.push_str("\n  ")?;
@@ -169,11 +163,12 @@ fn push_numbering(
     out.push_str(": ")
 }
 
-// Adds the text of the sequences of an error.
+// Adds the text of the sequences of an error, each after its number.
 fn push_repairs<
     'input,
     StorageT: StorageIndex,
-    LexerTypesT: LexerTypes<StorageT = StorageT>,
+    LexemeT: Lexeme<StorageT>,
+    LexerTypesT: LexerTypes<StorageT = StorageT, LexemeT = LexemeT>,
     L: NonStreamingLexer<'input, LexerTypesT>,
     N: TokenNames<'input, StorageT>,
 >(
@@ -181,13 +176,13 @@ fn push_repairs<
     alloc: Global,
     lexer: &L,
     names: &N,
-    sequences: &[Vec<ParseRepair<LexerTypesT::LexemeT, StorageT>>],
+    sequences: &[Vec<ParseRepair<LexemeT, StorageT>>],
 ) -> Result<(), PpFault<StorageT>>
     requires names { N.can_name names.now }
-    requires fits { FitSequences StorageT.index LexerTypesT.LexemeT.parts (L.text lexer.now) sequences.now }
-    ensures text { OnOk result (AppendsRepairs StorageT.index LexerTypesT.LexemeT.parts
-        (N.prints names.now) (L.text lexer.now) sequences.now out.old out.new) }
-    ensures fault { IfErr result (IsFaultOf StorageT.index LexerTypesT.LexemeT.parts (N.prints names.now) sequences.now) }
+    requires fits { FitSequences StorageT.index LexemeT.parts (L.text lexer.now) sequences.now }
+    ensures text { PushesRepairs StorageT.index LexemeT.parts
+        (N.prints names.now) (L.text lexer.now) sequences.now out.old out.new result }
+    ensures fault { IfErr result (IsFaultOf StorageT.index LexemeT.parts (N.prints names.now) sequences.now) }
 {
     if sequences.is_empty() {
         out.push_str(" No repair sequences found.")?;
@@ -195,30 +190,6 @@ fn push_repairs<
     }
     out.push_str(" Repair sequences found:")?;
     let most = sequences.len().to_string(alloc)?.len();
-    push_listed(out, alloc, lexer, names, most, sequences)
-}
-
-// Adds the sequences, each after its number. The numbers have at most `most` digits.
-fn push_listed<
-    'input,
-    StorageT: StorageIndex,
-    LexerTypesT: LexerTypes<StorageT = StorageT>,
-    L: NonStreamingLexer<'input, LexerTypesT>,
-    N: TokenNames<'input, StorageT>,
->(
-    out: &mut String,
-    alloc: Global,
-    lexer: &L,
-    names: &N,
-    most: usize,
-    sequences: &[Vec<ParseRepair<LexerTypesT::LexemeT, StorageT>>],
-) -> Result<(), PpFault<StorageT>>
-    requires names { N.can_name names.now }
-    requires fits { FitSequences StorageT.index LexerTypesT.LexemeT.parts (L.text lexer.now) sequences.now }
-    ensures text { OnOk result (AppendsListed StorageT.index LexerTypesT.LexemeT.parts
-        (N.prints names.now) (L.text lexer.now) most sequences.now out.old out.new) }
-    ensures fault { IfErr result (IsFaultOf StorageT.index LexerTypesT.LexemeT.parts (N.prints names.now) sequences.now) }
-{
     for (i, sequence) in sequences.iter().enumerate() {
         push_numbering(out, alloc, most, i + 1)?;
         push_sequence(out, lexer, names, sequence)?;

@@ -1,7 +1,7 @@
 //! Lexing errors and parse errors, and the repairs that parse errors list.
 ghost use Rattle.std.specs.Prelude.{◌≡◌};
 ghost use Rattle.lrpar_parse_errors.specs.Failure.{failure_text};
-ghost use Rattle.lrpar_parse_lexemes.specs.Repairs.{repairs_of};
+ghost use Rattle.lrpar_parse_errors.specs.StoredRepairs.{AreRepairsOf, HasRepairs};
 
 use lrpar_grammar::span::{StIdx, StorageIndex};
 use lrpar_parse_lexemes::lex_api::{LexError, Lexeme, LexerTypes};
@@ -49,7 +49,7 @@ impl<LexemeT: Lexeme<StorageT>, StorageT: StorageIndex> ParseError<LexemeT, Stor
     ) -> Self
         ensures state { result.state ≡ StorageT.index stidx.0 }
         ensures lexeme { result.lexeme ≡ lexeme }
-        ensures repairs { result.repairs ≡ repairs_of StorageT.index repairs.items }
+        ensures repairs { HasRepairs StorageT.index repairs result }
     {
         ParseError {
             stidx,
@@ -74,7 +74,7 @@ impl<LexemeT: Lexeme<StorageT>, StorageT: StorageIndex> ParseError<LexemeT, Stor
 
     /// The repair sequences that were found. There may be none, and others may work, too.
     pub fn repairs(&self) -> &Vec<Vec<ParseRepair<LexemeT, StorageT>>>
-        ensures repairs { repairs_of StorageT.index result.now.items ≡ self.now.repairs }
+        ensures repairs { AreRepairsOf StorageT.index self.now result }
     {
         &self.repairs
     }

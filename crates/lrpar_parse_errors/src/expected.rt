@@ -17,7 +17,7 @@ impl<LexemeT: Lexeme<StorageT>, StorageT: StorageIndex> ParseError<LexemeT, Stor
     /// `S: 'a' A 'd' | 'a' B | 'b' A 'e' | 'b' B; A: 'c'; B: 'c' 'f';` as LALR does: then `e` is listed on `a c c`, though it
     /// can't come there, and `f` isn't listed on `a c e`, though it can.
     pub fn expected<'data>(&self, data: &'data ParserData<StorageT>) -> &'data [TIdx<StorageT>]
-        ensures { AreExpected StorageT.index «data».now self.now result.now }
+        ensures { AreExpected StorageT.index «data».now self.now result }
     {
         let table = data.stable();
         let state = self.stidx();

@@ -6,14 +6,16 @@ ghost use Rattle.lrpar_parse_errors.specs.Strings.{HasText};
 use crate::errors::{LexParseError, PpFault};
 use lrpar_grammar::grammar::YaccGrammar;
 use lrpar_grammar::span::StorageIndex;
-use lrpar_parse_lexemes::lex_api::{InputLexer, LexError, Lexeme, LexerTypes, NonStreamingLexer};
+use lrpar_parse_lexemes::lex_api::{InputLexer, LexError, Lexeme, LexerTypes};
 use std::alloc::{AllocError, Global};
 
-impl<StorageT: StorageIndex, LexerTypesT: LexerTypes<StorageT = StorageT>> LexParseError<
-    StorageT,
-    LexerTypesT,
-> {
-    ghost use Rattle.lrpar_parse_errors.specs.StoredErrors.{FitsInput, GivesByte, GivesText, IsByteText, IsTextOf};
+impl<
+    StorageT: StorageIndex,
+    LexemeT: Lexeme<StorageT>,
+    ErrorT: LexError,
+    LexerTypesT: LexerTypes<StorageT = StorageT, LexemeT = LexemeT, LexErrorT = ErrorT>,
+> LexParseError<StorageT, LexerTypesT> {
+    ghost use Rattle.lrpar_parse_errors.specs.StoredErrors.{GivesByte, GivesText, TellsByte};
 
     /// The text of the error, whatever error and input these are: that of [`LexParseError::pp`], with what the grammar prints
     /// for each token to insert ([`YaccGrammar::epp_of`]).
@@ -31,38 +33,26 @@ impl<StorageT: StorageIndex, LexerTypesT: LexerTypes<StorageT = StorageT>> LexPa
         lexer: &L,
     ) -> Result<String, AllocError>
         // The error fits the input.
-        ensures text { GivesText LexerTypesT.LexErrorT.place LexerTypesT.LexemeT.parts grm.now (L.text lexer.now) self.now result }
+        ensures text { GivesText ErrorT.place LexemeT.parts grm.now (L.text lexer.now) self.now result }
 
         // It doesn't.
-        ensures unfit { GivesByte LexerTypesT.LexErrorT.place LexerTypesT.LexemeT.parts (L.text lexer.now) self.now result }
+        ensures unfit { GivesByte ErrorT.place LexemeT.parts (L.text lexer.now) self.now result }
     {
         if self.fits(lexer.input()) {
-            self.named_text(alloc, grm, lexer)
+            match self.text_by(alloc, lexer, grm) {
+                Ok(text) => Ok(text),
+                Err(PpFault::Memory) => Err(AllocError),
+                // The grammar prints something for each token.
+                Err(PpFault::NoPrintedName(_)) => unreachable!(),
+            }
         } else {
             self.text_at_byte(alloc)
         }
     }
 
-    // The text of an error that fits the input. As the grammar prints something for each token, no name is missing.
-    fn named_text<'input, L: NonStreamingLexer<'input, LexerTypesT>>(
-        &self,
-        alloc: Global,
-        grm: &YaccGrammar<StorageT>,
-        lexer: &L,
-    ) -> Result<String, AllocError>
-        requires { FitsInput LexerTypesT.LexErrorT.place LexerTypesT.LexemeT.parts (L.text lexer.now) self.now }
-        ensures { IfOk result (IsTextOf LexerTypesT.LexErrorT.place LexerTypesT.LexemeT.parts grm.now (L.text lexer.now) self.now) }
-    {
-        match self.text_by(alloc, lexer, grm) {
-            Ok(text) => Ok(text),
-            Err(PpFault::Memory) => Err(AllocError),
-            Err(PpFault::NoPrintedName(_)) => unreachable!(),
-        }
-    }
-
     // The text of an error that doesn't fit the input.
     fn text_at_byte(&self, alloc: Global) -> Result<String, AllocError>
-        ensures { IfOk result (IsByteText LexerTypesT.LexErrorT.place LexerTypesT.LexemeT.parts self.now) }
+        ensures { TellsByte ErrorT.place LexemeT.parts self.now result }
     {
         match self {
             LexParseError::LexError(error) => at_byte(alloc, "Lexing error", error.span().start()),

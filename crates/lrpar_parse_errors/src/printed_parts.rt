@@ -1,6 +1,6 @@
 //! The parts of a printed repair sequence.
-ghost use Rattle.std.specs.Prelude.{◌<◌, ◌≤◌, IfSome, length};
-ghost use Rattle.lrpar_parse_errors.specs.StoredSequences.{FindsPart, JoinsDeletions};
+ghost use Rattle.std.specs.Prelude.{◌≤◌, IfSome, length};
+ghost use Rattle.lrpar_parse_errors.specs.StoredSequences.{FindsPart, JoinsDeletions, LeavesFewer};
 
 use lrpar_grammar_places::span::{Span, StorageIndex, TIdx};
 use lrpar_parse_lexemes::ParseRepair;
@@ -21,7 +21,7 @@ pub enum Part<StorageT> {
 pub fn next_part<LexemeT: Lexeme<StorageT>, StorageT: StorageIndex>(
     repairs: &[ParseRepair<LexemeT, StorageT>],
 ) -> Option<(Part<StorageT>, &[ParseRepair<LexemeT, StorageT>])>
-    ensures shorter { IfSome result (λ next. length next.1.now < length repairs.now) }
+    ensures shorter { IfSome result (LeavesFewer repairs.now) }
     ensures next { FindsPart StorageT.index LexemeT.parts repairs.now result }
 {
     let (first, others) = repairs.split_first()?;
@@ -42,7 +42,7 @@ fn deletion<LexemeT: Lexeme<StorageT>, StorageT: StorageIndex>(
     repairs: &[ParseRepair<LexemeT, StorageT>],
 ) -> (Span, &[ParseRepair<LexemeT, StorageT>])
     ensures shorter { length result.1.now ≤ length repairs.now }
-    ensures whole { JoinsDeletions StorageT.index LexemeT.parts first repairs.now result.0 result.1.now }
+    ensures whole { JoinsDeletions StorageT.index LexemeT.parts first repairs.now result }
 {
     let mut end = first.end();
     let mut rest = repairs;

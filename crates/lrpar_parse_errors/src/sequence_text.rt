@@ -1,19 +1,19 @@
 //! The text of one repair sequence.
-ghost use Rattle.std.specs.Prelude.{OnOk, IfErr};
+ghost use Rattle.std.specs.Prelude.{IfErr};
 ghost use Rattle.lrpar_parse_errors.specs.SequenceText.{on_one_line};
-ghost use Rattle.lrpar_parse_errors.specs.StoredSequences.{AppendsPart, AppendsSequence, FitRepairs, FitsPart, IsFaultIn, IsPartFault};
-ghost use Rattle.lrpar_parse_errors.specs.Strings.{Appends};
+ghost use Rattle.lrpar_parse_errors.specs.StoredSequences.{FitRepairs, FitsPart, IsFaultIn, IsPartFault, PushesPart, PushesSequence};
+ghost use Rattle.lrpar_parse_errors.specs.Strings.{Pushes};
 
 use crate::names::TokenNames;
 use crate::printed_parts::{Part, next_part};
 use lrpar_grammar::span::StorageIndex;
-use lrpar_parse_lexemes::lex_api::{LexerTypes, NonStreamingLexer};
+use lrpar_parse_lexemes::lex_api::{Lexeme, LexerTypes, NonStreamingLexer};
 use lrpar_parse_lexemes::{ParseRepair, PpFault};
 use std::alloc::AllocError;
 
 // Adds the text on one line: each line feed as the two characters `\n`.
 fn push_on_one_line(out: &mut String, text: &str) -> Result<(), AllocError>
-    ensures { OnOk result (Appends out.old out.new (on_one_line text.now)) }
+    ensures { Pushes (on_one_line text.now) out.old out.new result }
 {
     let mut rest = text;
     while let Some((line, others)) = rest.split_once('\n') {
@@ -34,7 +34,7 @@ fn push_part<
 >(out: &mut String, lexer: &L, names: &N, part: Part<StorageT>) -> Result<(), PpFault<StorageT>>
     requires names { N.can_name names.now }
     requires fits { FitsPart StorageT.index (L.text lexer.now) part }
-    ensures text { OnOk result (AppendsPart StorageT.index (N.prints names.now) (L.text lexer.now) part out.old out.new) }
+    ensures text { PushesPart StorageT.index (N.prints names.now) (L.text lexer.now) part out.old out.new result }
     ensures fault { IfErr result (IsPartFault StorageT.index (N.prints names.now) part) }
 {
     match part {
@@ -64,20 +64,21 @@ fn push_part<
 pub(crate) fn push_sequence<
     'input,
     StorageT: StorageIndex,
-    LexerTypesT: LexerTypes<StorageT = StorageT>,
+    LexemeT: Lexeme<StorageT>,
+    LexerTypesT: LexerTypes<StorageT = StorageT, LexemeT = LexemeT>,
     L: NonStreamingLexer<'input, LexerTypesT>,
     N: TokenNames<'input, StorageT>,
 >(
     out: &mut String,
     lexer: &L,
     names: &N,
-    sequence: &Vec<ParseRepair<LexerTypesT::LexemeT, StorageT>>,
+    sequence: &Vec<ParseRepair<LexemeT, StorageT>>,
 ) -> Result<(), PpFault<StorageT>>
     requires names { N.can_name names.now }
-    requires fits { FitRepairs StorageT.index LexerTypesT.LexemeT.parts (L.text lexer.now) sequence.now.items }
-    ensures text { OnOk result (AppendsSequence StorageT.index LexerTypesT.LexemeT.parts
-        (N.prints names.now) (L.text lexer.now) sequence.now out.old out.new) }
-    ensures fault { IfErr result (IsFaultIn StorageT.index LexerTypesT.LexemeT.parts (N.prints names.now) sequence.now) }
+    requires fits { FitRepairs StorageT.index LexemeT.parts (L.text lexer.now) sequence.now.items }
+    ensures text { PushesSequence StorageT.index LexemeT.parts
+        (N.prints names.now) (L.text lexer.now) sequence.now out.old out.new result }
+    ensures fault { IfErr result (IsFaultIn StorageT.index LexemeT.parts (N.prints names.now) sequence.now) }
 {
     let mut separator = "";
     let mut rest = sequence.as_slice();

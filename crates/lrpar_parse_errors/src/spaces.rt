@@ -1,6 +1,6 @@
 //! Spaces: they indent the lines of trees and align the numbers of repair sequences.
-ghost use Rattle.std.specs.Prelude.{◌≡◌, OnOk, replicate};
-ghost use Rattle.lrpar_parse_errors.specs.Strings.{Appends};
+ghost use Rattle.std.specs.Prelude.{◌≡◌, replicate};
+ghost use Rattle.lrpar_parse_errors.specs.Strings.{Pushes};
 
 use std::alloc::AllocError;
 
@@ -9,7 +9,7 @@ const BLOCK: usize = 128;
 
 /// Adds `count` spaces. `Err`: out of memory, and some of the spaces may have been added.
 pub fn push_spaces(out: &mut String, count: usize) -> Result<(), AllocError>
-    ensures { OnOk result (Appends out.old out.new (replicate count 32)) }
+    ensures { Pushes (replicate count 32) out.old out.new result }
 {
     let block = spaces();
     let mut left = count;

@@ -9,7 +9,7 @@ pub loop-part-init : goal.loop-part-init
 loop-part-init g c =
     let index = g.StorageT.StorageIndex.index in
     let input = g.L.NonStreamingLexer.text c.args.lexer.now in
-    let span = λ (x : g.row.LexerTypesT-LexemeT.Denot). (g.LexerTypesT.LexemeT.Lexeme.parts x).span in
+    let span = λ (x : g.row.LexemeT.Denot). (g.LexemeT.Lexeme.parts x).span in
     record {
       utf8 = search rules;
       fits = rw c.as_slice-rest.ensures.value (parts_fit span input (map (repair_of index) c.args.sequence.now.items) c.requires.fits);
@@ -22,7 +22,7 @@ pub loop-part-preserved : goal.loop-part-preserved
 loop-part-preserved g c =
     let index = g.StorageT.StorageIndex.index in
     let input = g.L.NonStreamingLexer.text c.args.lexer.now in
-    let span = λ (x : g.row.LexerTypesT-LexemeT.Denot). (g.LexerTypesT.LexemeT.Lexeme.parts x).span in
+    let span = λ (x : g.row.LexemeT.Denot). (g.LexemeT.Lexeme.parts x).span in
     let fits = rw c.in-Some.ensures.next at c.loop-part.invariant.fits in
     let so_far = rw c.in-Some.ensures.next at c.loop-part.invariant.printed in
     let text = c.in_ok-push_part.ensures.text in
@@ -38,7 +38,7 @@ pub returns-in_err-push_part-clause-fault : goal.returns-in_err-push_part-clause
 returns-in_err-push_part-clause-fault g c =
     let index = g.StorageT.StorageIndex.index in
     let input = g.L.NonStreamingLexer.text c.args.lexer.now in
-    let span = λ (x : g.row.LexerTypesT-LexemeT.Denot). (g.LexerTypesT.LexemeT.Lexeme.parts x).span in
+    let span = λ (x : g.row.LexemeT.Denot). (g.LexemeT.Lexeme.parts x).span in
     let so_far = rw c.in-Some.ensures.next at c.loop-part.invariant.printed in
     err_same c.from_residual-in_err-push_part.result _ c.in_err-push_part.field-0.0 c.from_residual-in_err-push_part.ensures.1
     (fault_next index (g.N.TokenNames.prints c.args.names.now) input (sequence_parts index span c.args.sequence.now.items)
@@ -49,6 +49,6 @@ pub returns-clause-text : goal.returns-clause-text
 returns-clause-text g c =
     let index = g.StorageT.StorageIndex.index in
     let input = g.L.NonStreamingLexer.text c.args.lexer.now in
-    let span = λ (x : g.row.LexerTypesT-LexemeT.Denot). (g.LexerTypesT.LexemeT.Lexeme.parts x).span in
+    let span = λ (x : g.row.LexemeT.Denot). (g.LexemeT.Lexeme.parts x).span in
     printed_all (g.N.TokenNames.prints c.args.names.now) input (sequence_parts index span c.args.sequence.now.items)
     (string_bytes c.args.out.now) (string_bytes c.loop-part.out) c.loop-part.separator.now (rw c.in_default.ensures.next at c.loop-part.invariant.printed)

@@ -13,7 +13,7 @@ abbrev pub invariant-loop-part : goal.invariant-loop-part
 invariant-loop-part g l =
     let index = g.StorageT.StorageIndex.index in
     let input = g.L.NonStreamingLexer.text l.lexer in
-    let span = λ (x : g.row.LexerTypesT-LexemeT.Denot). (g.LexerTypesT.LexemeT.Lexeme.parts x).span in
+    let span = λ (x : g.row.LexemeT.Denot). (g.LexemeT.Lexeme.parts x).span in
     record {
       utf8 : shadow (Utf8 l.separator);
       fits : AllByRecursion (PartFits input) (sequence_parts index span l.rest);

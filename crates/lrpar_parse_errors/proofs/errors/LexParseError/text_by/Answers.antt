@@ -15,8 +15,8 @@ returns-in_err-push_place-in-LexError-clause-fault g c = err_same c.from_residua
 
 pub returns-in_ok-push_place-in-LexError-clause-text : goal.returns-in_ok-push_place-in-LexError-clause-text
 returns-in_ok-push_place-in-LexError-clause-text g c =
-    lexing_text (λ x. (g.LexerTypesT.LexemeT.Lexeme.parts x).span) (g.N.TokenNames.prints c.args.names.now)
-    g.LexerTypesT.LexErrorT.LexError.place (g.L.NonStreamingLexer.text c.args.lexer.now) c.args.self.now c.in-LexError.error c.span.result
+    lexing_text (λ x. (g.LexemeT.Lexeme.parts x).span) (g.N.TokenNames.prints c.args.names.now)
+    g.ErrorT.LexError.place (g.L.NonStreamingLexer.text c.args.lexer.now) c.args.self.now c.in-LexError.error c.span.result
     (string_bytes c.new-out.result) (string_bytes c.push_place.new.out) c.in-LexError.is c.span.ensures.place c.new-out.ensures.bytes
     c.in_ok-push_place-in-LexError.ensures
 
@@ -36,15 +36,15 @@ pub returns-in_err-push_repairs-in-ParseError-clause-fault : goal.returns-in_err
 returns-in_err-push_repairs-in-ParseError-clause-fault g c =
     err_same c.from_residual-in_err-push_repairs-in-ParseError.result _ c.in_err-push_repairs-in-ParseError.field-0.0
     c.from_residual-in_err-push_repairs-in-ParseError.ensures.1
-    (parsing_fault (λ x. (g.LexerTypesT.LexemeT.Lexeme.parts x).span) (g.N.TokenNames.prints c.args.names.now)
+    (parsing_fault (λ x. (g.LexemeT.Lexeme.parts x).span) (g.N.TokenNames.prints c.args.names.now)
     g.StorageT.StorageIndex.index c.args.self.now c.in-ParseError.error (repairs_of g.StorageT.StorageIndex.index c.deref.result.now)
     c.in_err-push_repairs-in-ParseError.field-0.0 c.in-ParseError.is
     (ap (repairs_of g.StorageT.StorageIndex.index) c.deref.ensures.value ∙ c.repairs.ensures.repairs) c.in_err-push_repairs-in-ParseError.ensures.fault)
 
 pub returns-in_ok-push_repairs-in-ParseError-clause-text : goal.returns-in_ok-push_repairs-in-ParseError-clause-text
 returns-in_ok-push_repairs-in-ParseError-clause-text g c =
-    parsing_text (λ x. (g.LexerTypesT.LexemeT.Lexeme.parts x).span) (g.N.TokenNames.prints c.args.names.now)
-    g.LexerTypesT.LexErrorT.LexError.place (g.L.NonStreamingLexer.text c.args.lexer.now) c.args.self.now c.in-ParseError.error c.lexeme.result.now
+    parsing_text (λ x. (g.LexemeT.Lexeme.parts x).span) (g.N.TokenNames.prints c.args.names.now)
+    g.ErrorT.LexError.place (g.L.NonStreamingLexer.text c.args.lexer.now) c.args.self.now c.in-ParseError.error c.lexeme.result.now
     (repairs_of g.StorageT.StorageIndex.index c.deref.result.now) c.span-in-ParseError.result (string_bytes c.new-out.result)
     (string_bytes c.push_place-in-ParseError.new.out) (string_bytes c.push_repairs.new.out) c.in-ParseError.is c.span-in-ParseError.ensures.span
     c.lexeme.ensures.lexeme (ap (repairs_of g.StorageT.StorageIndex.index) c.deref.ensures.value ∙ c.repairs.ensures.repairs) c.new-out.ensures.bytes
