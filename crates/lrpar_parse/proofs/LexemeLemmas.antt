@@ -1,8 +1,9 @@
 -- There is one first lexeme that has a fault.
-use Rattle.std.proofs.Common.{◌≡◌, ◌<◌, ◌≤◌, ◌+◌, ◌⊎◌, ℕ, List, length, Some, None, inl, inr, sym, subst, ap, ◌∙◌, refl, arith}
+use Rattle.std.proofs.Common.{◌≡◌, ◌<◌, ◌≤◌, ◌+◌, ◌⊎◌, ℕ, List, get_or, length, map, Some, None, inl, inr, sym, subst, ap, ◌∙◌, refl, arith}
 use Rattle.std.specs.List.{slice_get}
 use Rattle.std.proofs.lemmas.Bool.{cases_order, cases_lt}
-use Rattle.std.proofs.lemmas.Option.{slice_get_within, same_Some}
+use Rattle.std.specs.Option.{option_map}
+use Rattle.std.proofs.lemmas.Option.{slice_get-map, slice_get_read, slice_get_within, same_Some}
 use Rattle.lrpar_grammar.specs.Grammar.{Grammar, end_token}
 use Rattle.lrpar_grammar.specs.Sentence.{LexemeFacts, HasBadToken, HasEarlyStart, HasGoodTokens, HasOrderedStarts, IsValidList, IsFirstBadToken, IsFirstEarlyStart}
 use Rattle.lrpar_parse.specs.LexemeFault.{IsLexemeFault}
@@ -127,3 +128,31 @@ valid_has_no_fault g lexemes valid = record {
 -- lexeme i is before the next one
 pub next_previous : (lexemes : List LexemeFacts) (i start : ℕ) (x : LexemeFacts) → slice_get lexemes i ≡ Some x → start ≡ x.span.start → IsPreviousStart lexemes (i + 1) start
 next_previous lexemes i start x at is = inr (i, x, refl, at, sym is)
+
+-- Lexeme i is looked at. Those before it have no fault, and the last of them starts at `previous`.
+module _ (g : Grammar) {X : Type 0} (facts : X → LexemeFacts) (lexemes : List X) (i previous : ℕ) (x : X) (below : i < length lexemes) (read : x ≡ get_or lexemes i x)
+    (tokens : HasGoodTokens g (map facts lexemes) i) (starts : HasOrderedStarts (map facts lexemes) i) (before : IsPreviousStart (map facts lexemes) i previous) where
+  fact_at : slice_get (map facts lexemes) i ≡ Some (facts x)
+  fact_at = slice_get-map facts lexemes i ∙ ap (option_map facts) (slice_get_read lexemes (length lexemes) i x refl below read)
+
+  -- its token is bad
+  pub bad_here : end_token g ≤ (facts x).token → IsLexemeFault g (map facts lexemes) (Some (BadToken i))
+  bad_here bad = bad_is_fault g (map facts lexemes) i (record { bad = (facts x, fact_at, bad); tokens = tokens; starts = starts })
+
+  -- its token is good, but it starts too early
+  pub starts_early : (facts x).token < end_token g → (facts x).span.start < previous → IsLexemeFault g (map facts lexemes) (Some (StartsDecrease i))
+  starts_early good early =
+      early_is_fault g (map facts lexemes) i (record {
+        early = early_here (map facts lexemes) i previous (facts x) before fact_at early;
+        tokens = good_more g (map facts lexemes) i (facts x) tokens fact_at good;
+        starts = starts;
+      })
+
+  -- it has no fault
+  pub no_fault_here : (start : ℕ) → start ≡ (facts x).span.start → (facts x).token < end_token g → previous ≤ (facts x).span.start
+      → HasGoodTokens g (map facts lexemes) (i + 1) × HasOrderedStarts (map facts lexemes) (i + 1) × IsPreviousStart (map facts lexemes) (i + 1) start
+  no_fault_here start is good later = (
+    good_more g (map facts lexemes) i (facts x) tokens fact_at good,
+    ordered_more (map facts lexemes) i previous (facts x) starts before fact_at later,
+    next_previous (map facts lexemes) i start (facts x) fact_at is,
+  )

@@ -1,11 +1,11 @@
 -- What two decisions say of a third one, by levels. If x against y shifts, and x against z reduces, y against z reduces: y's level is at
 -- least x's, and z's at most; and if all three are the same, their tokens would associate to the right and to the left. If x against z
 -- shifts, and y against z reduces, x against y shifts.
-use Rattle.std.proofs.Common.{◌≡◌, ◌≢◌, ◌<◌, ◌⊎◌, ◌∙◌, inl, inr, refl, sym, ap, arith}
+use Rattle.std.proofs.Common.{◌≡◌, ◌<◌, ◌≤◌, ◌∙◌, inl, inr, refl, sym, ap, arith}
 use Rattle.std.specs.Cmp.{nat_cmp_is}
 use Rattle.std.specs.declared.cmp.Ordering.{Ordering}
 use Rattle.std.specs.declared.cmp.Ordering.TheVariants.{Equal, Greater, Less}
-use Rattle.std.proofs.lemmas.Bool.{cases_eq, cases_lt}
+use Rattle.std.proofs.lemmas.Bool.{cases_lt}
 use Rattle.lrpar_grammar_yacc.specs.declared.parts.AssocKind.{AssocKind}
 use Rattle.lrpar_grammar_yacc.specs.declared.parts.AssocKind.TheVariants.{Left, Nonassoc, Right}
 use Rattle.lrpar_table_precedence.specs.Precedence.{against, by_kind, by_levels}
@@ -31,60 +31,47 @@ left_of Left is = refl
 left_of Right is = absurd (cc)
 left_of Nonassoc is = absurd (cc)
 
-shift_cases : (x z : Precedence) → against x z ≡ Shift → (x.level < z.level) ⊎ ((x.level ≡ z.level) × (z.kind ≡ Right))
-shift_cases x z is =
-    elim (cases_lt x.level z.level) [
-      | inl low ↦ inl low
-      | inr past ↦
-          elim (cases_eq x.level z.level) [
-            | inl same ↦ inr (same, right_of z.kind (sym (same_is x z same) ∙ is))
-            | inr other ↦
-                let differs : x.level ≢ z.level = other in
-                let wrong : Reduce ≡ Shift = sym (more_is x z (omega (arith, past, differs))) ∙ is in absurd (cc)
-          ]
+-- what is shifted has no lower level; and at the same level its tokens associate to the right
+shift_low : (x z : Precedence) → against x z ≡ Shift → x.level ≤ z.level
+shift_low x z is =
+    elim (cases_lt z.level x.level) [
+      | inl high ↦ let wrong : Reduce ≡ Shift = sym (more_is x z high) ∙ is in absurd (cc)
+      | inr within ↦ within
     ]
 
-reduce_cases : (x z : Precedence) → against x z ≡ Reduce → (z.level < x.level) ⊎ ((x.level ≡ z.level) × (z.kind ≡ Left))
-reduce_cases x z is =
-    elim (cases_lt z.level x.level) [
-      | inl low ↦ inl low
-      | inr past ↦
-          elim (cases_eq x.level z.level) [
-            | inl same ↦ inr (same, left_of z.kind (sym (same_is x z same) ∙ is))
-            | inr other ↦
-                let differs : x.level ≢ z.level = other in
-                let wrong : Shift ≡ Reduce = sym (less_is x z (omega (arith, past, differs))) ∙ is in absurd (cc)
-          ]
+shift_right : (x z : Precedence) → against x z ≡ Shift → x.level ≡ z.level → z.kind ≡ Right
+shift_right x z is same = right_of z.kind (sym (same_is x z same) ∙ is)
+
+-- and the other way round for what is reduced
+reduce_high : (x z : Precedence) → against x z ≡ Reduce → z.level ≤ x.level
+reduce_high x z is =
+    elim (cases_lt x.level z.level) [
+      | inl low ↦ let wrong : Shift ≡ Reduce = sym (less_is x z low) ∙ is in absurd (cc)
+      | inr within ↦ within
     ]
+
+reduce_left : (x z : Precedence) → against x z ≡ Reduce → x.level ≡ z.level → z.kind ≡ Left
+reduce_left x z is same = left_of z.kind (sym (same_is x z same) ∙ is)
 
 pub reduces_too : (x y z : Precedence) → (y.level ≡ z.level → y.kind ≡ z.kind) → against x y ≡ Shift → against x z ≡ Reduce → against y z ≡ Reduce
 reduces_too x y z alike shifts reduces =
-    elim (shift_cases x y shifts) [
-      | inl low ↦
-          elim (reduce_cases x z reduces) [
-            | inl high ↦ more_is y z (omega (arith, low, high))
-            | inr same ↦ more_is y z (omega (arith, low, same.0))
-          ]
-      | inr equal ↦
-          elim (reduce_cases x z reduces) [
-            | inl high ↦ more_is y z (omega (arith, equal.0, high))
-            | inr same ↦
-                let level : y.level ≡ z.level = sym equal.0 ∙ same.0 in
-                let wrong : Right ≡ Left = sym equal.1 ∙ alike level ∙ same.1 in absurd (cc)
-          ]
+    let low = shift_low x y shifts in
+    let high = reduce_high x z reduces in
+    elim (cases_lt z.level y.level) [
+      | inl below ↦ more_is y z below
+      | inr past ↦
+          let right = shift_right x y shifts (omega (arith, low, high, past)) in
+          let left = reduce_left x z reduces (omega (arith, low, high, past)) in
+          let wrong : Right ≡ Left = sym right ∙ alike (omega (arith, low, high, past)) ∙ left in absurd (cc)
     ]
 
 pub shifts_too : (x y z : Precedence) → against x z ≡ Shift → against y z ≡ Reduce → against x y ≡ Shift
 shifts_too x y z shifts reduces =
-    elim (shift_cases x z shifts) [
-      | inl low ↦
-          elim (reduce_cases y z reduces) [
-            | inl high ↦ less_is x y (omega (arith, low, high))
-            | inr same ↦ less_is x y (omega (arith, low, same.0))
-          ]
-      | inr equal ↦
-          elim (reduce_cases y z reduces) [
-            | inl high ↦ less_is x y (omega (arith, equal.0, high))
-            | inr same ↦ let wrong : Right ≡ Left = sym equal.1 ∙ same.1 in absurd (cc)
-          ]
+    let low = shift_low x z shifts in
+    let high = reduce_high y z reduces in
+    elim (cases_lt x.level y.level) [
+      | inl below ↦ less_is x y below
+      | inr past ↦
+          let right = shift_right x z shifts (omega (arith, low, high, past)) in
+          let wrong : Right ≡ Left = sym right ∙ reduce_left y z reduces (omega (arith, low, high, past)) in absurd (cc)
     ]

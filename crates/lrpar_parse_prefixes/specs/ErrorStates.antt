@@ -21,6 +21,7 @@ use Rattle.lrpar_parse_repair.specs.Sequences.{PlainDelete, PlainInsert, PlainSh
 use Rattle.lrpar_parse_run.specs.RepairRun.{RepairRun, RepairStop, fed_between}
 use Rattle.lrpar_table_viable.specs.Viable.{IsViable}
 use Rattle.lrpar_parse_prefixes.specs.Viable.{BeginSentence, CanFollow}
+use Rattle.lrpar_parse_prefixes.specs.ViableLaws.{OverBuiltTables, OverCompleteBuiltTables}
 
 -- the top of the stack has an action only at tokens that can come after these
 abbrev pub ActsOnlyAsFollows : Grammar → Table → List ℕ → List ℕ → Type 0
@@ -50,15 +51,11 @@ pub record ActionsFollowSentences {X : Type 0} (token : X → ℕ) (g : Grammar)
 
 -- over a table that was built of a grammar in which each reachable rule is productive; the table may have conflicts
 abbrev pub BuiltActionsKeepToSentences : Type 0 → Type 0
-BuiltActionsKeepToSentences X =
-    (token : X → ℕ) (g : Grammar) (graph : Graph) (table : Table) → IsWellFormed g → IsClosed table → IsBuilt g graph table
-    → EachReachableHasTree g → ActionsKeepToSentences token g table
+BuiltActionsKeepToSentences X = OverBuiltTables X (λ token g table. ActionsKeepToSentences token g table)
 
 -- and if the table is complete, these are exactly the tokens that can come
 abbrev pub CompleteBuiltActionsFollowSentences : Type 0 → Type 0
-CompleteBuiltActionsFollowSentences X =
-    (token : X → ℕ) (g : Grammar) (graph : Graph) (table : Table) → IsWellFormed g → IsClosed table → IsBuilt g graph table
-    → EachReachableHasTree g → IsComplete g graph table → ActionsFollowSentences token g table
+CompleteBuiltActionsFollowSentences X = OverCompleteBuiltTables X (λ token g table. ActionsFollowSentences token g table)
 
 -- the place to which steps lead from place i: past each lexeme that they delete or shift
 abbrev pub place_after : ℕ → List PlainStep → ℕ

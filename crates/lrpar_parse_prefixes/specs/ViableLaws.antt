@@ -42,18 +42,27 @@ pub record FollowsSentences {X : Type 0} (token : X → ℕ) (g : Grammar) (tabl
   pub stop : (lexemes : List X) (prods : List ℕ) (stop : Stop) → RunsTo token g table lexemes prods (Stopped stop)
       → GoWrongAt g (map token lexemes) stop.place
 
+-- of each way to give lexemes of type X tokens, this holds over each table that was built of a grammar in which each reachable rule is
+-- productive; the table may have conflicts
+abbrev pub OverBuiltTables : (X : Type 0) → ((X → ℕ) → Grammar → Table → Type 0) → Type 0
+OverBuiltTables X Holds =
+    (token : X → ℕ) (g : Grammar) (graph : Graph) (table : Table) → IsWellFormed g → IsClosed table → IsBuilt g graph table
+    → EachReachableHasTree g → Holds token g table
+
+-- the same over each such table that is complete
+abbrev pub OverCompleteBuiltTables : (X : Type 0) → ((X → ℕ) → Grammar → Table → Type 0) → Type 0
+OverCompleteBuiltTables X Holds =
+    (token : X → ℕ) (g : Grammar) (graph : Graph) (table : Table) → IsWellFormed g → IsClosed table → IsBuilt g graph table
+    → EachReachableHasTree g → IsComplete g graph table → Holds token g table
+
 -- over lexemes of type X, runs of a table that was built of a grammar have the viable prefix property, if each reachable rule is
 -- productive; the table may have conflicts
 abbrev pub BuiltTablesKeepToSentences : Type 0 → Type 0
-BuiltTablesKeepToSentences X =
-    (token : X → ℕ) (g : Grammar) (graph : Graph) (table : Table) → IsWellFormed g → IsClosed table → IsBuilt g graph table
-    → EachReachableHasTree g → KeepsToSentences token g table
+BuiltTablesKeepToSentences X = OverBuiltTables X (λ token g table. KeepsToSentences token g table)
 
 -- and if the table is complete, they have it in full
 abbrev pub CompleteBuiltTablesFollowSentences : Type 0 → Type 0
-CompleteBuiltTablesFollowSentences X =
-    (token : X → ℕ) (g : Grammar) (graph : Graph) (table : Table) → IsWellFormed g → IsClosed table → IsBuilt g graph table
-    → EachReachableHasTree g → IsComplete g graph table → FollowsSentences token g table
+CompleteBuiltTablesFollowSentences X = OverCompleteBuiltTables X (λ token g table. FollowsSentences token g table)
 
 -- the same over any table that is safe and viable: its lookaheads don't count, so its item sets may be merged
 abbrev pub ViableTablesKeepToSentences : Type 0 → Type 0

@@ -1,9 +1,9 @@
 -- What a stack of any kind says about a token that is fed, and about its end; and that moves come one after the other.
-use Rattle.std.proofs.Common.{◌≡◌, ◌≤◌, ◌+◌, ◌*◌, ◌∙◌, ◌↔◌, ℕ, suc, List, [], ◌∷◌, ◌++◌, Bool, true, false, Result, Ok, Err, IsTrue, Vec, ap, arith, length, length-append, refl, subst, sym}
+use Rattle.std.proofs.Common.{◌≡◌, ◌≤◌, ◌+◌, ◌*◌, ◌∙◌, ◌↔◌, ℕ, suc, List, [], ◌∷◌, ◌++◌, Bool, true, false, Result, Ok, Err, IsTrue, Vec, ap, arith, length, length-append, refl, subst, sym, take}
 use Rattle.std.proofs.Math.Nat.{mul-le-mul_left, mul-le-mul_right}
 use Rattle.std.specs.Prelude.{IfOk, OnOk}
 use Rattle.std.specs.List.{sum_by}
-use Rattle.std.proofs.lemmas.List.{length-map, map-append}
+use Rattle.std.proofs.lemmas.List.{append-nil, length-map, map-append, take_all}
 use Rattle.std.proofs.lemmas.List.Sums.{sum_by-append}
 use Rattle.lrpar_grammar.specs.Grammar.{Grammar, end_token}
 use Rattle.lrpar_table_rows.specs.PlainRows.{plain_action}
@@ -156,17 +156,22 @@ module _ (g : Grammar) (table : Table) where
     pub untested : (most : ℕ) (o : Overlaid) → AreTestsWithin g table most o o
     untested most o = record { count = 0; tests = no_test o; cost = omega arith }
 
+    -- an overlay that is set back has the states of its base
+    whole : (o : Overlaid) → overlaid (at_base o) ≡ o.base
+    whole o = append-nil (take (length o.base) o.base) ∙ take_all (length o.base) o.base (omega arith)
+
     -- one more was tested, from the borrowed states
-    pub tested_more : {S A : Type 0} (index : S → ℕ) (k : ℕ) (start old set new : Overlaid) (xs : List (Vec (RepairStep S) A)) (x : Vec (RepairStep S) A)
-        (steps : List (RepairStep S)) → set ≡ at_base old → overlaid set ≡ start.base → steps ≡ x.items
-        → IsMovedWithin overlaid (λ old p r n new. OverlayReduces old n new) OverlayShifts g table cap (length steps + k) set new
+    pub tested_more : {S A : Type 0} (index : S → ℕ) (k : ℕ) (start old new : Overlaid) (xs : List (Vec (RepairStep S) A)) (x : Vec (RepairStep S) A)
+        (steps : List (RepairStep S)) → steps ≡ x.items
+        → IsMovedWithin overlaid (λ old p r n new. OverlayReduces old n new) OverlayShifts g table cap (length steps + k) (at_base old) new
+        → old.base ≡ start.base
         → AreTestsWithin g table (most_listed cap (length start.base) k (plain_sequences index xs)) start old
         → AreTestsWithin g table (most_listed cap (length start.base) k (plain_sequences index (xs ++ x ∷ []))) start new
-    tested_more {S} {A} index k start old set new xs x steps back from items here before =
+    tested_more {S} {A} index k start old new xs x steps items here base before =
         let height = length start.base in
         let most = λ (s : List PlainStep). most_tested cap height (length s) k in
         let plain_of = λ (v : Vec (RepairStep S) A). plain_steps index v.items in
-        let same_height : length (overlaid set) ≡ height = ap (λ (l : List ℕ). length l) from in
+        let same_height : length (overlaid (at_base old)) ≡ height = ap (λ (l : List ℕ). length l) (whole old ∙ base) in
         let this : here.count ≤ most_tested cap height (length steps) k =
         costs_test cap height (length steps) k here.count (length (overlaid new))
         (subst (λ (h : ℕ). here.count + cap * length (overlaid new) ≤ cap * (h + (length steps + k) * (cap + 3))) same_height here.cost) in
@@ -177,7 +182,6 @@ module _ (g : Grammar) (table : Table) where
         let one : here.count ≤ most (plain_of x) = subst (λ (n : ℕ). here.count ≤ most_tested cap height n k) long this in
         record {
           count = before.count + here.count;
-          tests = one_more_test before.count here.count start old new before.tests
-              (subst (λ (o : Overlaid). IsMovedBy overlaid (λ old p r n new. OverlayReduces old n new) OverlayShifts g table here.count o new) back here.moved);
+          tests = one_more_test before.count here.count start old new before.tests here.moved;
           cost = omega (arith, all, one, before.cost);
         }

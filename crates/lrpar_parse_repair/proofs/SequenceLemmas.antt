@@ -1,5 +1,6 @@
 -- Repair sequences: the results of steps, and what they say about whether a sequence works.
 use Rattle.std.proofs.Common.{◌≡◌, ◌≢◌, ◌<◌, ◌≤◌, ◌+◌, ◌-◌, ◌∙◌, ◌↔◌, inl, inr, ℕ, suc, List, [], ◌∷◌, ◌++◌, Bool, true, false, Option, Some, None, slice_get, drop, take, get_or, Vec, vec_len, length, IsTrue, refl, sym, subst, ap, arith}
+use Rattle.std.specs.Bool.{then_some}
 use Rattle.std.specs.Prelude.{map}
 use Rattle.std.specs.List.{AllZip, each_same}
 use Rattle.std.proofs.lemmas.List.{drop_more, map-append, take_more}
@@ -197,30 +198,23 @@ module _ {X : Type 0} (token : X → ℕ) (g : Grammar) (table : Table) (lexemes
       let all = subst (λ (l : List PlainStep). Works token g table lexemes k st i l) (steps_left index steps n step below item) (here.1 p) in
       works_not k st i (plain_step index step) (plain_steps index (drop (n + 1) steps)) fails all
 
-  -- a lexeme whose token was fed was taken as it is
-  pub shift_taken : (st : List ℕ) (i : ℕ) (x : X) (t : ℕ) (after : List ℕ) (fed : Bool) → slice_get lexemes i ≡ Some x → t ≡ token x
-      → IsTokenFed g table t st after fed → fed ≡ true → IsStepTaken token g table lexemes st i PlainShift after (Some (i + 1))
-  shift_taken st i x t after fed at is h e =
-      let by : IsTokenFed g table t st after true = subst (λ (b : Bool). IsTokenFed g table t st after b) e h in
+  -- a lexeme was taken as it is, if its token was fed; otherwise it can't be
+  pub shift_done : (st : List ℕ) (i : ℕ) (x : X) (t : ℕ) (after : List ℕ) (fed : Bool) → slice_get lexemes i ≡ Some x → t ≡ token x
+      → IsTokenFed g table t st after fed → IsStepTaken token g table lexemes st i PlainShift after (then_some fed (i + 1))
+  shift_done st i x t after true at is by =
       let same : t ≡ token_at token g lexemes i = is ∙ sym (token_at_lexeme token g lexemes i x at) in
       (by.0, (slice_get_within lexemes i x at, subst (λ (t' : ℕ). Feeds g table t' st by.0 after) same by.1, refl))
-
-  -- and otherwise it can't be
-  pub shift_fails : (st : List ℕ) (i : ℕ) (x : X) (t : ℕ) (after : List ℕ) (fed : Bool) → slice_get lexemes i ≡ Some x → t ≡ token x
-      → IsTokenFed g table t st after fed → fed ≡ false → IsStepTaken token g table lexemes st i PlainShift after None
-  shift_fails st i x t after fed at is h e =
-      let none : IsTokenFed g table t st after false = subst (λ (b : Bool). IsTokenFed g table t st after b) e h in
+  shift_done st i x t after false at is none =
       let same : token_at token g lexemes i ≡ t = token_at_lexeme token g lexemes i x at ∙ sym is in
       λ prods next j step. none prods next (subst (λ (t' : ℕ). Feeds g table t' st prods next) same step.1)
 
-  -- a token that can't be fed can't be inserted
-  pub insert_fails : (st : List ℕ) (i t : ℕ) (after : List ℕ) (fed : Bool) → IsTokenFed g table t st after fed → fed ≡ false
-      → IsStepTaken token g table lexemes st i (PlainInsert t) after None
-  insert_fails st i t after fed h e =
-      let none : IsTokenFed g table t st after false = subst (λ (b : Bool). IsTokenFed g table t st after b) e h in
-      λ prods next j step. none prods next step.1
+  -- a token of the grammar other than the end token was inserted, if it was fed; otherwise it can't be
+  pub insert_done : (st : List ℕ) (i t : ℕ) (after : List ℕ) (fed : Bool) → t < end_token g → IsTokenFed g table t st after fed
+      → IsStepTaken token g table lexemes st i (PlainInsert t) after (then_some fed i)
+  insert_done st i t after true below by = (by.0, (below, by.1, refl))
+  insert_done st i t after false below none = λ prods next j step. none prods next step.1
 
-  -- nor can the end token, or one that the grammar doesn't have
+  -- the end token, or one that the grammar doesn't have, can't be inserted
   pub insert_refused : (st : List ℕ) (i t : ℕ) (after : List ℕ) → end_token g ≤ t → IsStepTaken token g table lexemes st i (PlainInsert t) after None
   insert_refused st i t after past = λ prods next j step. omega (arith, past, step.0)
 

@@ -83,16 +83,16 @@ module _ {X : Type 0} (token : X → ℕ) (g : Grammar) (table : Table) (lexemes
   none_of_all n past none = none_has plain_of WorksHere answer n past none
 
 -- the sequence at place n was tested after those before it, from the borrowed stack
-pub tested_one_more : (g : Grammar) (table : Table) {S A : Type 0} (index : S → ℕ) (cap k : ℕ) (start old set new : Overlaid) (answer : List (Vec (RepairStep S) A)) (n : ℕ)
-    (x : Vec (RepairStep S) A) (steps : List (RepairStep S)) → n < length answer → x ≡ get_or answer n x
-    → set ≡ at_base old → overlaid set ≡ start.base → steps ≡ x.items
-    → IsMovedWithin overlaid (λ old p r n new. OverlayReduces old n new) OverlayShifts g table cap (length steps + k) set new
+pub tested_one_more : (g : Grammar) (table : Table) {S A : Type 0} (index : S → ℕ) (cap k : ℕ) (start old new : Overlaid) (answer : List (Vec (RepairStep S) A)) (n : ℕ)
+    (x : Vec (RepairStep S) A) (steps : List (RepairStep S)) → n < length answer → x ≡ get_or answer n x → steps ≡ x.items
+    → IsMovedWithin overlaid (λ old p r n new. OverlayReduces old n new) OverlayShifts g table cap (length steps + k) (at_base old) new
+    → old.base ≡ start.base
     → AreTestsWithin g table (most_listed cap (length start.base) k (plain_sequences index (take n answer))) start old
     → AreTestsWithin g table (most_listed cap (length start.base) k (plain_sequences index (take (n + 1) answer))) start new
-tested_one_more g table {S} {A} index cap k start old set new answer n x steps below is back from items here before =
+tested_one_more g table {S} {A} index cap k start old new answer n x steps below is items here base before =
     let next : take (n + 1) answer ≡ take n answer ++ x ∷ [] = take_more answer n x below ∙ ap (λ y. take n answer ++ y ∷ []) (sym is) in
     subst (λ (ys : List (Vec (RepairStep S) A)). AreTestsWithin g table (most_listed cap (length start.base) k (plain_sequences index ys)) start new) (sym next)
-    (tested_more g table cap index k start old set new (take n answer) x steps back from items here before)
+    (tested_more g table cap index k start old new (take n answer) x steps items here base before)
 
 -- the first n sequences cost no more than all
 costs_of_some : {S A : Type 0} (index : S → ℕ) (cap height k : ℕ) (answer : List (Vec (RepairStep S) A)) (n : ℕ)

@@ -9,6 +9,10 @@ pub record TwoRecoverers (A B : Type 0) : Type 0 where
   pub first : A
   pub second : B
 
+-- these two recoverers, in this order
+abbrev pub in_turn : {A B : Type 0} → A → B → TwoRecoverers A B
+in_turn first second = record { first = first; second = second }
+
 -- `token` gives the number of a lexeme's token, and `allows` says which answers a recoverer may give
 module _ {X : Type 0} (token : X → ℕ) where
   -- some sequence of the answer works at the error point

@@ -43,9 +43,9 @@ pub record IsStop {X : Type 0} (token : X → ℕ) (at : Asked X) : Type 0 where
   pub stack : IsStack at.checked.table at.stack
   pub fails : top_action at.checked.table (token_at token at.checked.grammar at.lexemes at.place) at.stack ≡ Fails
 
--- the same for lexemes of the program, of which `parts` gives the parts
-abbrev pub IsStopBy : {S X : Type 0} → (S → ℕ) → (X → LexemeParts S) → Asked X → Type 0
-IsStopBy index parts at = IsStop (token_by index parts) at
+-- the parse stops there: the same for lexemes of the program, of which `parts` gives the parts
+abbrev pub Stops : {S X : Type 0} → (S → ℕ) → (X → LexemeParts S) → Asked X → Type 0
+Stops index parts at = IsStop (token_by index parts) at
 
 -- the question to a recoverer with a stack of the program
 abbrev pub asked_of : {S X : Type 0} → (S → ℕ) → Checked → ℕ → List X → ℕ → List (StIdx S) → Asked X
@@ -53,4 +53,4 @@ asked_of index d k lexemes place stack = record { checked = d; shifts = k; lexem
 
 -- that question is asked at an error point
 abbrev pub StopsAt : {S X : Type 0} → (S → ℕ) → (X → LexemeParts S) → Checked → ℕ → List X → ℕ → List (StIdx S) → Type 0
-StopsAt index parts d k lexemes place stack = IsStopBy index parts (asked_of index d k lexemes place stack)
+StopsAt index parts d k lexemes place stack = Stops index parts (asked_of index d k lexemes place stack)

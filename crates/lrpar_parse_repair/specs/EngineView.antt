@@ -1,17 +1,17 @@
 -- The engine of repair sequences, as contracts see it; `index` is the number that a storage number represents, and `parts` gives the
 -- parts of a lexeme.
-use Rattle.std.specs.Prelude.{◌<◌, ◌↔◌, ℕ, Bool, List, Option, Vec, Contains, IsTrue, length}
+use Rattle.std.specs.Prelude.{◌<◌, ◌+◌, ◌↔◌, ℕ, Bool, List, Option, Vec, Contains, IsTrue, length}
 use Rattle.lrpar_grammar.specs.Grammar.{Grammar, tokens_len}
 use Rattle.lrpar_grammar_places.specs.declared.span.StIdx.{StIdx}
 use Rattle.lrpar_grammar_places.specs.declared.span.TIdx.{TIdx}
 use Rattle.lrpar_table_rows.specs.Table.{Table}
 use Rattle.lrpar_table_stacks.specs.Expected.{AcceptsAtEnd}
-use Rattle.lrpar_table_stacks.specs.Overlay.{Overlaid}
+use Rattle.lrpar_table_stacks.specs.Overlay.{OverlayReduces, OverlayShifts, Overlaid, overlaid}
 use Rattle.lrpar_table_stacks.specs.Stack.{IsStack, states_of}
 use Rattle.lrpar_parse_lexemes.specs.Lexemes.{LexemeParts}
 use Rattle.lrpar_parse_lexemes.specs.Views.{token_by}
 use Rattle.lrpar_parse_repair.specs.Asked.{HaveTokens}
-use Rattle.lrpar_parse_repair.specs.Moves.{AreTestsWithin, IsMovedWithin}
+use Rattle.lrpar_parse_repair.specs.Moves.{AreTestsWithin, IsMovedWithin, at_base}
 use Rattle.lrpar_parse_repair.specs.PlainSteps.{plain_sequences, plain_step, plain_steps}
 use Rattle.lrpar_parse_repair.specs.Sequences.{PlainInsert, PlainShift, PlainStep, AreThoseWith, CanGoOn, IsStepTaken, IsTokenFed, Works}
 use Rattle.lrpar_parse_repair.specs.TestWork.{most_listed}
@@ -62,6 +62,11 @@ IsTakenBy index parts engine st i step after next =
 abbrev pub IsMovedFor : {S X Y : Type 0} → Engine S X → (Y → List ℕ) → (Y → ℕ → ℕ → ℕ → Y → Type 0) → (Y → Y → Type 0) → ℕ → Y → Y → Type 0
 IsMovedFor engine states reduces shifts tokens old new =
     IsMovedWithin states reduces shifts engine.checked.now.grammar engine.checked.now.table engine.checked.now.cap tokens old new
+
+-- a test of a sequence makes one overlay of another, with no more reductions than it may cost: the overlay is set back, and then moved
+abbrev pub IsTestOf : {S X : Type 0} → Engine S X → List (RepairStep S) → Overlaid → Overlaid → Type 0
+IsTestOf engine steps old new =
+    IsMovedFor engine overlaid (λ x p r n y. OverlayReduces x n y) OverlayShifts (length steps + engine.shifts) (at_base old) new
 
 -- tests make one overlay of another, with no more reductions than the tests of these sequences may cost from a stack of this height
 abbrev pub AreTestsFor : {S X : Type 0} → Engine S X → ℕ → List (List PlainStep) → Overlaid → Overlaid → Type 0

@@ -17,6 +17,10 @@ IsAllowed index allowed = λ answer. allowed (plain_sequences index answer.items
 abbrev pub HasSequences : {S A B : Type 0} → (S → ℕ) → List (List PlainStep) → Vec (Vec (RepairStep S) A) B → Type 0
 HasSequences index sequences = λ answer. plain_sequences index answer.items ≡ sequences
 
+-- these are the sequences that the recoverer supplies
+abbrev pub Supplies : {S A B : Type 0} → (S → ℕ) → Vec (Vec (RepairStep S) A) B → List (List PlainStep) → Type 0
+Supplies index sequences recoverer = recoverer ≡ plain_sequences index sequences.items
+
 module _ {S X : Type 0} (index : S → ℕ) (parts : X → LexemeParts S) where
   -- true exactly if some sequence of the answer works at the error point
   abbrev pub TellsIfSome : {A : Type 0} → Asked X → List (Vec (RepairStep S) A) → Bool → Type 0

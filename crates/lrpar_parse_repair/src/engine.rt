@@ -27,7 +27,7 @@ pub struct Engine<'a, StorageT: StorageIndex, LexemeT> {
 }
 
 impl<'a, StorageT: StorageIndex, LexemeT: Lexeme<StorageT>> Engine<'a, StorageT, LexemeT> {
-    ghost use Rattle.lrpar_parse_repair.specs.EngineView.{FeedsToken, HasStack, HasStates, HasToken, HasTokens, Inserts, IsMovedFor, ListsWorking, Shifts, SuitsAll, TakesStep, TellsAccepts, TellsGoesOn, TellsSome, TellsWorks, TestsAnswer};
+    ghost use Rattle.lrpar_parse_repair.specs.EngineView.{FeedsToken, HasStack, HasStates, HasToken, HasTokens, Inserts, IsMovedFor, IsTestOf, ListsWorking, Shifts, SuitsAll, TakesStep, TellsAccepts, TellsGoesOn, TellsSome, TellsWorks, TestsAnswer};
 
     /// The engine of these. Takes no memory.
     pub fn new(checked: &'a ParserData<StorageT>, lexemes: &'a [LexemeT], shifts: usize) -> Self
@@ -80,8 +80,7 @@ impl<'a, StorageT: StorageIndex, LexemeT: Lexeme<StorageT>> Engine<'a, StorageT,
     {
         let mut listed = Vec::new(alloc);
         for steps in answer {
-            states.set_back();
-            let works = self.works(states, place, &steps)?;
+            let works = self.works_from_base(states, place, &steps)?;
             if !works {
                 continue;
             }
@@ -124,12 +123,30 @@ impl<'a, StorageT: StorageIndex, LexemeT: Lexeme<StorageT>> Engine<'a, StorageT,
         ensures bounded { OnOk result (TestsAnswer StorageT.index self.now answer.now states.old states.new) }
     {
         for steps in answer {
-            states.set_back();
-            if self.works(states, place, steps)? {
+            if self.works_from_base(states, place, steps)? {
                 return Ok(true);
             }
         }
         Ok(false)
+    }
+
+    // Whether the sequence works from the borrowed states at the place. What an earlier test made of the overlay is undone.
+    fn works_from_base(
+        &self,
+        states: &mut Overlay<'_, StorageT>,
+        place: usize,
+        steps: &[RepairStep<StorageT>],
+    ) -> Result<bool, AllocError>
+        requires tokens { HasTokens StorageT.index LexemeT.parts self.now }
+        requires stack { HasStates self.now states.old.base }
+        requires within { place ≤ length self.now.lexemes.now }
+        ensures works { IfOk result (TellsWorks StorageT.index LexemeT.parts self.now states.old.base place steps.now) }
+
+        // The test makes at most as many reductions as the sequence may cost.
+        ensures tested { OnOk result (IsTestOf self.now steps.now states.old states.new) }
+    {
+        states.set_back();
+        self.works(states, place, steps)
     }
 
     /// Whether the sequence works from the stack at the place. `Err`: out of memory.
@@ -229,11 +246,8 @@ impl<'a, StorageT: StorageIndex, LexemeT: Lexeme<StorageT>> Engine<'a, StorageT,
         if usize::from(token) >= usize::from(end) {
             return Ok(None);
         }
-        if self.feed(stack, token)? {
-            Ok(Some(place))
-        } else {
-            Ok(None)
-        }
+        let fed = self.feed(stack, token)?;
+        Ok(fed.then_some(place))
     }
 
     /// Feeds the token of the lexeme at the place, if there is one. Returns the next place; `None`, if it can't be fed. `Err`: out of
@@ -253,11 +267,8 @@ impl<'a, StorageT: StorageIndex, LexemeT: Lexeme<StorageT>> Engine<'a, StorageT,
         let Some(lexeme) = self.lexemes.get(place) else {
             return Ok(None);
         };
-        if self.feed(stack, TIdx(lexeme.tok_id()))? {
-            Ok(Some(place + 1))
-        } else {
-            Ok(None)
-        }
+        let fed = self.feed(stack, TIdx(lexeme.tok_id()))?;
+        Ok(fed.then_some(place + 1))
     }
 
     // Feeds the token, which must be the grammar's. Returns whether it was fed.

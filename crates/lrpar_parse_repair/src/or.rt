@@ -1,7 +1,7 @@
 //! A recoverer of two: the second one is asked where no sequence of the first one works.
 ghost use Rattle.std.specs.Prelude.{◌≡◌, IfOk};
 ghost use Rattle.lrpar_parse_lexemes.specs.Views.{token_by};
-ghost use Rattle.lrpar_parse_repair.specs.AlwaysRepairs.{FirstOrSecond};
+ghost use Rattle.lrpar_parse_repair.specs.AlwaysRepairs.{FirstOrSecond, in_turn};
 ghost use Rattle.lrpar_parse_repair.specs.Supplied.{IsOfEither, TellsIfSome};
 
 use crate::engine::Engine;
@@ -36,7 +36,7 @@ impl<A, B, StorageT, LexemeT> Model for Or<A, B, StorageT, LexemeT> {
 impl<A, B, StorageT, LexemeT> Or<A, B, StorageT, LexemeT> {
     /// The recoverer of these two.
     pub(crate) fn new(first: A, second: B) -> Self
-        ensures { result ≡ record { first = first; second = second } }
+        ensures { result ≡ in_turn first second }
     {
         Or {
             first,

@@ -1,10 +1,10 @@
 //! Recoverers: what a parse passes to one at an error point, the trait of recoverers, and two simple ones.
 ghost use Rattle.std.specs.Prelude.{◌≡◌, [], List, IfOk, IsOk};
 ghost use Rattle.lrpar_table_stacks.specs.Stack.{states_of};
-ghost use Rattle.lrpar_parse_repair.specs.PlainSteps.{plain_sequences};
 ghost use Rattle.lrpar_parse_repair.specs.Sequences.{PlainStep};
-ghost use Rattle.lrpar_parse_repair.specs.Asked.{Asked, IsStopBy, StopsAt, asked_of};
-ghost use Rattle.lrpar_parse_repair.specs.Supplied.{HasSequences, IsAllowed};
+ghost use Rattle.lrpar_parse_repair.specs.AlwaysRepairs.{in_turn};
+ghost use Rattle.lrpar_parse_repair.specs.Asked.{Asked, Stops, StopsAt, asked_of};
+ghost use Rattle.lrpar_parse_repair.specs.Supplied.{HasSequences, IsAllowed, Supplies};
 
 use crate::or::Or;
 pub use crate::repair_step::RepairStep;
@@ -55,17 +55,17 @@ impl<'a, StorageT: StorageIndex, LexemeT: Lexeme<StorageT>> Model
 impl<'a, StorageT: StorageIndex, LexemeT: Lexeme<StorageT>> RecoveryPoint<'a, StorageT, LexemeT> {
     /// Makes the error point of these. The state on top must have no action at the token of the place. Takes no memory.
     pub fn new(
-        checked: &'a ParserData<StorageT>,
+        data: &'a ParserData<StorageT>,
         shifts: usize,
         lexemes: &'a [LexemeT],
         place: usize,
         stack: &'a [StIdx<StorageT>],
     ) -> Self
-        requires stop { StopsAt StorageT.index LexemeT.parts checked.now shifts lexemes.now place stack.now }
-        ensures { result ≡ asked_of StorageT.index checked.now shifts lexemes.now place stack.now }
+        requires stop { StopsAt StorageT.index LexemeT.parts data.now shifts lexemes.now place stack.now }
+        ensures { result ≡ asked_of StorageT.index data.now shifts lexemes.now place stack.now }
     {
         RecoveryPoint {
-            data: checked,
+            data,
             shifts,
             lexemes,
             place,
@@ -76,7 +76,7 @@ impl<'a, StorageT: StorageIndex, LexemeT: Lexeme<StorageT>> RecoveryPoint<'a, St
     /// The grammar with its checked table.
     pub fn data(&self) -> &'a ParserData<StorageT>
         ensures data { result.now ≡ self.now.checked }
-        ensures stop { IsStopBy StorageT.index LexemeT.parts self.now }
+        ensures stop { Stops StorageT.index LexemeT.parts self.now }
     {
         self.data
     }
@@ -84,7 +84,7 @@ impl<'a, StorageT: StorageIndex, LexemeT: Lexeme<StorageT>> RecoveryPoint<'a, St
     /// How many lexemes must follow a repair: at least one.
     pub fn shifts(&self) -> usize
         ensures shifts { result ≡ self.now.shifts }
-        ensures stop { IsStopBy StorageT.index LexemeT.parts self.now }
+        ensures stop { Stops StorageT.index LexemeT.parts self.now }
     {
         self.shifts
     }
@@ -92,7 +92,7 @@ impl<'a, StorageT: StorageIndex, LexemeT: Lexeme<StorageT>> RecoveryPoint<'a, St
     /// All lexemes of the parse, also those before the error. Each has a token of the grammar other than the end token.
     pub fn lexemes(&self) -> &'a [LexemeT]
         ensures lexemes { result.now ≡ self.now.lexemes }
-        ensures stop { IsStopBy StorageT.index LexemeT.parts self.now }
+        ensures stop { Stops StorageT.index LexemeT.parts self.now }
     {
         self.lexemes
     }
@@ -100,7 +100,7 @@ impl<'a, StorageT: StorageIndex, LexemeT: Lexeme<StorageT>> RecoveryPoint<'a, St
     /// The place of the lexeme that has no action, counted from 0. At the end of the input it is the number of lexemes.
     pub fn place(&self) -> usize
         ensures place { result ≡ self.now.place }
-        ensures stop { IsStopBy StorageT.index LexemeT.parts self.now }
+        ensures stop { Stops StorageT.index LexemeT.parts self.now }
     {
         self.place
     }
@@ -109,7 +109,7 @@ impl<'a, StorageT: StorageIndex, LexemeT: Lexeme<StorageT>> RecoveryPoint<'a, St
     /// They are a stack of the table, and the state on top has no action at that token.
     pub fn stack(&self) -> &'a [StIdx<StorageT>]
         ensures stack { states_of StorageT.index result.now ≡ self.now.stack }
-        ensures stop { IsStopBy StorageT.index LexemeT.parts self.now }
+        ensures stop { Stops StorageT.index LexemeT.parts self.now }
     {
         self.stack
     }
@@ -134,7 +134,7 @@ pub trait Recoverer<StorageT: StorageIndex, LexemeT: Lexeme<StorageT>> {
     final fn or<B: Recoverer<StorageT, LexemeT>>(self, second: B) -> Or<Self, B, StorageT, LexemeT>
     where
         Self: Sized,
-        ensures { result ≡ record { first = self; second = second } }
+        ensures { result ≡ in_turn self second }
     {
         Or::new(self, second)
     }
@@ -187,7 +187,7 @@ impl<StorageT: StorageIndex> Model for FixedRecoverer<StorageT> {
 impl<StorageT: StorageIndex> FixedRecoverer<StorageT> {
     /// The recoverer that supplies these sequences. Takes no memory.
     pub fn new(sequences: Vec<Vec<RepairStep<StorageT>>>) -> Self
-        ensures { result ≡ plain_sequences StorageT.index sequences.items }
+        ensures { Supplies StorageT.index sequences result }
     {
         FixedRecoverer { sequences }
     }

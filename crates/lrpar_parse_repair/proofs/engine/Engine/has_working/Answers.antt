@@ -1,15 +1,8 @@
-use Rattle.std.proofs.Common.{◌+◌, ◌∙◌, ap, arith, length, refl, subst, sym}
-use Rattle.lrpar_table_stacks.specs.Overlay.{Overlaid, overlaid}
-use Rattle.lrpar_table_stacks.specs.Stack.{IsStack}
+use Rattle.std.proofs.Common.{◌+◌, ◌∙◌, arith, length, refl}
+use Rattle.lrpar_parse_lexemes.specs.Views.{token_by}
 use Rattle.lrpar_parse_repair.proofs.EngineLemmas.{base_stays, untested}
 use Rattle.lrpar_parse_repair.proofs.SomeWorksLemmas.{none_of_all, none_works, tested_of_all, tested_one_more}
 use Rattle.lrpar_parse_repair.proofs.engine.Engine.has_working.Goals as goal
-
-pub works-requires-clause-suits : goal.works-requires-clause-suits
-works-requires-clause-suits g c = λ any. tt
-
-pub works-requires-clause-stack : goal.works-requires-clause-stack
-works-requires-clause-stack g c = subst (IsStack c.args.self.now.checked.now.table) (sym (c.set_back.ensures.states ∙ c.loop-steps.invariant.base)) c.requires.stack
 
 pub loop-steps-init : goal.loop-steps-init
 loop-steps-init g c =
@@ -23,19 +16,17 @@ loop-steps-init g c =
 pub loop-steps-preserved : goal.loop-steps-preserved
 loop-steps-preserved g c =
     let index = g.StorageT.StorageIndex.index in
-    let token = λ (x : g.row.LexemeT.Denot). index (g.LexemeT.Lexeme.parts x).token in
     let self = c.args.self.now in
     let d = self.checked.now in
     let l = c.loop-steps in
     let start = c.args.states.now in
     let answer = c.args.answer.now in
-    let from = c.set_back.ensures.states ∙ l.invariant.base in
     record {
-      base = base_stays d.grammar d.table d.cap _ c.set_back.new.self c.works.new.stack c.in_ok-works.ensures.moved ∙ (ap (λ (o : Overlaid). o.base) c.set_back.ensures.made ∙ l.invariant.base);
-      none = none_works token d.grammar d.table self.lexemes.now index self.shifts start.base c.args.place answer l.steps-index c.steps-item.result c.deref.result.now
-          (overlaid c.set_back.new.self) _ c.loop-steps-test.true c.steps-item.is from c.deref.ensures.value c.in_ok-works.ensures.works c.if-branch.false l.invariant.none;
-      bounded = tested_one_more d.grammar d.table index d.cap self.shifts start l.states c.set_back.new.self c.works.new.stack answer l.steps-index c.steps-item.result c.deref.result.now
-          c.loop-steps-test.true c.steps-item.is c.set_back.ensures.made from c.deref.ensures.value c.in_ok-works.ensures.moved l.invariant.bounded;
+      base = base_stays _ _ _ _ _ _ c.in_ok-works_from_base.ensures.tested ∙ l.invariant.base;
+      none = none_works (token_by index g.LexemeT.Lexeme.parts) d.grammar d.table self.lexemes.now index self.shifts start.base c.args.place answer l.steps-index c.steps-item.result
+          c.deref.result.now _ _ c.loop-steps-test.true c.steps-item.is l.invariant.base c.deref.ensures.value c.in_ok-works_from_base.ensures.works c.if-branch.false l.invariant.none;
+      bounded = tested_one_more d.grammar d.table index d.cap self.shifts start l.states _ answer l.steps-index c.steps-item.result c.deref.result.now
+          c.loop-steps-test.true c.steps-item.is c.deref.ensures.value c.in_ok-works_from_base.ensures.tested l.invariant.base l.invariant.bounded;
     }
 
 pub returns-then-branch-clause-bounded : goal.returns-then-branch-clause-bounded
@@ -46,18 +37,18 @@ returns-then-branch-clause-bounded g c =
     let l = c.loop-steps in
     let start = c.args.states.now in
     let answer = c.args.answer.now in
-    let here = tested_one_more d.grammar d.table index d.cap self.shifts start l.states c.set_back.new.self c.works.new.stack answer l.steps-index c.steps-item.result c.deref.result.now
-    c.loop-steps-test.true c.steps-item.is c.set_back.ensures.made (c.set_back.ensures.states ∙ l.invariant.base) c.deref.ensures.value c.in_ok-works.ensures.moved l.invariant.bounded in
-    tested_of_all d.grammar d.table index d.cap (length start.base) self.shifts answer (l.steps-index + 1) start c.works.new.stack here
+    let here = tested_one_more d.grammar d.table index d.cap self.shifts start l.states _ answer l.steps-index c.steps-item.result c.deref.result.now
+    c.loop-steps-test.true c.steps-item.is c.deref.ensures.value c.in_ok-works_from_base.ensures.tested l.invariant.base l.invariant.bounded in
+    tested_of_all d.grammar d.table index d.cap (length start.base) self.shifts answer (l.steps-index + 1) start _ here
 
 pub returns-clause-works : goal.returns-clause-works
 returns-clause-works g c =
     let index = g.StorageT.StorageIndex.index in
-    let token = λ (x : g.row.LexemeT.Denot). index (g.LexemeT.Lexeme.parts x).token in
     let self = c.args.self.now in
     let d = self.checked.now in
     let l = c.loop-steps in
-    let none = none_of_all token d.grammar d.table self.lexemes.now index self.shifts c.args.states.now.base c.args.place c.args.answer.now l.steps-index c.loop-steps-test.false l.invariant.none in
+    let none = none_of_all (token_by index g.LexemeT.Lexeme.parts) d.grammar d.table self.lexemes.now index self.shifts c.args.states.now.base c.args.place
+    c.args.answer.now l.steps-index c.loop-steps-test.false l.invariant.none in
     (λ no. absurd (cc), λ some. absurd (none some))
 
 pub returns-clause-bounded : goal.returns-clause-bounded

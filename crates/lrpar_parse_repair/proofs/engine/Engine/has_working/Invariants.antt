@@ -1,8 +1,6 @@
-use Rattle.std.proofs.Common.{◌≡◌, length, take}
-use Rattle.lrpar_parse_repair.specs.Moves.{AreTestsWithin}
-use Rattle.lrpar_parse_repair.specs.PlainSteps.{plain_sequences, plain_steps}
-use Rattle.lrpar_parse_repair.specs.Sequences.{Works}
-use Rattle.lrpar_parse_repair.specs.TestWork.{most_listed}
+use Rattle.std.proofs.Common.{◌≡◌, take}
+use Rattle.lrpar_parse_repair.specs.EngineView.{TestsAnswer, WorksBy}
+use Rattle.lrpar_parse_repair.specs.PlainSteps.{plain_steps}
 use Rattle.lrpar_parse_repair.proofs.SomeWorksLemmas.{NoneBefore}
 use Rattle.lrpar_parse_repair.proofs.engine.Engine.has_working.Given as goal
 
@@ -10,11 +8,8 @@ use Rattle.lrpar_parse_repair.proofs.engine.Engine.has_working.Given as goal
 abbrev pub invariant-loop-steps : goal.invariant-loop-steps
 invariant-loop-steps g l =
     let index = g.StorageT.StorageIndex.index in
-    let token = λ (x : g.row.LexemeT.Denot). index (g.LexemeT.Lexeme.parts x).token in
-    let d = l.self.checked.now in
-    let st = l.fn.states.base in
     record {
-      base : l.states.base ≡ st;
-      none : NoneBefore (λ v. plain_steps index v.items) (Works token d.grammar d.table l.self.lexemes.now l.self.shifts st l.place) l.answer l.steps-index;
-      bounded : AreTestsWithin d.grammar d.table (most_listed d.cap (length st) l.self.shifts (plain_sequences index (take l.steps-index l.answer))) l.fn.states l.states;
+      base : l.states.base ≡ l.fn.states.base;
+      none : NoneBefore (λ v. plain_steps index v.items) (WorksBy index g.LexemeT.Lexeme.parts l.self l.fn.states.base l.place) l.answer l.steps-index;
+      bounded : TestsAnswer index l.self (take l.steps-index l.answer) l.fn.states l.states;
     }

@@ -63,17 +63,16 @@ returns-then-not-branch g c =
 pub loop-at-preserved : goal.loop-at-preserved
 loop-at-preserved g c =
     let facts = facts_by g.StorageT.StorageIndex.index g.LexemeT.Lexeme.parts in
-    let self = c.args.self.now in
-    let d = self.checked.now in
-    let builds = g.B.Build.builds self.build.now in
-    let lexemes = c.args.lexemes.now in
+    let builds = g.B.Build.builds c.args.self.now.build.now in
+    let d = c.args.self.now.checked.now in
     let l = c.loop-at in
     let x = c.index-lexemes-at.result in
+    let lexemes = c.args.lexemes.now in
     let is = slice_get_read lexemes (length lexemes) l.at x refl c.loop-at-test.true c.index-lexemes-at.is in
     let shifts = c.in_ok-take.ensures.shifts c.if-not-branch.false in
     record {
       there = run_on c.requires c.in_ok-take.ensures.run_stack
-          (rise_to_next facts builds d (g.met.B.Build.rising self.build.now d.grammar) lexemes l.at x l.stack c.take.new.stack c.requires.starts is shifts l.invariant.there.rises)
+          (rise_to_next facts builds d (g.met.B.Build.rising c.args.self.now.build.now d.grammar) lexemes l.at x l.stack c.take.new.stack c.requires.starts is shifts l.invariant.there.rises)
           (omega (arith, c.loop-at-test.true));
       past = omega (arith, l.invariant.past);
       come = come_more facts builds d lexemes c.args.stack.now c.args.place l.stack l.at l.invariant.come c.take.new.stack x l.invariant.past is shifts;
