@@ -102,7 +102,7 @@ module _ {X : Type 0} (token : X → ℕ) (d : Checked) (lexemes : List X) where
 
       module _ (t : ℕ) (is : t ≡ token x) (yes : Bool) (after : List ℕ) (answered : FeedsOrStays d.grammar d.table t st yes after) where
         -- one more is fed
-        pub fed_more : yes ≡ true → IsStack d.table after × FeedsFront token d.grammar d.table lexemes (i + 1) after
+        fed_more : yes ≡ true → IsStack d.table after × FeedsFront token d.grammar d.table lexemes (i + 1) after
         fed_more holds =
             let by = subst (λ (b : Bool). FeedsOrStays d.grammar d.table t st b after) holds answered in
             let next = subst (λ (u : ℕ). Feeds d.grammar d.table u st by.1.0 after) (is ∙ sym here) by.1.1 in (
@@ -114,7 +114,7 @@ module _ {X : Type 0} (token : X → ℕ) (d : Checked) (lexemes : List X) where
             )
 
         -- or it can't be, and the stack stays
-        pub fed_stops : yes ≡ false → (after ≡ st) × ComesFurthest token d lexemes i after
+        fed_stops : yes ≡ false → (after ≡ st) × ComesFurthest token d lexemes i after
         fed_stops fails =
             let by = subst (λ (b : Bool). FeedsOrStays d.grammar d.table t st b after) fails answered in
             let below = slice_get_within lexemes i x at in
@@ -146,6 +146,20 @@ module _ {X : Type 0} (token : X → ℕ) (d : Checked) (lexemes : List X) where
               end = (λ there. ends.0 (end.0 there), λ sentence. end.1 (ends.1 sentence));
             };
       }
+
+-- a lexeme of a valid list, whose token was fed if the answer is `true`
+module _ {X : Type 0} (facts : X → LexemeFacts) (d : Checked) (checked : IsChecked d) (lexemes : List X) (valid : IsValidList d.grammar (map facts lexemes)) (i : ℕ) (st : List ℕ)
+    (fed : FeedsFront (λ x. (facts x).token) d.grammar d.table lexemes i st) (x : X) (below : i < length lexemes) (read : x ≡ get_or lexemes i x)
+    (t : ℕ) (is : t ≡ (facts x).token) (yes : Bool) (after : List ℕ) (answered : FeedsOrStays d.grammar d.table t st yes after) where
+  pub lexeme_fed : yes ≡ true → IsStack d.table after × FeedsFront (λ y. (facts y).token) d.grammar d.table lexemes (i + 1) after
+  lexeme_fed =
+      let known = known_token facts d checked lexemes valid i x below read in
+      fed_more (λ y. (facts y).token) d lexemes i st fed x known.0 known.2 t is yes after answered
+
+  pub lexeme_stops : yes ≡ false → (after ≡ st) × ComesFurthest (λ y. (facts y).token) d lexemes i after
+  lexeme_stops =
+      let known = known_token facts d checked lexemes valid i x below read in
+      fed_stops (λ y. (facts y).token) d lexemes i st fed x known.0 known.2 t is yes after answered
 
 module _ {S X E : Type 0} (index : S → ℕ) (facts : X → LexemeFacts) (d : Checked) (lexed : List (Result X E)) (lexemes : List X) (are : lexemes ≡ lexemes_of lexed) where
   facts_are : map facts lexemes ≡ lexeme_facts facts lexed

@@ -34,9 +34,9 @@ module _ {S : Type 0} (index : S → ℕ) where
   abbrev pub TakesSymbols : (ℕ → ℕ → List GrammarSymbol → Type 0) → PIdx S → RIdx S → List (Symbol S) → Type 0
   TakesSymbols taken prod rule symbols = taken (index prod.0) (index rule.0) (map (symbol_of index) symbols)
 
-  -- the arguments fit it; `parts` gives the parts of a lexeme
-  abbrev pub FitProduction : {X V : Type 0} → (X → LexemeParts S) → (ℕ → V → Type 0) → (ℕ → ℕ → List GrammarSymbol → Type 0) → PIdx S → RIdx S → List (AStackType X V) → Type 0
-  FitProduction parts fact taken prod rule args = AreArguments (token_by index parts) fact (taken (index prod.0) (index rule.0)) args
+  -- the arguments fit it, as the actions take it; `parts` gives the parts of a lexeme
+  abbrev pub FitProduction : {A X V : Type 0} → (X → LexemeParts S) → (A → ℕ → V → Type 0) → (A → ℕ → ℕ → List GrammarSymbol → Type 0) → A → PIdx S → RIdx S → List (AStackType X V) → Type 0
+  FitProduction parts fact taken actions prod rule args = AreArguments (token_by index parts) (fact actions) (taken actions (index prod.0) (index rule.0)) args
 
   -- its value over these arguments may be this one
   abbrev pub Answers : {L A P V Z : Type 0} → (ℕ → ℕ → L → Extent → List A → P → V → Type 0) → PIdx S → RIdx S → L → Extent → Vec A Z → P → V → Type 0

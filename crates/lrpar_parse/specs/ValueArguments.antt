@@ -1,5 +1,5 @@
 -- The arguments from which a value is made: each is a lexeme or a value. During the parse a value may be an error, which is carried up.
-use Rattle.std.specs.Prelude.{◌≡◌, List, [], ◌∷◌, Option, Some, None, Result, Ok, Err}
+use Rattle.std.specs.Prelude.{◌≡◌, List, [], ◌∷◌, Option, Some, None, IfNone, IfSome, Result, Ok, Err}
 use Rattle.lrpar_grammar_places.specs.Span.{Extent}
 use Rattle.lrpar_parse_run.specs.declared.values.AStackType.{AStackType}
 use Rattle.lrpar_parse_run.specs.declared.values.AStackType.TheVariants.{ActionType, Lexeme}
@@ -40,10 +40,18 @@ IsLexemeNext (ActionType v ∷ args) = ⊥
 abbrev pub KeepsPlace : {L X V : Type 0} → ValueArguments L X V → ValueArguments L X V → Type 0
 KeepsPlace old new = (new.lexer ≡ old.lexer) × (new.span ≡ old.span)
 
--- the next argument is this value, and is taken
-abbrev pub TakesValue : {L X V : Type 0} → ValueArguments L X V → ValueArguments L X V → V → Type 0
-TakesValue old new value = old.left ≡ ActionType value ∷ new.left
+-- the value, if there is one, is the next argument, which is taken
+abbrev pub TakesValue : {L X V : Type 0} → ValueArguments L X V → ValueArguments L X V → Option V → Type 0
+TakesValue old new result = IfSome result (λ value. old.left ≡ ActionType value ∷ new.left)
 
--- the next argument is this lexeme, and is taken
-abbrev pub TakesLexeme : {L X V : Type 0} → ValueArguments L X V → ValueArguments L X V → X → Type 0
-TakesLexeme old new lexeme = old.left ≡ Lexeme lexeme ∷ new.left
+-- if there is none, the next argument isn't a value, and nothing is taken
+abbrev pub LacksValue : {L X V : Type 0} → ValueArguments L X V → ValueArguments L X V → Option V → Type 0
+LacksValue old new result = IfNone result ((new ≡ old) × ¬ (IsValueNext old.left))
+
+-- the lexeme, if there is one, is the next argument, which is taken
+abbrev pub TakesLexeme : {L X V : Type 0} → ValueArguments L X V → ValueArguments L X V → Option X → Type 0
+TakesLexeme old new result = IfSome result (λ lexeme. old.left ≡ Lexeme lexeme ∷ new.left)
+
+-- if there is none, the next argument isn't a lexeme, and nothing is taken
+abbrev pub LacksLexeme : {L X V : Type 0} → ValueArguments L X V → ValueArguments L X V → Option X → Type 0
+LacksLexeme old new result = IfNone result ((new ≡ old) × ¬ (IsLexemeNext old.left))

@@ -63,7 +63,7 @@ pub trait Actions<StorageT: StorageIndex, LexemeT: Lexeme<StorageT>, LexerT> {
         args: Vec<AStackType<LexemeT, Self::ActionT>>,
         param: &Self::ParamT,
     ) -> Result<Self::ActionT, AllocError>
-        requires { FitProduction StorageT.index LexemeT.parts (fact self.now) (taken self.now) pidx ridx args.items }
+        requires { FitProduction StorageT.index LexemeT.parts fact taken self.now pidx ridx args.items }
         ensures fact { IfOk result (fact self.now (StorageT.index ridx.0)) }
         ensures answers { IfOk result (Answers StorageT.index (answers self.now) pidx ridx lexer.now span args param.now) };
 }

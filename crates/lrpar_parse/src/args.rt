@@ -1,7 +1,7 @@
 //! Arguments of a production, taken one by one.
-ghost use Rattle.std.specs.Prelude.{◌≡◌, ◌↔◌, [], IfNone, IfSome, IsTrue, length};
+ghost use Rattle.std.specs.Prelude.{◌≡◌, ◌↔◌, [], IsTrue, length};
 ghost use Rattle.std.specs.Iterator.{YieldsFirst, item_count};
-ghost use Rattle.lrpar_parse.specs.ValueArguments.{IsLexemeNext, IsValueNext, KeepsPlace, TakesLexeme, TakesValue, first_failure, given_of};
+ghost use Rattle.lrpar_parse.specs.ValueArguments.{IsLexemeNext, IsValueNext, KeepsPlace, LacksLexeme, LacksValue, TakesLexeme, TakesValue, first_failure, given_of};
 
 use crate::fault::ParseFault;
 use lrpar_grammar::span::Span;
@@ -78,8 +78,8 @@ impl<'a, LexerT, LexemeT: Drop, V: Drop, E: Drop> Args<'a, LexerT, LexemeT, V, E
 
     /// Takes the next argument if it is a value. `None`: no argument is left, or the next one is a lexeme, and stays.
     pub fn value(&mut self) -> Option<V>
-        ensures some { IfSome result (TakesValue self.old self.new) }
-        ensures none { IfNone result ((self.new ≡ self.old) × ¬ (IsValueNext self.old.left)) }
+        ensures some { TakesValue self.old self.new result }
+        ensures none { LacksValue self.old self.new result }
         ensures same { KeepsPlace self.old self.new }
     {
         if !self.is_value_next() {
@@ -93,8 +93,8 @@ impl<'a, LexerT, LexemeT: Drop, V: Drop, E: Drop> Args<'a, LexerT, LexemeT, V, E
 
     /// Takes the next argument if it is a lexeme. `None`: no argument is left, or the next one is a value, and stays.
     pub fn lexeme(&mut self) -> Option<LexemeT>
-        ensures some { IfSome result (TakesLexeme self.old self.new) }
-        ensures none { IfNone result ((self.new ≡ self.old) × ¬ (IsLexemeNext self.old.left)) }
+        ensures some { TakesLexeme self.old self.new result }
+        ensures none { LacksLexeme self.old self.new result }
         ensures same { KeepsPlace self.old self.new }
     {
         if !self.is_lexeme_next() {

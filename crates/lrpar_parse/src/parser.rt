@@ -5,6 +5,7 @@ ghost use Rattle.lrpar_parse.specs.Arguments.{TakesAll};
 ghost use Rattle.lrpar_parse_run.specs.Entries.{HasValueEntry};
 ghost use Rattle.lrpar_parse_run.specs.declared.values.AStackType.TheVariants.{ActionType};
 ghost use Rattle.lrpar_parse.specs.ExpectedAnswer.{AreValid};
+ghost use Rattle.lrpar_parse.specs.Parser.{IsUnchanged, IsWithShifts, with_recoverer};
 ghost use Rattle.lrpar_parse.specs.ParseCalls.{ExpectsNext, GetsErrors, GetsActed, GetsEntry, GetsGiven, GetsMapped, GetsTree, RunsTo};
 
 use crate::actions::Acting;
@@ -104,7 +105,7 @@ impl<
         self,
         recoverer: Q,
     ) -> RTParserBuilder<'a, StorageT, LexerTypesT, Q>
-        ensures { result ≡ record { checked = self.entry.checked; recoverer = recoverer; shifts = self.entry.shifts } }
+        ensures { result ≡ with_recoverer self.entry recoverer }
     {
         RTParserBuilder {
             checked: self.checked,
@@ -118,8 +119,8 @@ impl<
     /// if fewer are left, if all of these can, and the parse then accepts. `count` must be at least 1; the `Err` has the parser as it
     /// was.
     pub fn shifts(self, count: usize) -> Result<Self, ZeroShifts<Self>>
-        ensures set { IfOk result (λ p. p ≡ record (self.entry) { shifts = count }) }
-        ensures back { IfErr result (λ refused. refused ≡ self.entry) }
+        ensures set { IfOk result (IsWithShifts self.entry count) }
+        ensures back { IfErr result (IsUnchanged self.entry) }
         ensures exact { IsOk result ↔ (0 < count) }
     {
         if count == 0 {

@@ -3,7 +3,7 @@ use Rattle.lrpar_table_check.specs.ExpectedRuns.{FeedsFront}
 use Rattle.lrpar_table_stacks.specs.Stack.{IsStack, states_of}
 use Rattle.lrpar_table_rows.specs.Table.{Table}
 use Rattle.lrpar_parse_lexemes.specs.Views.{facts_by, token_by}
-use Rattle.lrpar_parse.proofs.ExpectedLemmas.{fed_more, fed_none, fed_stops, known_token}
+use Rattle.lrpar_parse.proofs.ExpectedLemmas.{fed_none, known_token, lexeme_fed, lexeme_stops}
 use Rattle.lrpar_parse.proofs.expected.fed.Goals as goal
 
 pub loop-place-init : goal.loop-place-init
@@ -30,50 +30,26 @@ feed_if_expected-requires-clause-token g c =
     let same = ap index c.tok_id.ensures.token in
     omega (arith, known.1, same)
 
-pub returns-then-not-branch-clause-furthest : goal.returns-then-not-branch-clause-furthest
-returns-then-not-branch-clause-furthest g c =
+pub returns-then-not-branch : goal.returns-then-not-branch
+returns-then-not-branch g c =
     let index = g.StorageT.StorageIndex.index in
     let d = c.args.checked.now in
-    let lexemes = c.args.lexemes.now in
-    let token = token_by index g.LexemeT.Lexeme.parts in
-    let x = c.index-lexemes-place.result in
-    let known =
-    known_token (facts_by index g.LexemeT.Lexeme.parts) d c.stable.ensures.checked lexemes c.requires.valid c.loop-place.place x c.loop-place-test.true
-    c.index-lexemes-place.is in
     let stops =
-    fed_stops token d lexemes c.loop-place.place (states_of index c.loop-place.stack.items) c.loop-place.invariant.fed x known.0 known.2
+    lexeme_stops (facts_by index g.LexemeT.Lexeme.parts) d c.stable.ensures.checked c.args.lexemes.now c.requires.valid c.loop-place.place
+    (states_of index c.loop-place.stack.items) c.loop-place.invariant.fed c.index-lexemes-place.result c.loop-place-test.true c.index-lexemes-place.is
     (index c.tok_id.result) (ap index c.tok_id.ensures.token) _ (states_of index c.feed_if_expected.new.stack.items)
     c.in_ok-feed_if_expected.ensures c.if-not-branch.true in
-    stops.1
-
-pub returns-then-not-branch-clause-stack : goal.returns-then-not-branch-clause-stack
-returns-then-not-branch-clause-stack g c =
-    let index = g.StorageT.StorageIndex.index in
-    let d = c.args.checked.now in
-    let lexemes = c.args.lexemes.now in
-    let token = token_by index g.LexemeT.Lexeme.parts in
-    let x = c.index-lexemes-place.result in
-    let known =
-    known_token (facts_by index g.LexemeT.Lexeme.parts) d c.stable.ensures.checked lexemes c.requires.valid c.loop-place.place x c.loop-place-test.true
-    c.index-lexemes-place.is in
-    let stops =
-    fed_stops token d lexemes c.loop-place.place (states_of index c.loop-place.stack.items) c.loop-place.invariant.fed x known.0 known.2
-    (index c.tok_id.result) (ap index c.tok_id.ensures.token) _ (states_of index c.feed_if_expected.new.stack.items)
-    c.in_ok-feed_if_expected.ensures c.if-not-branch.true in
-    subst (λ (st : List ℕ). IsStack d.table st) (sym stops.0) c.loop-place.invariant.stack
+    record {
+      furthest = stops.1;
+      stack = subst (λ (st : List ℕ). IsStack d.table st) (sym stops.0) c.loop-place.invariant.stack;
+    }
 
 pub loop-place-preserved : goal.loop-place-preserved
 loop-place-preserved g c =
     let index = g.StorageT.StorageIndex.index in
-    let d = c.args.checked.now in
-    let lexemes = c.args.lexemes.now in
-    let token = token_by index g.LexemeT.Lexeme.parts in
-    let x = c.index-lexemes-place.result in
-    let known =
-    known_token (facts_by index g.LexemeT.Lexeme.parts) d c.stable.ensures.checked lexemes c.requires.valid c.loop-place.place x c.loop-place-test.true
-    c.index-lexemes-place.is in
     let more =
-    fed_more token d lexemes c.loop-place.place (states_of index c.loop-place.stack.items) c.loop-place.invariant.fed x known.0 known.2
+    lexeme_fed (facts_by index g.LexemeT.Lexeme.parts) c.args.checked.now c.stable.ensures.checked c.args.lexemes.now c.requires.valid c.loop-place.place
+    (states_of index c.loop-place.stack.items) c.loop-place.invariant.fed c.index-lexemes-place.result c.loop-place-test.true c.index-lexemes-place.is
     (index c.tok_id.result) (ap index c.tok_id.ensures.token) _ (states_of index c.feed_if_expected.new.stack.items)
     c.in_ok-feed_if_expected.ensures c.if-not-branch.false in
     record { stack = more.0; fed = more.1 }
