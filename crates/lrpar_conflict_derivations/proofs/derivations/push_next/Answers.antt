@@ -1,13 +1,12 @@
-use Rattle.std.proofs.Common.{◌≡◌, ◌+◌, ◌∷◌, ◌++◌, ◌∙◌, ℕ, List, [], refl, sym, ap, subst, length}
+use Rattle.std.proofs.Common.{◌≡◌, ◌+◌, ◌∷◌, ◌++◌, ◌∙◌, ℕ, [], refl, sym, ap, subst, length}
 use Rattle.std.proofs.lemmas.List.{length-map, map-append}
 use Rattle.lrpar_grammar.specs.Grammar.{Terminal, prod_len, symbols_of}
 use Rattle.lrpar_grammar.specs.Symbols.{symbol_of}
 use Rattle.lrpar_table_rows.specs.Graph.{HasItem}
 use Rattle.lrpar_table_sentences.specs.Moves.{MoveOf, Takes, move_of, moves_in}
 use Rattle.lrpar_table_sentences.specs.Texts.{AreTreesOf, HaveTrees}
-use Rattle.lrpar_table_sentences.specs.AccessStrings.{StepOf, symbols_in}
+use Rattle.lrpar_table_sentences.specs.AccessStrings.{symbols_in}
 use Rattle.lrpar_table_sentences.specs.declared.moves.Move.TheVariants.{Take}
-use Rattle.lrpar_conflict_derivations.specs.Completion.{HasFinished}
 use Rattle.lrpar_conflict_derivations.specs.Derivation.{Derives}
 use Rattle.lrpar_conflict_derivations.specs.Stored.{IsCalledFor}
 use Rattle.lrpar_conflict_derivations.proofs.DerivationLemmas.{complete_known, reduce_done, shift_done}
