@@ -7,6 +7,8 @@ use Rattle.std.proofs.lemmas.Bool.{cases_lt, false≢true}
 use Rattle.std.proofs.lemmas.List.{get_or-append_right, get_or-map, get_or_default, length-append, length-map}
 use Rattle.std.proofs.lemmas.List.Elements.{All-get_or, Contains-push_cases}
 use Rattle.lrpar_grammar_places.specs.declared.span.PIdx.{PIdx}
+use Rattle.lrpar_grammar_places.specs.declared.span.StIdx.{StIdx}
+use Rattle.lrpar_grammar_places.specs.declared.span.TIdx.{TIdx}
 use Rattle.lrpar_grammar.specs.Grammar.{Grammar, GrammarSymbol, IsWellFormed, Nonterminal, Terminal, prod_len, prods_len, rule_of, rules_len, start_prod, symbols_of}
 use Rattle.lrpar_table_rows.specs.Graph.{Graph, HasCore, HasItem, ItemOf, graph_len, item_at}
 use Rattle.lrpar_table_rows.specs.PlainItems.{core_of}
@@ -19,6 +21,8 @@ use Rattle.lrpar_table_items.specs.Canonical.{AreSame, IsCanonical, sets_of}
 use Rattle.lrpar_table_items.specs.ItemSets.{Adds, IsAdvanced, IsReachedBy, IsStartItem, Own}
 use Rattle.lrpar_table_build.proofs.ReachedLemmas.{closure_each, head_after, known_by_symbol, reached_items, symbol_listed}
 use Rattle.lrpar_conflict_derivations.specs.ClosureLinks.{AreKernelItemsNoted, AreLinks, AreNoted, AreNotedOf, ArePut, HasLink, IsAsked, IsKernelItem, IsKernelLink, IsLink, IsLinkBelow, IsNotedCore, IsStep, LinkAll, LinkOf, PassesOn, link_at, link_of, links_of}
+use Rattle.lrpar_conflict_derivations.specs.Stored.{AreMarked, PutsFromKernel, links_in}
+use Rattle.lrpar_conflict_derivations.specs.declared.closure_links.Found.{Found}
 use Rattle.lrpar_conflict_derivations.specs.declared.closure_links.Link.{Link}
 use Rattle.lrpar_conflict_derivations.proofs.MarkLemmas.{AreNoted-kept, link-append, put_then, put_weaker}
 
@@ -350,3 +354,9 @@ cores_fail Bad before after p k is none fails q j has_one bad =
       | inl early ↦ none q j early bad
       | inr same ↦ fails (subst (λ (c : ℕ × ℕ). Bad c.0 c.1) (sym same) bad)
     ]
+
+-- the marks are right, links from kernel items were appended, and the start item has its links
+abbrev pub IsKernelNoted : {S : Type 0} → (S → ℕ) → Grammar → Graph → StIdx S → TIdx S → Found S → Found S → Type 0
+IsKernelNoted index g graph state token old found =
+    AreMarked index g found × PutsFromKernel index g graph state token old found
+    × IsNotedCore g (sets_of graph (index state.0)) (index token.0) (links_in index found) (start_prod g) 0

@@ -1,6 +1,6 @@
 -- The facts of this crate, said of values as the code has them: states, tokens and productions by their indexes, and lists of moves, of steps
 -- and of links.
-use Rattle.std.specs.Prelude.{◌≡◌, ◌<◌, ◌≤◌, ◌++◌, ◌⊎◌, ℕ, Bool, List, [], ◌∷◌, MatchOption, Option, Some, length, map, slice_get}
+use Rattle.std.specs.Prelude.{◌≡◌, ◌≢◌, ◌<◌, ◌≤◌, ◌++◌, ◌&&◌, ◌⊎◌, ℕ, Bool, false, IfSome, List, [], ◌∷◌, MatchOption, Option, Some, length, map, nat_lt, slice_get}
 use Rattle.std.specs.declared.vec.Vec.{Vec}
 use Rattle.lrpar_grammar_places.specs.declared.span.PIdx.{PIdx}
 use Rattle.lrpar_grammar_places.specs.declared.span.RIdx.{RIdx}
@@ -10,14 +10,16 @@ use Rattle.lrpar_grammar_places.specs.declared.span.TIdx.{TIdx}
 use Rattle.lrpar_grammar.specs.declared.token_set.TokenSet.{TokenSet}
 use Rattle.lrpar_grammar.specs.Grammar.{Grammar, GrammarSymbol, Terminal, prod_len, prods_len, rule_of, rules_len, start_prod, symbols_of}
 use Rattle.lrpar_grammar.specs.Symbols.{symbol_of}
+use Rattle.lrpar_grammar.specs.Tokens.{has}
 use Rattle.lrpar_grammar.specs.Tree.{Forest}
 use Rattle.lrpar_table_rows.specs.Graph.{Graph, HasCore, graph_len}
 use Rattle.lrpar_table_rows.specs.Safe.{GoesBy}
-use Rattle.lrpar_table_rows.specs.Table.{Table}
+use Rattle.lrpar_table_rows.specs.Table.{Table, states_len}
 use Rattle.lrpar_table_first.specs.FirstRows.{dummy_lookahead, rows_of}
 use Rattle.lrpar_table_items.specs.Canonical.{HasAfterDot, sets_of}
+use Rattle.lrpar_table_build.specs.Built.{IsBuilt}
 use Rattle.lrpar_table_sentences.specs.Choices.{AreShortest}
-use Rattle.lrpar_table_sentences.specs.Moves.{Makes, forest_moves, move_of, moves_in}
+use Rattle.lrpar_table_sentences.specs.Moves.{MoveOf, Makes, forest_moves, move_of, moves_in}
 use Rattle.lrpar_table_sentences.specs.Reachable.{IsReachableRule}
 use Rattle.lrpar_table_sentences.specs.Texts.{AreTreesOf}
 use Rattle.lrpar_table_sentences.specs.AccessStrings.{StepOf, StepsLead, steps_of, symbols_in}
@@ -25,7 +27,7 @@ use Rattle.lrpar_table_sentences.specs.declared.moves.Move.{Move}
 use Rattle.lrpar_table_sentences.specs.declared.transitions.Step.{Step}
 use Rattle.lrpar_conflict_derivations.specs.ClosureLinks.{AreKernelItemsNoted, AreLinked, AreLinks, AreMarks, AreNoted, AreNotedOf, ArePut, HasLink, IsAsked, IsKernelItem, IsKernelLink, IsLinkBelow, IsNotedCore, IsOwnStep, IsPutMarked, IsStep, LinkOf, LinkRule, link_at, link_of, links_of}
 use Rattle.lrpar_conflict_derivations.specs.Completion.{AreUpLinks, EndsLink, HasFinished, HasItemFor, HasRest, IsAccessPath, LeadsToKernel, state_before, up_of}
-use Rattle.lrpar_conflict_derivations.specs.Conflict.{CallsFor}
+use Rattle.lrpar_conflict_derivations.specs.Conflict.{CallsFor, IsConflict, IsExampleOf, conflict_of}
 use Rattle.lrpar_conflict_derivations.specs.Derivation.{Derives}
 use Rattle.lrpar_conflict_derivations.specs.Example.{ExampleOf, IsExample, IsFront, IsMadeOf, IsShortestFront}
 use Rattle.lrpar_conflict_derivations.specs.Replay.{Replays}
@@ -45,6 +47,34 @@ IsTokenOf index g token = index token.0 < dummy_lookahead g
 abbrev pub IsStateOf : {S : Type 0} → (S → ℕ) → Graph → StIdx S → Type 0
 IsStateOf index graph state = index state.0 < graph_len graph
 
+-- the state is one of the search's graph
+abbrev pub IsStateIn : {S : Type 0} → (S → ℕ) → Context S → StIdx S → Type 0
+IsStateIn index context state = IsStateOf index context.graph.now state
+
+-- the first of the states is one of the search's table
+abbrev pub HasFirst : {S : Type 0} → (S → ℕ) → Context S → StIdx S × StIdx S → Type 0
+HasFirst index context states = index states.0.0 < states_len context.table.now
+
+-- the symbol is the token
+abbrev pub IsToken : {S : Type 0} → (S → ℕ) → Symbol S → TIdx S → Type 0
+IsToken index symbol token = symbol_of index symbol ≡ Terminal (index token.0)
+
+-- the symbols are the same
+abbrev pub IsSameSymbol : {S : Type 0} → (S → ℕ) → Symbol S → Symbol S → Type 0
+IsSameSymbol index one other = symbol_of index one ≡ symbol_of index other
+
+-- the moves are the same
+abbrev pub IsSameMove : {S : Type 0} → (S → ℕ) → Move S → Move S → Type 0
+IsSameMove index one other = move_of index one ≡ move_of index other
+
+-- the two derivations go on with two moves
+abbrev pub HasTwoMoves : {S : Type 0} → (S → ℕ) → Conflict S → Type 0
+HasTwoMoves index conflict = move_of index conflict.one ≢ move_of index conflict.other
+
+-- whether the set has the token; the dummy lookahead is none
+abbrev pub has_token : TokenSet → ℕ → ℕ → Bool
+has_token set token dummy = nat_lt token dummy && has set.bits.items token
+
 -- the tokens that moves shift
 abbrev pub text_of : {S : Type 0} → (S → ℕ) → List (Move S) → List ℕ
 text_of index moves = tokens_in (moves_in index moves)
@@ -58,8 +88,8 @@ abbrev pub HaveAsMany : {S : Type 0} → (S → ℕ) → List (Move S) → List 
 HaveAsMany index one other = length (text_of index one) ≡ length (text_of index other)
 
 -- the moves are those of one list, and then those of another
-abbrev pub AreJoined : {S : Type 0} → (S → ℕ) → List (Move S) → List (Move S) → List (Move S) → Type 0
-AreJoined index front moves all = moves_in index all ≡ moves_in index front ++ moves_in index moves
+abbrev pub AreJoined : {S A : Type 0} → (S → ℕ) → List (Move S) → List (Move S) → Vec (Move S) A → Type 0
+AreJoined index front moves = λ all. moves_in index all.items ≡ moves_in index front ++ moves_in index moves
 
 -- the counterexample is made of these moves
 abbrev pub IsExampleBy : {S : Type 0} → (S → ℕ) → List (Move S) → List (Move S) → List (Move S) → Bool → ℕ → ExampleOf → Type 0
@@ -78,8 +108,8 @@ abbrev pub AreSameTokens : {S : Type 0} → (S → ℕ) → List (TIdx S) → Li
 AreSameTokens index one other = token_numbers index one ≡ token_numbers index other
 
 -- the tokens are those that the moves shift
-abbrev pub AreTokensOf : {S : Type 0} → (S → ℕ) → List (Move S) → List (TIdx S) → Type 0
-AreTokensOf index moves tokens = token_numbers index tokens ≡ text_of index moves
+abbrev pub AreTokensOf : {S A : Type 0} → (S → ℕ) → List (Move S) → Vec (TIdx S) A → Type 0
+AreTokensOf index moves = λ tokens. token_numbers index tokens.items ≡ text_of index moves
 
 -- the moves begin with this one
 abbrev pub BeginBy : {S : Type 0} → (S → ℕ) → Move S → List (Move S) → Type 0
@@ -93,14 +123,22 @@ ShiftFirst index token moves = ShiftsFirst (index token.0) (moves_in index moves
 abbrev pub HasSentences : {S : Type 0} → ℕ → Context S → Type 0
 HasSentences most context = AreShortest context.grm.now most context.shortest.now
 
+-- the search's table and item sets were built of its grammar
+abbrev pub IsBuiltIn : {S : Type 0} → Context S → Type 0
+IsBuiltIn context = IsBuilt context.grm.now context.graph.now context.table.now
+
+-- items of the conflict's state call for both moves at the token
+abbrev pub IsConflictIn : {S : Type 0} → (S → ℕ) → Context S → Conflict S → Type 0
+IsConflictIn index context conflict = IsConflict context.grm.now context.graph.now (conflict_of index conflict)
+
 -- moves of trees of the symbols were appended
 abbrev pub AppendsTrees : {S : Type 0} → (S → ℕ) → Grammar → List (Symbol S) → List (Move S) → List (Move S) → Type 0
 AppendsTrees index g symbols old new =
     (trees : Forest ℕ) × AreTreesOf g (map (symbol_of index) symbols) trees × (moves_in index new ≡ moves_in index old ++ forest_moves trees)
 
 -- the symbols are those of the steps
-abbrev pub AreSymbolsOf : {S : Type 0} → (S → ℕ) → List (Step S) → List (Symbol S) → Type 0
-AreSymbolsOf index steps symbols = map (symbol_of index) symbols ≡ symbols_in (steps_of index steps)
+abbrev pub AreSymbolsOf : {S A : Type 0} → (S → ℕ) → List (Step S) → Vec (Symbol S) A → Type 0
+AreSymbolsOf index steps = λ symbols. map (symbol_of index) symbols.items ≡ symbols_in (steps_of index steps)
 
 -- a move was replayed over a stack of symbols
 abbrev pub ReplaysMove : {S : Type 0} → (S → ℕ) → Grammar → Move S → List (Symbol S) → List (Symbol S) → Type 0
@@ -126,10 +164,19 @@ AreAccessPath index g graph steps last = IsAccessPath g graph (steps_of index st
 abbrev pub AreMovesTo : {S : Type 0} → (S → ℕ) → Grammar → Graph → StIdx S → List (Step S) → List (Move S) → Type 0
 AreMovesTo index g graph state steps moves = IsFront g graph (index state.0) (steps_of index steps) (moves_in index moves)
 
+-- none, or such moves
+abbrev pub FindsMovesTo : {S A : Type 0} → (S → ℕ) → Context S → StIdx S → List (Step S) → Option (Vec (Move S) A) → Type 0
+FindsMovesTo index context state steps = λ found.
+    IfSome found (λ moves. AreMovesTo index context.grm.now context.graph.now state steps moves.items)
+
 -- the same, and the text of the moves is a shortest access string
 abbrev pub IsFrontTo : {S : Type 0} → (S → ℕ) → Grammar → Graph → StIdx S → Front S → Type 0
 IsFrontTo index g graph state front =
     IsShortestFront g graph (index state.0) (steps_of index front.steps.items) (moves_in index front.moves.items)
+
+-- the front is one to the conflict's state
+abbrev pub IsFrontIn : {S : Type 0} → (S → ℕ) → Context S → Conflict S → Front S → Type 0
+IsFrontIn index context conflict front = IsFrontTo index context.grm.now context.graph.now conflict.state front
 
 -- a counterexample of the conflict, in each state to which the first moves lead, and the others by a shortest access path
 abbrev pub IsExampleAfter : {S : Type 0} → (S → ℕ) → Grammar → Conflict S → List (Move S) → List (Move S) → ExampleOf → Type 0
@@ -137,6 +184,20 @@ IsExampleAfter index g conflict front short x =
     (graph : Graph) (s : ℕ) (steps short_steps : List StepOf) → IsFront g graph s steps (moves_in index front)
     → IsShortestFront g graph s short_steps (moves_in index short)
     → IsExample g graph s (index conflict.token.0) (move_of index conflict.one) (move_of index conflict.other) x
+
+-- none, or such a counterexample with this bound
+abbrev pub FindsExampleAfter : {S : Type 0} → (S → ℕ) → Grammar → Conflict S → List (Move S) → List (Move S) → ℕ → Option ExampleOf → Type 0
+FindsExampleAfter index g conflict front short bound = λ found.
+    IfSome found (λ x. IsExampleAfter index g conflict front short x × (x.bound ≡ bound))
+
+-- none, or a counterexample of the conflict with this bound
+abbrev pub FindsExampleOf : {S : Type 0} → (S → ℕ) → Grammar → Graph → Conflict S → ℕ → Option ExampleOf → Type 0
+FindsExampleOf index g graph conflict bound = λ found.
+    IfSome found (λ x. IsExampleOf g graph (conflict_of index conflict) x × (x.bound ≡ bound))
+
+-- the same of the search's grammar and item sets
+abbrev pub FindsExample : {S : Type 0} → (S → ℕ) → Context S → Conflict S → ℕ → Option ExampleOf → Type 0
+FindsExample index context conflict bound = FindsExampleOf index context.grm.now context.graph.now conflict bound
 
 -- the token comes after the core's dot
 abbrev pub IsCoreBefore : {S : Type 0} → (S → ℕ) → Grammar → PIdx S × ℕ → TIdx S → Type 0
@@ -169,6 +230,17 @@ GoesOnBy index g front token next moves = DerivesBy index g front.steps.items fr
 abbrev pub HasItemWith : {S : Type 0} → (S → ℕ) → Graph → StIdx S → TIdx S → PIdx S × ℕ → Bool → Type 0
 HasItemWith index graph state token core asked = HasItemFor graph (index state.0) (index token.0) (index core.0.0) core.1 asked
 
+-- this is such an item, with whether the token is asked for
+abbrev pub IsItemWith : {S : Type 0} → (S → ℕ) → Graph → StIdx S → TIdx S → (PIdx S × ℕ) × Bool → Type 0
+IsItemWith index graph state token = λ begun. HasItemWith index graph state token begun.0 begun.1
+
+-- moves were appended after which a derivation goes on from the item: whatever completes it then derives by this move, at the token
+abbrev pub BeginsNext : {S : Type 0} → (S → ℕ) → Grammar → TIdx S → Move S → List (Move S) → List (Move S) → (PIdx S × ℕ) × Bool → Type 0
+BeginsNext index g token next old new = λ begun.
+    (steps : List StepOf) (all : List MoveOf)
+    → HasFinished g (index token.0) (symbols_in steps) (index begun.0.0.0) begun.0.1 begun.1 (moves_in index new) all
+    → Derives g steps (index token.0) (moves_in index old) (move_of index next) all
+
 -- moves were appended that complete a tree from the item, after trees of the steps' symbols
 abbrev pub Completes : {S : Type 0} → (S → ℕ) → Grammar → List (Step S) → PIdx S × ℕ → Bool → TIdx S → List (Move S) → List (Move S) → Type 0
 Completes index g steps item asked token old new =
@@ -179,8 +251,8 @@ abbrev pub IsStepLink : {S : Type 0} → (S → ℕ) → Grammar → TIdx S → 
 IsStepLink index g token link = IsOwnStep g (index token.0) (link_of index link)
 
 -- the production's rule is reachable
-abbrev pub IsReachedProd : {S : Type 0} → (S → ℕ) → Grammar → PIdx S → Type 0
-IsReachedProd index g prod = IsReachableRule g (rule_of g (index prod.0))
+abbrev pub IsReached : {S : Type 0} → (S → ℕ) → Grammar → PIdx S → Type 0
+IsReached index g prod = IsReachableRule g (rule_of g (index prod.0))
 
 -- the links lead up to kernel items
 abbrev pub LeadUp : {S : Type 0} → (S → ℕ) → Grammar → TIdx S → List (Link S) → Type 0
@@ -195,8 +267,8 @@ abbrev pub IsTopOf : {S : Type 0} → (S → ℕ) → Grammar → List (Link S) 
 IsTopOf index g links up = EndsLink g (links_of index links) (up_of index up)
 
 -- the state before this step, or the last one
-abbrev pub IsStateBefore : {S : Type 0} → (S → ℕ) → List (Step S) → StIdx S → ℕ → StIdx S → Type 0
-IsStateBefore index steps last place state = index state.0 ≡ state_before (steps_of index steps) (index last.0) place
+abbrev pub IsStateAt : {S : Type 0} → (S → ℕ) → List (Step S) → StIdx S → ℕ → StIdx S → Type 0
+IsStateAt index steps last place state = index state.0 ≡ state_before (steps_of index steps) (index last.0) place
 
 -- moves of trees of the symbols after the link's rule were appended
 abbrev pub AppendsRest : {S : Type 0} → (S → ℕ) → Grammar → TIdx S → Link S → List (Move S) → List (Move S) → Type 0
@@ -242,6 +314,26 @@ IsKernelCore index g graph state core =
 -- the links that were found
 abbrev pub links_in : {S : Type 0} → (S → ℕ) → Found S → List LinkOf
 links_in index found = links_of index found.links.items
+
+-- there are none
+abbrev pub HasNoLinks : {S : Type 0} → (S → ℕ) → Found S → Type 0
+HasNoLinks index = λ found. links_in index found ≡ []
+
+-- there is one with this number
+abbrev pub HasLinkAt : {S : Type 0} → Found S → ℕ → Type 0
+HasLinkAt found at = at < length found.links.items
+
+-- there are marks for this number of rules
+abbrev pub HasRoom : {A : Type 0} → ℕ → Vec Bool A → Type 0
+HasRoom rules = λ marks. length marks.items ≡ rules
+
+-- no mark is set
+abbrev pub HasNoMarks : {A : Type 0} → Vec Bool A → Type 0
+HasNoMarks marks = (r : ℕ) → has marks.items r ≡ false
+
+-- one of the marks is for the link's rule
+abbrev pub HasPlaceFor : {S A : Type 0} → (S → ℕ) → Vec Bool A → Link S → Type 0
+HasPlaceFor index marks link = index link.rule.0 < length marks.items
 
 -- of this number of rules those with links are marked
 abbrev pub AreMarkedOf : {S : Type 0} → (S → ℕ) → ℕ → Found S → Type 0
@@ -306,11 +398,6 @@ PutsFromKernel index g graph state token old new =
 abbrev pub NotesKernelCore : {S : Type 0} → (S → ℕ) → Grammar → Graph → StIdx S → TIdx S → PIdx S × ℕ → Found S → Type 0
 NotesKernelCore index g graph state token core found =
     IsNotedCore g (sets_of graph (index state.0)) (index token.0) (links_in index found) (index core.0.0) core.1
-
--- the rule after the dot of the start item has its links, if the state has that item
-abbrev pub NotesStart : {S : Type 0} → (S → ℕ) → Grammar → Graph → StIdx S → TIdx S → Found S → Type 0
-NotesStart index g graph state token found =
-    IsNotedCore g (sets_of graph (index state.0)) (index token.0) (links_in index found) (start_prod g) 0
 
 -- the rule after the dot of each kernel item has its links
 abbrev pub NotesKernel : {S : Type 0} → (S → ℕ) → Grammar → Graph → StIdx S → TIdx S → Found S → Type 0

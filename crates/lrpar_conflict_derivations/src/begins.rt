@@ -1,8 +1,8 @@
 //! Which tokens symbols begin with.
-ghost use Rattle.std.specs.Prelude.{◌≡◌, ◌<◌, ◌&&◌, All, length, map, nat_lt};
+ghost use Rattle.std.specs.Prelude.{◌≡◌, ◌<◌, All, length, map};
 ghost use Rattle.lrpar_grammar.specs.Symbols.{symbol_of};
-ghost use Rattle.lrpar_grammar.specs.Tokens.{has};
 ghost use Rattle.lrpar_table_first.specs.FirstRows.{IsSymbolBelow, begins, rows_of};
+ghost use Rattle.lrpar_conflict_derivations.specs.Stored.{has_token};
 
 use lrpar_grammar::span::{StorageIndex, Symbol};
 use lrpar_grammar::token_set::TokenSet;
@@ -37,7 +37,7 @@ pub(crate) fn can_begin<StorageT: StorageIndex>(
 
 // Whether the set has the token. The dummy lookahead is none.
 fn has_token(set: &TokenSet, token: usize, dummy: usize) -> bool
-    ensures { result ≡ (nat_lt token dummy && has set.now.bits.items token) }
+    ensures { result ≡ has_token set.now token dummy }
 {
     token < dummy && set.contains(token)
 }

@@ -1,10 +1,9 @@
 //! Why a state has the items that come by closure: for each of their rules, an item with the rule after its dot.
-ghost use Rattle.std.specs.Prelude.{◌≡◌, ◌<◌, ◌≤◌, ◌⊎◌, ℕ, [], IfOk, OnOk, false, true, length};
+ghost use Rattle.std.specs.Prelude.{◌<◌, ◌≤◌, ◌⊎◌, IfOk, OnOk, length};
 ghost use Rattle.std.specs.Bool.{OnFalse, OnTrue};
 ghost use Rattle.lrpar_grammar.specs.Grammar.{IsWellFormed, rules_len};
-ghost use Rattle.lrpar_grammar.specs.Tokens.{has};
 ghost use Rattle.lrpar_table_first.specs.FirstRows.{AreFirsts, rows_of};
-ghost use Rattle.lrpar_conflict_derivations.specs.Stored.{AreLinksOf, AreMarked, AreMarkedOf, AsksFor, HasMarkFor, HasMarks, HaveLinks, IsCoreOf, IsKernelCore, IsLinked, IsTokenOf, KeepsMarks, LinkItemsOf, NotesBelow, NotesCore, NotesKernel, NotesKernelCore, NotesStart, PutsBelow, PutsFromKernel, PutsLink, PutsMarked, PutsSteps, links_in};
+ghost use Rattle.lrpar_conflict_derivations.specs.Stored.{AreLinksOf, AreMarked, AreMarkedOf, AsksFor, HasLinkAt, HasMarkFor, HasMarks, HasNoLinks, HasNoMarks, HasPlaceFor, HasRoom, HaveLinks, IsCoreOf, IsKernelCore, IsLinked, IsTokenOf, KeepsMarks, LinkItemsOf, NotesBelow, NotesCore, NotesKernel, NotesKernelCore, PutsBelow, PutsFromKernel, PutsLink, PutsMarked, PutsSteps};
 
 use crate::begins::can_begin;
 use lrpar_grammar::grammar::YaccGrammar;
@@ -80,7 +79,7 @@ fn goes_on<StorageT: StorageIndex>(
 ) -> bool
     requires marks { HasMarks StorageT.index found.now }
     requires rule { HasMarkFor StorageT.index found.now rule }
-    ensures more { OnTrue result (at < length found.now.links.items) }
+    ensures more { OnTrue result (HasLinkAt found.now at) }
     ensures done { OnFalse result ((length found.now.links.items ≤ at) ⊎ IsLinked StorageT.index found.now rule asked) }
 {
     if is_linked(found, rule, asked) {
@@ -110,7 +109,7 @@ fn nothing_found<StorageT: StorageIndex>(
     alloc: Global,
     rules: usize,
 ) -> Result<Found<StorageT>, AllocError>
-    ensures none { IfOk result (λ found. links_in StorageT.index found ≡ []) }
+    ensures none { IfOk result (HasNoLinks StorageT.index) }
     ensures marks { IfOk result (AreMarkedOf StorageT.index rules) }
 {
     Ok(Found {
@@ -122,8 +121,8 @@ fn nothing_found<StorageT: StorageIndex>(
 
 // Marks for this number of rules, none of which is set.
 fn unmarked(alloc: Global, rules: usize) -> Result<Vec<bool>, AllocError>
-    ensures room { IfOk result (λ marks. length marks.items ≡ rules) }
-    ensures none { IfOk result (λ marks. (r : ℕ) → has marks.items r ≡ false) }
+    ensures room { IfOk result (HasRoom rules) }
+    ensures none { IfOk result HasNoMarks }
 {
     vec![in alloc; false; rules]
 }
@@ -143,31 +142,12 @@ fn note_kernel<StorageT: StorageIndex>(
     ensures put { OnOk result (PutsFromKernel StorageT.index grm.now graph.now state token found.old found.new) }
     ensures noted { OnOk result (NotesKernel StorageT.index grm.now graph.now state token found.new) }
 {
-    note_start(grm, firsts, graph, state, token, found)?;
-    for core in graph.begun_cores(state) {
-        note_core(grm, firsts, graph, state, token, *core, found)?;
-    }
-    Ok(())
-}
-
-// Links what comes by closure with the start item, if the state has it.
-fn note_start<StorageT: StorageIndex>(
-    grm: &YaccGrammar<StorageT>,
-    firsts: &[TokenSet],
-    graph: &StateGraph<StorageT>,
-    state: StIdx<StorageT>,
-    token: TIdx<StorageT>,
-    found: &mut Found<StorageT>,
-) -> Result<(), AllocError>
-    requires asked { AsksFor StorageT.index grm.now firsts.now graph.now state token }
-    requires marks { AreMarked StorageT.index grm.now found.old }
-    ensures marks { OnOk result (AreMarked StorageT.index grm.now found.new) }
-    ensures put { OnOk result (PutsFromKernel StorageT.index grm.now graph.now state token found.old found.new) }
-    ensures noted { OnOk result (NotesStart StorageT.index grm.now graph.now state token found.new) }
-{
     let start = grm.start_prod();
     if graph.has_core(state, start, 0) {
         note_core(grm, firsts, graph, state, token, (start, 0), found)?;
+    }
+    for core in graph.begun_cores(state) {
+        note_core(grm, firsts, graph, state, token, *core, found)?;
     }
     Ok(())
 }
@@ -294,7 +274,7 @@ fn put<StorageT: StorageIndex>(
     links: &mut Vec<Link<StorageT>>,
     marks: &mut Vec<bool>,
 ) -> Result<(), AllocError>
-    requires rule { StorageT.index link.rule.0 < length marks.old.items }
+    requires rule { HasPlaceFor StorageT.index marks.old link }
     requires linked { HaveLinks StorageT.index links.old.items marks.old.items link.asked }
     ensures { OnOk result (PutsMarked StorageT.index link links.old.items links.new.items marks.old.items marks.new.items) }
 {

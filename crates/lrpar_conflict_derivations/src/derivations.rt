@@ -1,16 +1,16 @@
 //! Derivations that go on from an access path: by a reduction, or by a shift.
-ghost use Rattle.std.specs.Prelude.{◌≡◌, ◌<◌, ◌↔◌, IfOk, IsTrue};
-ghost use Rattle.lrpar_grammar.specs.Grammar.{IsWellFormed, Terminal, prods_len};
-ghost use Rattle.lrpar_grammar.specs.Symbols.{symbol_of};
+ghost use Rattle.std.specs.Prelude.{◌<◌, ◌↔◌, IfOk, IsTrue};
+ghost use Rattle.lrpar_grammar.specs.Grammar.{IsWellFormed, prods_len};
 ghost use Rattle.lrpar_table_first.specs.FirstRows.{rows_of};
 ghost use Rattle.lrpar_table_items.specs.Canonical.{IsCanonical};
-ghost use Rattle.lrpar_table_sentences.specs.declared.moves.Move.TheVariants.{Make, Take};
+ghost use Rattle.lrpar_table_sentences.specs.Choices.{AreShortest};
+ghost use Rattle.lrpar_table_sentences.specs.Reachable.{EachReachableHasTree};
 ghost use Rattle.lrpar_conflict_derivations.specs.Completion.{CanComplete};
-ghost use Rattle.lrpar_conflict_derivations.specs.Stored.{AreAccessPath, DerivesBy, FindsCoreBefore, HasCoreBefore, IsCalledFor, IsCoreBefore, IsStateOf, IsTokenOf};
+ghost use Rattle.lrpar_conflict_derivations.specs.Stored.{AreAccessPath, BeginsNext, DerivesBy, FindsCoreBefore, IsCalledFor, IsCoreBefore, IsItemWith, IsStateOf, IsToken, IsTokenOf};
 
 use crate::completion::complete_derivation;
 use lrpar_grammar::grammar::YaccGrammar;
-use lrpar_grammar::span::{PIdx, StIdx, StorageIndex, Symbol, TIdx};
+use lrpar_grammar::span::{StIdx, StorageIndex, Symbol, TIdx};
 use lrpar_grammar::token_set::TokenSet;
 use lrpar_table_rows::table::{Core, StateGraph};
 use lrpar_table_sentences::access_strings::Step;
@@ -39,83 +39,45 @@ pub(crate) fn derive<StorageT: StorageIndex>(
     requires called { IsCalledFor StorageT.index grm.now graph.now last token next }
     ensures { IfOk result (λ moves. DerivesBy StorageT.index grm.now steps.now front.now token next moves.items) }
 {
+    let mut moves = Vec::from_slice(alloc, front)?;
+    let (item, asked) = push_next(alloc, grm, shortest, graph, last, token, next, &mut moves)?;
+    complete_derivation(
+        alloc, grm, firsts, shortest, graph, steps, last, item, asked, token, &mut moves,
+    )?;
+    Ok(moves)
+}
+
+// Appends the moves by which a derivation goes on at the token, up to the end of an item of the state: none for a reduction; for a shift it,
+// and the moves of trees of the symbols after the token. Returns the item, and whether the token is its lookahead.
+fn push_next<StorageT: StorageIndex>(
+    alloc: Global,
+    grm: &YaccGrammar<StorageT>,
+    shortest: &Shortest<StorageT>,
+    graph: &StateGraph<StorageT>,
+    state: StIdx<StorageT>,
+    token: TIdx<StorageT>,
+    next: Move<StorageT>,
+    out: &mut Vec<Move<StorageT>>,
+) -> Result<(Core<StorageT>, bool), AllocError>
+    requires shortest { AreShortest grm.now usize.MAX shortest.now }
+    requires each { EachReachableHasTree grm.now }
+    requires canonical { IsCanonical grm.now graph.now }
+    requires state { IsStateOf StorageT.index graph.now state }
+    requires called { IsCalledFor StorageT.index grm.now graph.now state token next }
+    ensures item { IfOk result (IsItemWith StorageT.index graph.now state token) }
+    ensures begun { IfOk result (BeginsNext StorageT.index grm.now token next out.old.items out.new.items) }
+{
+    // The proof needs that the grammar is well-formed.
+    let _start = grm.start_prod();
     match next {
-        Move::Make(prod) => derive_by_reduce(
-            alloc, grm, firsts, shortest, graph, steps, last, front, token, prod,
-        ),
-        Move::Take(_) => derive_by_shift(
-            alloc, grm, firsts, shortest, graph, steps, last, front, token,
-        ),
+        Move::Make(prod) => Ok(((prod, grm.prod(prod).len()), true)),
+        Move::Take(_) => {
+            let core = core_before(grm, graph, state, token).unwrap();
+            out.push(Move::Take(token))?;
+            shortest.push_all_moves(alloc, out, grm, &grm.prod(core.0)[core.1 + 1..])?;
+            Ok((core, false))
+        }
     }
-}
-
-// The moves of such a derivation, which reduces the production next. The last state has a complete item of it, with the token.
-fn derive_by_reduce<StorageT: StorageIndex>(
-    alloc: Global,
-    grm: &YaccGrammar<StorageT>,
-    firsts: &[TokenSet],
-    shortest: &Shortest<StorageT>,
-    graph: &StateGraph<StorageT>,
-    steps: &[Step<StorageT>],
-    last: StIdx<StorageT>,
-    front: &[Move<StorageT>],
-    token: TIdx<StorageT>,
-    prod: PIdx<StorageT>,
-) -> Result<Vec<Move<StorageT>>, AllocError>
-    requires parts { CanComplete grm.now graph.now usize.MAX (rows_of firsts.now) shortest.now }
-    requires token { IsTokenOf StorageT.index grm.now token }
-    requires access_path { AreAccessPath StorageT.index grm.now graph.now steps.now last }
-    requires last { IsStateOf StorageT.index graph.now last }
-    requires called { IsCalledFor StorageT.index grm.now graph.now last token (Make prod) }
-    ensures { IfOk result (λ moves. DerivesBy StorageT.index grm.now steps.now front.now token (Make prod) moves.items) }
-{
-    let _start = grm.start_prod();
-    let mut moves = Vec::from_slice(alloc, front)?;
-    let dot = grm.prod(prod).len();
-    complete_derivation(
-        alloc,
-        grm,
-        firsts,
-        shortest,
-        graph,
-        steps,
-        last,
-        (prod, dot),
-        true,
-        token,
-        &mut moves,
-    )?;
-    Ok(moves)
-}
-
-// The moves of such a derivation, which shifts the token next. It comes after the dot of an item of the last state.
-fn derive_by_shift<StorageT: StorageIndex>(
-    alloc: Global,
-    grm: &YaccGrammar<StorageT>,
-    firsts: &[TokenSet],
-    shortest: &Shortest<StorageT>,
-    graph: &StateGraph<StorageT>,
-    steps: &[Step<StorageT>],
-    last: StIdx<StorageT>,
-    front: &[Move<StorageT>],
-    token: TIdx<StorageT>,
-) -> Result<Vec<Move<StorageT>>, AllocError>
-    requires parts { CanComplete grm.now graph.now usize.MAX (rows_of firsts.now) shortest.now }
-    requires token { IsTokenOf StorageT.index grm.now token }
-    requires access_path { AreAccessPath StorageT.index grm.now graph.now steps.now last }
-    requires last { IsStateOf StorageT.index graph.now last }
-    requires before { HasCoreBefore StorageT.index grm.now graph.now last token }
-    ensures { IfOk result (λ moves. DerivesBy StorageT.index grm.now steps.now front.now token (Take token) moves.items) }
-{
-    let _start = grm.start_prod();
-    let core = core_before(grm, graph, last, token).unwrap();
-    let mut moves = Vec::from_slice(alloc, front)?;
-    moves.push(Move::Take(token))?;
-    shortest.push_all_moves(alloc, &mut moves, grm, &grm.prod(core.0)[core.1 + 1..])?;
-    complete_derivation(
-        alloc, grm, firsts, shortest, graph, steps, last, core, false, token, &mut moves,
-    )?;
-    Ok(moves)
 }
 
 // A core of the state with the token after its dot.
@@ -153,7 +115,7 @@ fn has_after_dot<StorageT: StorageIndex>(
 
 // Whether the symbol is the token.
 fn is_token<StorageT: StorageIndex>(symbol: Symbol<StorageT>, token: TIdx<StorageT>) -> bool
-    ensures { IsTrue result ↔ (symbol_of StorageT.index symbol ≡ Terminal (StorageT.index token.0)) }
+    ensures { IsTrue result ↔ IsToken StorageT.index symbol token }
 {
     match symbol {
         Symbol::Token(own) => usize::from(own) == usize::from(token),

@@ -162,7 +162,7 @@ pub fn tokens_of<StorageT: StorageIndex>(
     alloc: Global,
     moves: &[Move<StorageT>],
 ) -> Result<Vec<TIdx<StorageT>>, AllocError>
-    ensures { IfOk result (λ tokens. AreTokensOf StorageT.index moves.now tokens.items) }
+    ensures { IfOk result (AreTokensOf StorageT.index moves.now) }
 {
     let mut tokens = Vec::new(alloc);
     for step in moves {

@@ -1,5 +1,5 @@
 //! Counterexamples of the conflicts of a table that was built of a grammar.
-ghost use Rattle.std.specs.Prelude.{◌≡◌, ◌<◌, IfErr, IfOk, IfSome};
+ghost use Rattle.std.specs.Prelude.{◌≡◌, ◌<◌, IfErr, IfOk};
 ghost use Rattle.std.specs.List.{Contains};
 ghost use Rattle.lrpar_table_rows.specs.PlainConflicts.{reduce_reduce_of, shift_reduce_of};
 ghost use Rattle.lrpar_table_build.specs.Built.{IsBuilt};
@@ -8,8 +8,8 @@ ghost use Rattle.lrpar_table_sentences.specs.Choices.{AreShortest};
 ghost use Rattle.lrpar_table_sentences.specs.Reachable.{EachReachableHasTree};
 ghost use Rattle.lrpar_conflict_derivations.specs.Completion.{CanComplete};
 ghost use Rattle.lrpar_conflict_derivations.specs.Conflict.{IsConflict, IsExampleOf, IsReduceReduceExample, IsShiftReduceExample, conflict_of};
-ghost use Rattle.lrpar_conflict_derivations.specs.Example.{AreExamplesFor, IsExampleFault};
-ghost use Rattle.lrpar_conflict_derivations.specs.Stored.{GoesOnBy, IsCalledFor, IsFrontTo, IsStateOf};
+ghost use Rattle.lrpar_conflict_derivations.specs.Example.{AreExamplesFor, IsFault};
+ghost use Rattle.lrpar_conflict_derivations.specs.Stored.{FindsExampleOf, GoesOnBy, IsCalledFor, IsFrontTo, IsStateOf};
 
 use crate::context::Context;
 use crate::derivations::derive;
@@ -87,7 +87,7 @@ impl<StorageT: StorageIndex> Examples<StorageT> {
     ) -> Result<Self, ExampleFault<StorageT>>
         requires built { IsBuilt grm.now sgraph.now stable.now }
         ensures made { IfOk result (AreExamplesFor grm.now sgraph.now stable.now usize.MAX) }
-        ensures refused { IfErr result (IsExampleFault StorageT.index grm.now) }
+        ensures refused { IfErr result (IsFault StorageT.index grm.now) }
     {
         let firsts = first_sets(alloc, grm)?;
         let shortest = productive(alloc, grm)?;
@@ -258,6 +258,7 @@ impl<StorageT: StorageIndex> Examples<StorageT> {
         requires state { IsStateOf StorageT.index sgraph.now state }
         ensures { IfOk result (IsFrontTo StorageT.index grm.now sgraph.now state) }
     {
+        // The proof needs that the grammar is well-formed and that the table is closed.
         let _start = grm.start_prod();
         let _states = stable.states_len();
         let mut steps = Vec::new(alloc);
@@ -266,6 +267,7 @@ impl<StorageT: StorageIndex> Examples<StorageT> {
         let mut moves = Vec::new(alloc);
         self.shortest
             .push_all_moves(alloc, &mut moves, grm, &symbols)?;
+        // The proof needs that the moves, and so the access string, are no longer than a number of the machine.
         let _moves = moves.as_slice();
         let _len = moves.len();
         Ok(Front { steps, moves })
@@ -286,8 +288,7 @@ impl<StorageT: StorageIndex> Examples<StorageT> {
         requires made { AreExamplesFor grm.now sgraph.now stable.now usize.MAX self.now }
         requires conflict { IsConflict grm.now sgraph.now (conflict_of StorageT.index conflict.now) }
         requires front { IsFrontTo StorageT.index grm.now sgraph.now conflict.now.state front.now }
-        ensures example { IfOk result (λ found. IfSome found (IsExampleOf grm.now sgraph.now (conflict_of StorageT.index conflict.now))) }
-        ensures bound { IfOk result (λ found. IfSome found (λ x. x.bound ≡ bound)) }
+        ensures { IfOk result (FindsExampleOf StorageT.index grm.now sgraph.now conflict.now bound) }
     {
         let context = Context {
             grm,
@@ -300,17 +301,7 @@ impl<StorageT: StorageIndex> Examples<StorageT> {
         };
         match find_unifying(alloc, &context, conflict, bound)? {
             None => Ok(None),
-            Some(text) => validated(
-                alloc,
-                grm,
-                sgraph,
-                stable,
-                &self.shortest,
-                front,
-                conflict,
-                &text,
-                bound,
-            ),
+            Some(text) => validated(alloc, &context, front, conflict, &text, bound),
         }
     }
 }
@@ -322,7 +313,7 @@ fn productive<StorageT: StorageIndex>(
 ) -> Result<Shortest<StorageT>, ExampleFault<StorageT>>
     ensures shortest { IfOk result (AreShortest grm.now usize.MAX) }
     ensures each { IfOk result (λ _. EachReachableHasTree grm.now) }
-    ensures refused { IfErr result (IsExampleFault StorageT.index grm.now) }
+    ensures refused { IfErr result (IsFault StorageT.index grm.now) }
 {
     let shortest = Shortest::new(alloc, grm)?;
     match shortest.unproductive(alloc, grm)? {

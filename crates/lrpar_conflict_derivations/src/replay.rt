@@ -1,10 +1,9 @@
 //! Whether moves are those of a tree: they are replayed over a stack of symbols.
 ghost use Rattle.std.specs.Prelude.{◌≡◌, ◌<◌, IfOk, IsTrue, length};
 ghost use Rattle.lrpar_grammar.specs.Grammar.{prods_len};
-ghost use Rattle.lrpar_grammar.specs.Symbols.{symbol_of};
 ghost use Rattle.lrpar_table_sentences.specs.Moves.{moves_in};
 ghost use Rattle.lrpar_conflict_derivations.specs.Replay.{AreOfTree};
-ghost use Rattle.lrpar_conflict_derivations.specs.Stored.{AreSameSymbols, IsAlone, ReplaysMove, ReplaysReduction};
+ghost use Rattle.lrpar_conflict_derivations.specs.Stored.{AreSameSymbols, IsAlone, IsSameSymbol, ReplaysMove, ReplaysReduction};
 
 use lrpar_grammar::grammar::YaccGrammar;
 use lrpar_grammar::span::{PIdx, StorageIndex, Symbol};
@@ -99,7 +98,7 @@ fn are_same<StorageT: StorageIndex>(one: &[Symbol<StorageT>], other: &[Symbol<St
 
 // Whether the symbols are the same.
 fn is_same<StorageT: StorageIndex>(one: Symbol<StorageT>, other: Symbol<StorageT>) -> bool
-    ensures { IsTrue result → symbol_of StorageT.index one ≡ symbol_of StorageT.index other }
+    ensures { IsTrue result → IsSameSymbol StorageT.index one other }
 {
     match one {
         Symbol::Token(own) => match other {

@@ -1,7 +1,6 @@
 //! Configurations of two derivations with a common text, and the search over them.
-ghost use Rattle.std.specs.Prelude.{◌<◌, IfSome};
-ghost use Rattle.lrpar_table_rows.specs.Table.{states_len};
-ghost use Rattle.lrpar_conflict_derivations.specs.Stored.{IsStateOf};
+ghost use Rattle.std.specs.Prelude.{IfSome};
+ghost use Rattle.lrpar_conflict_derivations.specs.Stored.{HasFirst, IsStateIn};
 
 use crate::access_paths::AccessPaths;
 use crate::context::Context;
@@ -350,7 +349,7 @@ impl<StorageT: StorageIndex> Search<StorageT> {
 
     // The state of the level, if it is one of the graph.
     fn state_at(&self, context: &Context<'_, StorageT>, level: usize) -> Option<StIdx<StorageT>>
-        ensures { IfSome result (IsStateOf StorageT.index context.now.graph.now) }
+        ensures { IfSome result (IsStateIn StorageT.index context.now) }
     {
         let state = self.stacks.get(level)?.state;
         if usize::from(state) < context.graph.states_len() {
@@ -366,7 +365,7 @@ impl<StorageT: StorageIndex> Search<StorageT> {
         context: &Context<'_, StorageT>,
         configuration: &Configuration<StorageT>,
     ) -> Option<(StIdx<StorageT>, StIdx<StorageT>)>
-        ensures { IfSome result (λ states. StorageT.index states.0.0 < states_len context.now.table.now) }
+        ensures { IfSome result (HasFirst StorageT.index context.now) }
     {
         let one = self.state_at(context, configuration.one)?;
         let other = self.state_at(context, configuration.other)?;

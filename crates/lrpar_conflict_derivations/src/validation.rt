@@ -1,14 +1,11 @@
 //! Whether the result of the search is a unifying counterexample.
-ghost use Rattle.std.specs.Prelude.{◌≡◌, ◌≢◌, ◌<◌, IfOk, IfSome, IsTrue};
+ghost use Rattle.std.specs.Prelude.{◌<◌, IfOk, IfSome, IsTrue};
 ghost use Rattle.lrpar_grammar.specs.Grammar.{Terminal};
 ghost use Rattle.lrpar_grammar.specs.Symbols.{symbol_of};
 ghost use Rattle.lrpar_table_rows.specs.Table.{states_len};
-ghost use Rattle.lrpar_table_build.specs.Built.{IsBuilt};
-ghost use Rattle.lrpar_table_sentences.specs.Choices.{AreShortest};
-ghost use Rattle.lrpar_table_sentences.specs.Moves.{move_of};
-ghost use Rattle.lrpar_conflict_derivations.specs.Conflict.{IsConflict, IsExampleOf, conflict_of};
-ghost use Rattle.lrpar_conflict_derivations.specs.Stored.{AreJoined, AreMovesTo, AreSymbolsOf, BeginBy, Goes, IsExampleAfter, IsFrontTo, LeadFromStart, ShiftFirst};
+ghost use Rattle.lrpar_conflict_derivations.specs.Stored.{AreJoined, AreSymbolsOf, BeginBy, FindsExample, FindsExampleAfter, FindsMovesTo, Goes, HasSentences, HasTwoMoves, IsBuiltIn, IsConflictIn, IsFrontIn, IsSameMove, LeadFromStart, ShiftFirst};
 
+use crate::context::Context;
 use crate::example::{Example, have_as_many};
 use crate::examples::Front;
 use crate::minimal_sentences::push_sentences;
@@ -17,69 +14,61 @@ use crate::search::Conflict;
 use crate::unifying::Unifying;
 use lrpar_grammar::grammar::YaccGrammar;
 use lrpar_grammar::span::{StIdx, StorageIndex, Symbol, TIdx};
-use lrpar_table_rows::table::{Action, StateGraph, StateTable};
+use lrpar_table_rows::table::{Action, StateTable};
 use lrpar_table_sentences::access_strings::Step;
 use lrpar_table_sentences::moves::Move;
-use lrpar_table_sentences::shortest::Shortest;
 use std::alloc::{AllocError, Global};
 
 /// The counterexample of an access path and two derivations that were found, if the path leads to the conflict's state, and the derivations
 /// begin with its moves, shift its token next, are those of trees, and have one text. `front` is that of a shortest access path.
 pub(crate) fn validated<StorageT: StorageIndex>(
     alloc: Global,
-    grm: &YaccGrammar<StorageT>,
-    graph: &StateGraph<StorageT>,
-    table: &StateTable<StorageT>,
-    shortest: &Shortest<StorageT>,
+    context: &Context<'_, StorageT>,
     front: &Front<StorageT>,
     conflict: &Conflict<StorageT>,
     text: &Unifying<StorageT>,
     bound: usize,
 ) -> Result<Option<Example<StorageT>>, AllocError>
-    requires built { IsBuilt grm.now graph.now table.now }
-    requires shortest { AreShortest grm.now usize.MAX shortest.now }
-    requires conflict { IsConflict grm.now graph.now (conflict_of StorageT.index conflict.now) }
-    requires front { IsFrontTo StorageT.index grm.now graph.now conflict.now.state front.now }
-    ensures example { IfOk result (λ found. IfSome found (IsExampleOf grm.now graph.now (conflict_of StorageT.index conflict.now))) }
-    ensures bound { IfOk result (λ found. IfSome found (λ x. x.bound ≡ bound)) }
+    requires built { IsBuiltIn context.now }
+    requires shortest { HasSentences usize.MAX context.now }
+    requires conflict { IsConflictIn StorageT.index context.now conflict.now }
+    requires front { IsFrontIn StorageT.index context.now conflict.now front.now }
+    ensures { IfOk result (FindsExample StorageT.index context.now conflict.now bound) }
 {
-    match path_moves(
-        alloc,
-        grm,
-        graph,
-        table,
-        shortest,
-        &text.steps,
-        conflict.state,
-    )? {
+    match path_moves(alloc, context, &text.steps, conflict.state)? {
         None => Ok(None),
-        Some(moves) => example_of(alloc, grm, &moves, &front.moves, conflict, text, bound),
+        Some(moves) => example_of(
+            alloc,
+            context.grm,
+            &moves,
+            &front.moves,
+            conflict,
+            text,
+            bound,
+        ),
     }
 }
 
 // The moves of minimal sentences' trees of the steps' symbols, if the steps lead to the state.
 fn path_moves<StorageT: StorageIndex>(
     alloc: Global,
-    grm: &YaccGrammar<StorageT>,
-    graph: &StateGraph<StorageT>,
-    table: &StateTable<StorageT>,
-    shortest: &Shortest<StorageT>,
+    context: &Context<'_, StorageT>,
     steps: &[Step<StorageT>],
     state: StIdx<StorageT>,
 ) -> Result<Option<Vec<Move<StorageT>>>, AllocError>
-    requires built { IsBuilt grm.now graph.now table.now }
-    requires shortest { AreShortest grm.now usize.MAX shortest.now }
-    ensures { IfOk result (λ found. IfSome found (λ moves. AreMovesTo StorageT.index grm.now graph.now state steps.now moves.items)) }
+    requires built { IsBuiltIn context.now }
+    requires shortest { HasSentences usize.MAX context.now }
+    ensures { IfOk result (FindsMovesTo StorageT.index context.now state steps.now) }
 {
-    let _start = grm.start_prod();
-    let _graph = graph.states_len();
-    let _states = table.states_len();
-    if !lead(table, steps, state) {
+    // The proof needs that the grammar is well-formed and that the table is closed.
+    let _start = context.grm.start_prod();
+    let _states = context.table.states_len();
+    if !lead(context.table, steps, state) {
         return Ok(None);
     }
     let symbols = symbols_of(alloc, steps)?;
     let mut moves = Vec::new(alloc);
-    if !push_sentences(alloc, grm, shortest, &symbols, &mut moves)? {
+    if !push_sentences(alloc, context.grm, context.shortest, &symbols, &mut moves)? {
         return Ok(None);
     }
     Ok(Some(moves))
@@ -160,9 +149,8 @@ fn example_of<StorageT: StorageIndex>(
     text: &Unifying<StorageT>,
     bound: usize,
 ) -> Result<Option<Example<StorageT>>, AllocError>
-    requires { move_of StorageT.index conflict.now.one ≢ move_of StorageT.index conflict.now.other }
-    ensures example { IfOk result (λ found. IfSome found (IsExampleAfter StorageT.index grm.now conflict.now front.now short.now)) }
-    ensures bound { IfOk result (λ found. IfSome found (λ x. x.bound ≡ bound)) }
+    requires { HasTwoMoves StorageT.index conflict.now }
+    ensures { IfOk result (FindsExampleAfter StorageT.index grm.now conflict.now front.now short.now bound) }
 {
     let (first, second) = (text.first.as_slice(), text.second.as_slice());
     let (one, other, token) = (conflict.one, conflict.other, conflict.token);
@@ -219,7 +207,7 @@ fn shifts_first<StorageT: StorageIndex>(moves: &[Move<StorageT>], token: TIdx<St
 
 // Whether the moves are the same.
 fn is_same<StorageT: StorageIndex>(one: Move<StorageT>, other: Move<StorageT>) -> bool
-    ensures { IsTrue result → move_of StorageT.index one ≡ move_of StorageT.index other }
+    ensures { IsTrue result → IsSameMove StorageT.index one other }
 {
     match one {
         Move::Take(own) => match other {
@@ -239,7 +227,7 @@ fn joined<StorageT: StorageIndex>(
     front: &[Move<StorageT>],
     moves: &[Move<StorageT>],
 ) -> Result<Vec<Move<StorageT>>, AllocError>
-    ensures { IfOk result (λ all. AreJoined StorageT.index front.now moves.now all.items) }
+    ensures { IfOk result (AreJoined StorageT.index front.now moves.now) }
 {
     let mut all = Vec::from_slice(alloc, front)?;
     all.extend_from_slice(moves)?;
@@ -251,7 +239,7 @@ pub(crate) fn symbols_of<StorageT: StorageIndex>(
     alloc: Global,
     steps: &[Step<StorageT>],
 ) -> Result<Vec<Symbol<StorageT>>, AllocError>
-    ensures { IfOk result (λ symbols. AreSymbolsOf StorageT.index steps.now symbols.items) }
+    ensures { IfOk result (AreSymbolsOf StorageT.index steps.now) }
 {
     let mut symbols = Vec::with_capacity(alloc, steps.len())?;
     for step in steps {

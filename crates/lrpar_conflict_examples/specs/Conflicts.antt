@@ -1,6 +1,7 @@
 -- The conflicts of a table, and their counterexamples.
 use Rattle.std.specs.Prelude.{◌≡◌, ℕ, List, ◌++◌, map}
 use Rattle.std.specs.List.{AllByRecursion, Contains}
+use Rattle.std.specs.declared.vec.Vec.{Vec}
 use Rattle.lrpar_grammar.specs.Grammar.{Grammar}
 use Rattle.lrpar_table_rows.specs.Graph.{Graph}
 use Rattle.lrpar_table_rows.specs.Table.{ConflictLists, ReduceReduce, ShiftReduce, Table}
@@ -50,10 +51,30 @@ conflicts_in lists = map of_reductions lists.reduce_reduce ++ map of_shift lists
 abbrev pub listed_of : Table → List ConflictOf
 listed_of table = conflicts_in (lists_in table.conflicts)
 
+-- the table lists these conflicts, in any order
+abbrev pub Lists : {S : Type 0} → (S → ℕ) → Table → List (UnmetConflict S) → Type 0
+Lists index table conflicts = AreAmong (unmet_in index conflicts) (listed_of table)
+
+-- it lists this one
+abbrev pub ListsOne : {S : Type 0} → (S → ℕ) → Table → UnmetConflict S → Type 0
+ListsOne index table conflict = Contains (listed_of table) (unmet_of index conflict)
+
+-- these are all that it lists, in order
+abbrev pub AreAllListed : {S A : Type 0} → (S → ℕ) → Table → Vec (UnmetConflict S) A → Type 0
+AreAllListed index table = λ conflicts. unmet_in index conflicts.items ≡ listed_of table
+
+-- two conflicts are at the same token, with the same moves
+abbrev pub AreLike : {S : Type 0} → (S → ℕ) → UnmetConflict S → UnmetConflict S → Type 0
+AreLike index one other = AreAlike (unmet_of index one) (unmet_of index other)
+
 -- a conflict with its counterexample
 pub record ConflictExampleOf : Type 0 where
   pub conflict : ConflictOf
   pub example : ExampleOf
+
+-- a conflict of the code with this counterexample
+abbrev pub with_example : {S : Type 0} → (S → ℕ) → UnmetConflict S → ExampleOf → ConflictExampleOf
+with_example index conflict x = record { conflict = unmet_of index conflict; example = x }
 
 -- the counterexample is one of the conflict, and its search had this bound
 abbrev pub IsCounterexample : Grammar → Graph → ℕ → ConflictOf → ExampleOf → Type 0
@@ -66,6 +87,14 @@ IsExampleOf g graph bound x = IsCounterexample g graph bound x.conflict x.exampl
 pub record AreExamplesOf (g : Grammar) (graph : Graph) (bound : ℕ) (conflicts : List ConflictOf) (examples : List ConflictExampleOf) : Type 0 where
   pub conflicts_are : map (λ (x : ConflictExampleOf). x.conflict) examples ≡ conflicts
   pub each : AllByRecursion (IsExampleOf g graph bound) examples
+
+-- a counterexample of each of the code's conflicts, in order
+abbrev pub HasExamples : {S A : Type 0} → (S → ℕ) → Grammar → Graph → ℕ → List (UnmetConflict S) → Vec ConflictExampleOf A → Type 0
+HasExamples index g graph bound conflicts = λ examples. AreExamplesOf g graph bound (unmet_in index conflicts) examples.items
+
+-- a counterexample of each conflict that the table lists, in order
+abbrev pub HasExamplesOf : {A : Type 0} → Grammar → Graph → Table → ℕ → Vec ConflictExampleOf A → Type 0
+HasExamplesOf g graph table bound = λ examples. AreExamplesOf g graph bound (listed_of table) examples.items
 
 -- a table that was built of the grammar, and what counterexamples of its conflicts need
 pub record IsReady (g : Grammar) (graph : Graph) (table : Table) (largest : ℕ) (shared : ExamplesOf) : Type 0 where

@@ -1,11 +1,18 @@
 -- Counterexamples fit a grammar: what they name is of it, and their derivations are those of trees.
 use Rattle.std.specs.Prelude.{◌≡◌, ◌<◌, ℕ, List, ◌++◌}
 use Rattle.std.specs.List.{AllByRecursion}
+use Rattle.std.specs.declared.vec.Vec.{Vec}
 use Rattle.lrpar_grammar.specs.Grammar.{Grammar, tokens_len}
 use Rattle.lrpar_grammar.specs.Tree.{Tree, leaves}
-use Rattle.lrpar_table_sentences.specs.Moves.{MoveOf}
+use Rattle.lrpar_grammar_places.specs.declared.span.TIdx.{TIdx}
+use Rattle.lrpar_table_sentences.specs.Moves.{MoveOf, moves_in}
+use Rattle.lrpar_table_sentences.specs.declared.moves.Move.{Move}
+use Rattle.lrpar_conflict_derivations.specs.Example.{ExampleOf}
+use Rattle.lrpar_conflict_derivations.specs.Texts.{token_numbers}
 use Rattle.lrpar_conflict_examples.specs.Conflicts.{ConflictExampleOf}
 use Rattle.lrpar_conflict_examples.specs.Fits.{AreMovesOf, IsMoveOf}
+use Rattle.lrpar_conflict_examples.specs.declared.merged.MergedConflicts.{MergedConflicts}
+use Rattle.lrpar_conflict_examples.specs.declared.unresolved.ConflictsLeft.{ConflictsLeft}
 
 -- the moves are those of a tree, whose text begins with `before`
 pub record DerivesFrom (g : Grammar) (before : List ℕ) (moves : List MoveOf) : Type 0 where
@@ -25,3 +32,23 @@ pub record ExampleFits (g : Grammar) (x : ConflictExampleOf) : Type 0 where
 -- each counterexample does
 abbrev pub ExamplesFit : Grammar → List ConflictExampleOf → Type 0
 ExamplesFit g examples = AllByRecursion (ExampleFits g) examples
+
+-- the same of a vector of them
+abbrev pub AllFit : {A : Type 0} → Grammar → Vec ConflictExampleOf A → Type 0
+AllFit g = λ examples. ExamplesFit g examples.items
+
+-- the same of the counterexamples of conflicts that precedences leave
+abbrev pub LeftFit : {S : Type 0} → Grammar → ConflictsLeft S → Type 0
+LeftFit g = λ left. ExamplesFit g left.examples.items
+
+-- the same of those of conflicts of merged item sets
+abbrev pub MergedFit : {S : Type 0} → Grammar → MergedConflicts S → Type 0
+MergedFit g = λ found. ExamplesFit g found.examples.items
+
+-- the code's moves are those of a tree, whose text begins with the tokens
+abbrev pub Continue : {S : Type 0} → (S → ℕ) → Grammar → List (TIdx S) → List (Move S) → Type 0
+Continue index g before moves = DerivesFrom g (token_numbers index before) (moves_in index moves)
+
+-- so are those of the second derivation
+abbrev pub SecondFits : Grammar → ExampleOf → Type 0
+SecondFits g x = DerivesFrom g x.before x.second

@@ -1,5 +1,5 @@
 -- Counterexamples of the conflicts of a table with merged item sets.
-use Rattle.std.specs.Prelude.{◌≡◌, ℕ, List, ◌∷◌, ◌++◌, Contains, IsPermutation, map}
+use Rattle.std.specs.Prelude.{◌≡◌, ℕ, List, [], ◌∷◌, ◌++◌, Contains, IsPermutation, map}
 use Rattle.lrpar_grammar.specs.Grammar.{Grammar}
 use Rattle.lrpar_conflict_examples.specs.Conflicts.{AreAlike, ConflictExampleOf, ConflictOf, IsReady, listed_of, unmet_in, unmet_of}
 use Rattle.lrpar_conflict_examples.specs.declared.merged.Canonical.{Canonical}
@@ -14,6 +14,14 @@ conflicts_of index found =
 -- the conflict was added to one of them
 abbrev pub AddsConflict : {S : Type 0} → (S → ℕ) → ConflictOf → MergedConflicts S → MergedConflicts S → Type 0
 AddsConflict index conflict old new = IsPermutation (conflict ∷ conflicts_of index old) (conflicts_of index new)
+
+-- the counterexamples are as before
+abbrev pub KeepsExamples : {S : Type 0} → MergedConflicts S → MergedConflicts S → Type 0
+KeepsExamples old new = new.examples ≡ old.examples
+
+-- this conflict with its counterexample was added to them
+abbrev pub AddsExample : {S : Type 0} → ConflictExampleOf → MergedConflicts S → MergedConflicts S → Type 0
+AddsExample x old new = new.examples.items ≡ old.examples.items ++ x ∷ []
 
 -- the canonical table of the grammar, its conflicts, and what their counterexamples need
 pub record IsCanonicalOf {S : Type 0} (index : S → ℕ) (g : Grammar) (largest : ℕ) (canonical : Canonical S) : Type 0 where

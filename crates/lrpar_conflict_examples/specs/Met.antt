@@ -3,18 +3,26 @@
 use Rattle.std.specs.Prelude.{◌≡◌, ◌<◌, ◌↔◌, ◌&&◌, ◌||◌, ◌==◌, ℕ, All, Bool, true, false, Contains, IsTrue, List, [], ◌∷◌, ◌++◌, Option, Some, None, filter, length, map, not, if◌then◌else◌}
 use Rattle.std.specs.List.{flat_map, list_any, range_with_len}
 use Rattle.std.specs.Option.{is_none}
+use Rattle.std.specs.declared.vec.Vec.{Vec}
+use Rattle.lrpar_grammar_places.specs.declared.span.PIdx.{PIdx}
+use Rattle.lrpar_grammar_places.specs.declared.span.StIdx.{StIdx}
+use Rattle.lrpar_grammar_places.specs.declared.span.TIdx.{TIdx}
 use Rattle.lrpar_grammar.specs.Grammar.{Grammar}
 use Rattle.lrpar_grammar.specs.Tokens.{has}
-use Rattle.lrpar_table_first.specs.FirstRows.{row_at}
+use Rattle.lrpar_grammar.specs.declared.token_set.TokenSet.{TokenSet}
+use Rattle.lrpar_table_first.specs.FirstRows.{HoldNothing, row_at, rows_of}
 use Rattle.lrpar_table_precedence.specs.Precedence.{PrecedenceLists, resolution_of}
 use Rattle.lrpar_table_precedence.specs.declared.precedence.Resolution.{Resolution}
 use Rattle.lrpar_table_precedence.specs.declared.precedence.Resolution.TheVariants.{Shift, Reduce, Error}
 use Rattle.lrpar_table_rows.specs.Graph.{Graph}
+use Rattle.lrpar_table_rows.specs.declared.rows.Action.{Action}
+use Rattle.lrpar_table_rows.specs.PlainConflicts.{shift_reduce_of}
+use Rattle.lrpar_table_rows.specs.PlainRows.{plain_action}
 use Rattle.lrpar_table_rows.specs.Table.{ConflictLists, ShiftReduce, Table, TableAction, ShiftTo, ReduceBy, Accepts, Fails, action_of, actions_at, goto_of, gotos_at, states_len}
 use Rattle.lrpar_table_build.specs.BuilderLaws.{lists_in}
 use Rattle.lrpar_table_items.specs.Resolution.{unresolved}
 use Rattle.lrpar_table_sentences.specs.Moves.{MoveOf, Makes, Takes}
-use Rattle.lrpar_table_sentences.specs.Reachable.{is_marked}
+use Rattle.lrpar_table_sentences.specs.Reachable.{is_marked, unmarked}
 use Rattle.lrpar_conflict_examples.specs.Conflicts.{AreExamplesOf, ConflictOf, of_reductions, of_shift, unmet_in}
 use Rattle.lrpar_conflict_examples.specs.declared.unresolved.ConflictsLeft.{ConflictsLeft}
 use Rattle.lrpar_conflict_examples.specs.declared.unresolved.UnmetConflict.{UnmetConflict}
@@ -63,6 +71,17 @@ pub record AreMet (precedences : PrecedenceLists) (table : Table) (marks : List 
   pub states : length marks ≡ states_len table
   pub exact : (s : ℕ) → IsTrue (is_marked marks s) ↔ IsMet precedences table s
 
+-- the same of a vector of marks, and the marks of a start by any precedences
+abbrev pub MarksMet : {A : Type 0} → PrecedenceLists → Table → Vec Bool A → Type 0
+MarksMet precedences table = λ marks. AreMet precedences table marks.items
+
+abbrev pub MarksStart : {A : Type 0} → Table → Vec Bool A → Type 0
+MarksStart table = λ marks. AreMarksByAny table marks.items
+
+-- fewer are left without a mark
+abbrev pub MarksMore : List Bool → List Bool → Type 0
+MarksMore old new = unmarked new < unmarked old
+
 -- a step between two states of the table
 pub record IsStepOf (precedences : PrecedenceLists) (table : Table) (edge : ℕ × ℕ) : Type 0 where
   pub from : edge.0 < states_len table
@@ -73,6 +92,10 @@ pub record IsStepOf (precedences : PrecedenceLists) (table : Table) (edge : ℕ 
 pub record AreSteps (precedences : PrecedenceLists) (table : Table) (edges : List (ℕ × ℕ)) : Type 0 where
   pub sound : (edge : ℕ × ℕ) → Contains edges edge → IsStepOf precedences table edge
   pub all : (s next : ℕ) → s < states_len table → IsStep precedences table s next → Contains edges (s, next)
+
+-- the same of a vector of steps
+abbrev pub HasSteps : {A : Type 0} → PrecedenceLists → Table → Vec (ℕ × ℕ) A → Type 0
+HasSteps precedences table = λ edges. AreSteps precedences table edges.items
 
 -- if these are a table's steps, and the old list has marks of its states, so does the new one
 abbrev pub KeepsMarks : List (ℕ × ℕ) → List Bool → List Bool → Type 0
@@ -88,7 +111,18 @@ StepKeepsMarks s next old new =
 abbrev pub MarksNext : List Bool → ℕ × ℕ → Type 0
 MarksNext marks edge = IsTrue (is_marked marks edge.0) → IsTrue (is_marked marks edge.1)
 
--- both ends of each step are below n
+-- so does the step from state s to state next
+abbrev pub MarksStep : ℕ → ℕ → List Bool → Type 0
+MarksStep s next marks = MarksNext marks (s, next)
+
+-- so does each of these steps
+abbrev pub AreClosed : List (ℕ × ℕ) → List Bool → Type 0
+AreClosed edges marks = All (MarksNext marks) edges
+
+-- both ends of a step are below n, and both ends of each step
+abbrev pub IsWithin : ℕ → ℕ × ℕ → Type 0
+IsWithin n edge = (edge.0 < n) × (edge.1 < n)
+
 abbrev pub AreWithin : ℕ → List (ℕ × ℕ) → Type 0
 AreWithin n edges = All (λ edge. (edge.0 < n) × (edge.1 < n)) edges
 
@@ -100,10 +134,33 @@ HasRoomOf old new = map (λ row. length row) new ≡ map (λ row. length row) ol
 abbrev pub AddsTokens : List (List Bool) → List (List Bool) → (ℕ → ℕ → Bool) → Type 0
 AddsTokens old new test = (s t : ℕ) → t < length (row_at old s) → has (row_at new s) t ≡ (has (row_at old s) t || test s t)
 
+-- so many sets with room for this number of tokens, and without any
+abbrev pub HasSets : {A : Type 0} → ℕ → Vec TokenSet A → Type 0
+HasSets len = λ sets. length sets.items ≡ len
+
+abbrev pub HaveRoom : {A : Type 0} → ℕ → Vec TokenSet A → Type 0
+HaveRoom tokens = λ sets. All (λ row. length row ≡ tokens) (rows_of sets.items)
+
+abbrev pub AreEmpty : {A : Type 0} → Vec TokenSet A → Type 0
+AreEmpty = λ sets. HoldNothing (rows_of sets.items)
+
+-- this token was added to the set of this state
+abbrev pub AddsToken : ℕ → ℕ → List TokenSet → List TokenSet → Type 0
+AddsToken state token old new = AddsTokens (rows_of old) (rows_of new) (λ s t. (state == s) && (token == t))
+
+-- the tokens of the conflicts whose shift precedences take away were added to the sets of their states
+abbrev pub AddsTaken : {S : Type 0} → (S → ℕ) → PrecedenceLists → List (TIdx S × PIdx S × StIdx S) → List TokenSet → List TokenSet → Type 0
+AddsTaken index precedences conflicts old new =
+    AddsTokens (rows_of old) (rows_of new) (take_away precedences (map (shift_reduce_of index) conflicts))
+
 -- for each state the tokens whose shift precedences take away
 pub record AreTakenAway (precedences : PrecedenceLists) (table : Table) (rows : List (List Bool)) : Type 0 where
   pub states : length rows ≡ states_len table
   pub exact : (s t : ℕ) → s < states_len table → t < table.tokens → has (row_at rows s) t ≡ is_taken_away precedences table s t
+
+-- the same of sets
+abbrev pub TakesAway : {A : Type 0} → PrecedenceLists → Table → Vec TokenSet A → Type 0
+TakesAway precedences table = λ sets. AreTakenAway precedences table (rows_of sets.items)
 
 -- the step by an action at a token, if it is a shift that isn't taken away
 abbrev pub shift_step : List Bool → ℕ → ℕ → TableAction → List (ℕ × ℕ)
@@ -127,6 +184,13 @@ goto_steps_of table s = goto_steps s (gotos_at table s)
 
 abbrev pub steps_of : List Bool → Table → ℕ → List (ℕ × ℕ)
 steps_of taken table s = shift_steps_of taken table s ++ goto_steps_of table s
+
+-- the step by the code's action was appended, and so were all steps of a state
+abbrev pub AppendsShift : {S A : Type 0} → (S → ℕ) → TokenSet → ℕ → ℕ → Action S → Vec (ℕ × ℕ) A → Vec (ℕ × ℕ) A → Type 0
+AppendsShift index taken s t action old new = new.items ≡ old.items ++ shift_step taken.bits.items s t (plain_action index action)
+
+abbrev pub AppendsSteps : {S A : Type 0} → (S → ℕ) → TokenSet → Table → StIdx S → Vec (ℕ × ℕ) A → Vec (ℕ × ℕ) A → Type 0
+AppendsSteps index taken table s old new = new.items ≡ old.items ++ steps_of taken.bits.items table (index s.0)
 
 -- all steps of the states below n, state by state
 abbrev pub steps_at : Table → List (List Bool) → ℕ → List (ℕ × ℕ)
@@ -160,6 +224,10 @@ is_left precedences x = is_left_between precedences x.first x.second
 pub record AreParted {S : Type 0} (index : S → ℕ) (precedences : PrecedenceLists) (table : Table) (marks : List Bool) (first second : List (UnmetConflict S)) : Type 0 where
   pub met : unmet_in index first ≡ marked_ones marks (conflicts_left precedences (lists_in table.conflicts))
   pub unmet : unmet_in index second ≡ other_ones marks (conflicts_left precedences (lists_in table.conflicts))
+
+-- the same of two vectors
+abbrev pub ArePartedBy : {S A : Type 0} → (S → ℕ) → PrecedenceLists → Table → List Bool → Vec (UnmetConflict S) A × Vec (UnmetConflict S) A → Type 0
+ArePartedBy index precedences table marks = λ lists. AreParted index precedences table marks lists.0.items lists.1.items
 
 -- the conflicts that precedences leave: a counterexample of each in a state that can be met, and the others
 pub record AreConflictsLeft {S : Type 0} (index : S → ℕ) (g : Grammar) (precedences : PrecedenceLists) (graph : Graph) (table : Table) (bound : ℕ)

@@ -1,8 +1,9 @@
 -- The pieces of the text of a tree, from right to left.
-use Rattle.std.specs.Prelude.{◌≡◌, ◌<◌, ℕ, List, [], ◌∷◌, ◌++◌, codes, replicate}
+use Rattle.std.specs.Prelude.{◌≡◌, ◌<◌, ℕ, All, List, [], ◌∷◌, ◌++◌, codes, replicate}
+use Rattle.std.specs.declared.vec.Vec.{Vec}
 use Rattle.lrpar_grammar.specs.Grammar.{Grammar, prod_len, prods_len, tokens_len}
 use Rattle.lrpar_grammar.specs.Tree.{Tree}
-use Rattle.lrpar_table_sentences.specs.Moves.{MoveOf}
+use Rattle.lrpar_table_sentences.specs.Moves.{MoveOf, moves_in}
 use Rattle.lrpar_table_sentences.specs.declared.moves.Move.{Move}
 use Rattle.lrpar_table_sentences.specs.declared.moves.Move.TheVariants.{Make, Take}
 use Rattle.lrpar_conflict_examples.specs.Fits.{AreMovesOf}
@@ -17,6 +18,10 @@ abbrev pub PieceFits : {S : Type 0} → (S → ℕ) → Grammar → Piece S → 
 PieceFits index g (Word t) = index t.0 < tokens_len g
 PieceFits index g (Front p) = index p.0 < prods_len g
 PieceFits index g End = Unit {0}
+
+-- each of them is
+abbrev pub PiecesFit : {S A : Type 0} → (S → ℕ) → Grammar → Vec (Piece S) A → Type 0
+PiecesFit index g = λ pieces. All (PieceFits index g) pieces.items
 
 -- its text
 abbrev pub piece_text : {S : Type 0} → (S → ℕ) → Grammar → Piece S → List ℕ
@@ -33,9 +38,21 @@ backward_text index g (x ∷ xs) = backward_text index g xs ++ piece_text index 
 abbrev pub AreTextOf : {S : Type 0} → (S → ℕ) → Grammar → List MoveOf → List (Piece S) → Type 0
 AreTextOf index g moves pieces = (tree : Tree ℕ) → AreMovesOf g moves tree → backward_text index g pieces ≡ tree_text g tree
 
+-- the same of the code's moves
+abbrev pub AreTextOfMoves : {S A : Type 0} → (S → ℕ) → Grammar → List (Move S) → Vec (Piece S) A → Type 0
+AreTextOfMoves index g moves = λ pieces. AreTextOf index g (moves_in index moves) pieces.items
+
+-- so many trees were appended to what waits
+abbrev pub AddsTrees : {S A : Type 0} → ℕ → Vec (Waiting S) A → Vec (Waiting S) A → Type 0
+AddsTrees count old new = new.items ≡ old.items ++ replicate count waits.Tree
+
 -- a tree whose last move is this one is taken up: a token is all of it; of a node there is the end, and its trees wait, and before them its
 -- front
 abbrev pub Meets : {S : Type 0} → (S → ℕ) → Grammar → Move S → List (Piece S) → List (Piece S) → List (Waiting S) → List (Waiting S) → Type 0
 Meets index g (Take t) old new left waiting = (new ≡ old ++ Word t ∷ []) × (waiting ≡ left)
 Meets index g (Make p) old new left waiting =
     (new ≡ old ++ End ∷ []) × (waiting ≡ (left ++ waits.Before p ∷ []) ++ replicate (prod_len g (index p.0)) waits.Tree)
+
+-- the same of vectors
+abbrev pub MeetsMove : {S A : Type 0} → (S → ℕ) → Grammar → Move S → Vec (Piece S) A → Vec (Piece S) A → Vec (Waiting S) A → Vec (Waiting S) A → Type 0
+MeetsMove index g step old new left waiting = Meets index g step old.items new.items left.items waiting.items

@@ -1,21 +1,32 @@
 -- The texts of counterexamples.
-use Rattle.std.specs.Prelude.{◌≡◌, ℕ, List, [], ◌∷◌, ◌++◌, String, codes, if◌then◌else◌}
+use Rattle.std.specs.Prelude.{◌≡◌, ℕ, List, [], ◌∷◌, ◌++◌, String, codes, string_bytes, if◌then◌else◌}
 use Rattle.std.specs.Fmt.{decimal}
 use Rattle.lrpar_grammar.specs.Grammar.{Grammar}
 use Rattle.lrpar_grammar.specs.Tree.{Tree, leaves}
-use Rattle.lrpar_table_sentences.specs.Moves.{MoveOf}
+use Rattle.lrpar_grammar_places.specs.declared.span.TIdx.{TIdx}
+use Rattle.lrpar_table_sentences.specs.Moves.{MoveOf, move_of, moves_in}
+use Rattle.lrpar_table_sentences.specs.declared.moves.Move.{Move}
 use Rattle.lrpar_conflict_derivations.specs.Example.{ExampleOf}
+use Rattle.lrpar_conflict_derivations.specs.Texts.{token_numbers}
 use Rattle.lrpar_conflict_examples.specs.Conflicts.{ConflictExampleOf}
 use Rattle.lrpar_conflict_examples.specs.Fits.{AreMovesOf}
-use Rattle.lrpar_conflict_examples.specs.Words.{Appends, derivation_text, shown_name, text_line}
+use Rattle.lrpar_conflict_examples.specs.Words.{Appends, derivation_text, shown_name, text_line, tree_text}
 
 -- that the derivations have two texts, and the bound of the search for one
 abbrev pub bound_text : ℕ → List ℕ
 bound_text bound = codes "two texts; one for both not found within " ++ decimal bound
 
+-- it was added
+abbrev pub AddsBound : {A : Type 0} → ℕ → String A → String A → Type 0
+AddsBound bound old new = Appends old new (bound_text bound)
+
 -- how many texts the derivations have
 abbrev pub count_text : ExampleOf → List ℕ
 count_text x = if x.ambiguous then codes "one text, two derivations" else bound_text x.bound
+
+-- it was added
+abbrev pub AddsCount : {A : Type 0} → ExampleOf → String A → String A → Type 0
+AddsCount x old new = Appends old new (count_text x)
 
 -- the first line
 abbrev pub title_text : Grammar → ConflictExampleOf → List ℕ
@@ -54,7 +65,27 @@ AppendsExample g x old new = (text : List ℕ) × IsExampleText g x text × Appe
 abbrev pub AppendsOfTree : {A : Type 0} → Grammar → List MoveOf → (Tree ℕ → List ℕ) → String A → String A → Type 0
 AppendsOfTree g moves text old new = (tree : Tree ℕ) → AreMovesOf g moves tree → Appends old new (text tree)
 
+-- the text of the tree that has the code's moves was added
+abbrev pub AddsTree : {S A : Type 0} → (S → ℕ) → Grammar → List (Move S) → String A → String A → Type 0
+AddsTree index g moves old new = AppendsOfTree g (moves_in index moves) (tree_text g) old new
+
+-- the line of the text of such a tree
+abbrev pub AddsText : {S A : Type 0} → (S → ℕ) → Grammar → List (TIdx S) → List (Move S) → String A → String A → Type 0
+AddsText index g before moves old new = AppendsOfTree g (moves_in index moves) (tree_line g (token_numbers index before)) old new
+
+-- the line of the second derivation's text
+abbrev pub AddsOtherText : {A : Type 0} → Grammar → ExampleOf → String A → String A → Type 0
+AddsOtherText g x old new = AppendsOfTree g x.second (other_tree_line g x) old new
+
+-- the lines of a derivation that goes on with this move
+abbrev pub AddsDerivation : {S A : Type 0} → (S → ℕ) → Grammar → Move S → List (Move S) → String A → String A → Type 0
+AddsDerivation index g next moves old new = AppendsOfTree g (moves_in index moves) (derivation_text g (move_of index next)) old new
+
 -- the texts of counterexamples, one after the other
 abbrev pub AreExampleTexts : Grammar → List ConflictExampleOf → List ℕ → Type 0
 AreExampleTexts g [] text = text ≡ []
 AreExampleTexts g (x ∷ xs) text = (own : List ℕ) × (others : List ℕ) × IsExampleText g x own × AreExampleTexts g xs others × (text ≡ own ++ others)
+
+-- this is such a text
+abbrev pub ShowsExamples : {A : Type 0} → Grammar → List ConflictExampleOf → String A → Type 0
+ShowsExamples g examples = λ text. AreExampleTexts g examples (string_bytes text)

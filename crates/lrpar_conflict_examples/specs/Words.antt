@@ -1,9 +1,13 @@
 -- The texts of tokens, symbols, moves and trees.
-use Rattle.std.specs.Prelude.{◌≡◌, ℕ, List, [], ◌∷◌, ◌++◌, String, codes, drop, length, string_bytes, unwrap_or}
+use Rattle.std.specs.Prelude.{◌≡◌, ℕ, List, [], ◌∷◌, ◌++◌, String, codes, drop, length, map, string_bytes, unwrap_or}
 use Rattle.std.specs.List.{flat_map}
 use Rattle.lrpar_grammar.specs.Grammar.{Grammar, GrammarSymbol, Nonterminal, Terminal, rule_name, rule_of, symbols_of, token_name}
+use Rattle.lrpar_grammar.specs.Symbols.{symbol_of}
 use Rattle.lrpar_grammar.specs.Tree.{Forest, Tree, Branch, Cons, Leaf, Nil}
+use Rattle.lrpar_grammar_places.specs.declared.span.Symbol.{Symbol}
+use Rattle.lrpar_grammar_places.specs.declared.span.TIdx.{TIdx}
 use Rattle.lrpar_table_sentences.specs.Moves.{MoveOf, Makes, Takes}
+use Rattle.lrpar_conflict_derivations.specs.Texts.{token_numbers}
 
 -- the text was added at the end
 abbrev pub Appends : {A : Type 0} → String A → String A → List ℕ → Type 0
@@ -13,12 +17,20 @@ Appends old new text = string_bytes new ≡ string_bytes old ++ text
 abbrev pub shown_name : Grammar → ℕ → List ℕ
 shown_name g t = unwrap_or (token_name g t) (codes "$")
 
+-- the same of the code's tokens
+abbrev pub name_of : {S : Type 0} → (S → ℕ) → Grammar → TIdx S → List ℕ
+name_of index g token = shown_name g (index token.0)
+
 -- tokens, each after a space
 abbrev pub word_text : Grammar → ℕ → List ℕ
 word_text g t = 32 ∷ shown_name g t
 
 abbrev pub words_text : Grammar → List ℕ → List ℕ
 words_text g tokens = flat_map (word_text g) tokens
+
+-- the code's tokens were added so
+abbrev pub AddsWords : {S A : Type 0} → (S → ℕ) → Grammar → List (TIdx S) → String A → String A → Type 0
+AddsWords index g tokens old new = Appends old new (words_text g (token_numbers index tokens))
 
 -- the front of a node: ` S[`
 abbrev pub front_text : Grammar → ℕ → List ℕ
@@ -42,6 +54,10 @@ symbol_text g (Terminal t) = codes " '" ++ shown_name g t ++ codes "'"
 abbrev pub symbols_text : Grammar → List GrammarSymbol → List ℕ
 symbols_text g symbols = flat_map (symbol_text g) symbols
 
+-- the code's symbols were added so
+abbrev pub AddsSymbols : {S A : Type 0} → (S → ℕ) → Grammar → List (Symbol S) → String A → String A → Type 0
+AddsSymbols index g symbols old new = Appends old new (symbols_text g (map (symbol_of index) symbols))
+
 -- a production is reduced: `reduce S: 'i' S`
 abbrev pub reduce_text : Grammar → ℕ → List ℕ
 reduce_text g p = codes "reduce " ++ rule_name g (rule_of g p) ++ codes ":" ++ symbols_text g (symbols_of g p)
@@ -54,6 +70,10 @@ move_text g (Makes p) = reduce_text g p
 -- the line of a text, with a dot between the access string and the rest
 abbrev pub line_text : Grammar → List ℕ → List ℕ → List ℕ
 line_text g before rest = codes " " ++ words_text g before ++ codes " ." ++ words_text g rest ++ 10 ∷ []
+
+-- the line of a text of the code was added
+abbrev pub AddsLine : {S A : Type 0} → (S → ℕ) → Grammar → List (TIdx S) → List (TIdx S) → String A → String A → Type 0
+AddsLine index g before rest old new = Appends old new (line_text g (token_numbers index before) (token_numbers index rest))
 
 abbrev pub text_line : Grammar → List ℕ → List ℕ → List ℕ
 text_line g before text = line_text g before (drop (length before) text)

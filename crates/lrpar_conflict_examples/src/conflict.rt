@@ -1,7 +1,7 @@
 //! A conflict with its counterexample.
 ghost use Rattle.std.specs.Prelude.{◌≡◌};
 ghost use Rattle.lrpar_table_sentences.specs.Moves.{move_of};
-ghost use Rattle.lrpar_conflict_examples.specs.Conflicts.{unmet_of};
+ghost use Rattle.lrpar_conflict_examples.specs.Conflicts.{with_example};
 
 use crate::unresolved::UnmetConflict;
 use lrpar_conflict_derivations::examples::Example;
@@ -31,7 +31,7 @@ impl<StorageT: StorageIndex> Model for ConflictExample<StorageT> {
 impl<StorageT: StorageIndex> ConflictExample<StorageT> {
     // The conflict with this counterexample.
     pub(crate) fn new(conflict: UnmetConflict<StorageT>, example: Example<StorageT>) -> Self
-        ensures { result ≡ record { conflict = unmet_of StorageT.index conflict; example = example } }
+        ensures { result ≡ with_example StorageT.index conflict example }
     {
         let UnmetConflict {
             token,

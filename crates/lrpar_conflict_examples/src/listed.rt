@@ -1,9 +1,9 @@
 //! Counterexamples of all conflicts of a table.
-ghost use Rattle.std.specs.Prelude.{◌≡◌, Contains, IfErr, IfOk};
+ghost use Rattle.std.specs.Prelude.{IfErr, IfOk};
 ghost use Rattle.lrpar_table_build.specs.Built.{IsBuilt};
-ghost use Rattle.lrpar_conflict_derivations.specs.Example.{IsExampleFault};
-ghost use Rattle.lrpar_conflict_examples.specs.Conflicts.{AreAmong, AreExamplesOf, IsCounterexample, IsReady, listed_of, unmet_in, unmet_of};
-ghost use Rattle.lrpar_conflict_examples.specs.ExamplesFit.{ExamplesFit};
+ghost use Rattle.lrpar_conflict_derivations.specs.Example.{IsFault};
+ghost use Rattle.lrpar_conflict_examples.specs.Conflicts.{AreAllListed, HasExamples, HasExamplesOf, IsCounterexample, IsReady, Lists, ListsOne, unmet_of};
+ghost use Rattle.lrpar_conflict_examples.specs.ExamplesFit.{AllFit};
 
 use crate::conflict::ConflictExample;
 use crate::unresolved::UnmetConflict;
@@ -29,9 +29,9 @@ pub fn conflict_examples<StorageT: StorageIndex>(
     bound: usize,
 ) -> Result<Vec<ConflictExample<StorageT>>, ExampleFault<StorageT>>
     requires built { IsBuilt grm.now sgraph.now stable.now }
-    ensures examples { IfOk result (λ examples. AreExamplesOf grm.now sgraph.now bound (listed_of stable.now) examples.items) }
-    ensures fit { IfOk result (λ examples. ExamplesFit grm.now examples.items) }
-    ensures refused { IfErr result (IsExampleFault StorageT.index grm.now) }
+    ensures examples { IfOk result (HasExamplesOf grm.now sgraph.now stable.now bound) }
+    ensures fit { IfOk result (AllFit grm.now) }
+    ensures refused { IfErr result (IsFault StorageT.index grm.now) }
 {
     let Some(_) = stable.conflicts() else {
         return Ok(Vec::new(alloc));
@@ -45,7 +45,7 @@ pub(crate) fn listed_in<StorageT: StorageIndex>(
     alloc: Global,
     stable: &StateTable<StorageT>,
 ) -> Result<Vec<UnmetConflict<StorageT>>, AllocError>
-    ensures { IfOk result (λ listed. unmet_in StorageT.index listed.items ≡ listed_of stable.now) }
+    ensures { IfOk result (AreAllListed StorageT.index stable.now) }
 {
     let mut listed = Vec::new(alloc);
     let Some(conflicts) = stable.conflicts() else {
@@ -82,10 +82,10 @@ pub(crate) fn examples_of<StorageT: StorageIndex>(
     bound: usize,
 ) -> Result<Vec<ConflictExample<StorageT>>, ExampleFault<StorageT>>
     requires built { IsBuilt grm.now sgraph.now stable.now }
-    requires listed { AreAmong (unmet_in StorageT.index conflicts.now) (listed_of stable.now) }
-    ensures examples { IfOk result (λ examples. AreExamplesOf grm.now sgraph.now bound (unmet_in StorageT.index conflicts.now) examples.items) }
-    ensures fit { IfOk result (λ examples. ExamplesFit grm.now examples.items) }
-    ensures refused { IfErr result (IsExampleFault StorageT.index grm.now) }
+    requires listed { Lists StorageT.index stable.now conflicts.now }
+    ensures examples { IfOk result (HasExamples StorageT.index grm.now sgraph.now bound conflicts.now) }
+    ensures fit { IfOk result (AllFit grm.now) }
+    ensures refused { IfErr result (IsFault StorageT.index grm.now) }
 {
     let shared = Examples::new(alloc, grm, sgraph, stable)?;
     let examples = each_example(alloc, grm, sgraph, stable, &shared, conflicts, bound)?;
@@ -103,8 +103,8 @@ fn each_example<StorageT: StorageIndex>(
     bound: usize,
 ) -> Result<Vec<ConflictExample<StorageT>>, AllocError>
     requires ready { IsReady grm.now sgraph.now stable.now usize.MAX shared.now }
-    requires listed { AreAmong (unmet_in StorageT.index conflicts.now) (listed_of stable.now) }
-    ensures { IfOk result (λ examples. AreExamplesOf grm.now sgraph.now bound (unmet_in StorageT.index conflicts.now) examples.items) }
+    requires listed { Lists StorageT.index stable.now conflicts.now }
+    ensures { IfOk result (HasExamples StorageT.index grm.now sgraph.now bound conflicts.now) }
 {
     let mut examples = Vec::new(alloc);
     for conflict in conflicts {
@@ -125,7 +125,7 @@ pub(crate) fn example_of<StorageT: StorageIndex>(
     bound: usize,
 ) -> Result<Example<StorageT>, AllocError>
     requires ready { IsReady grm.now sgraph.now stable.now usize.MAX shared.now }
-    requires listed { Contains (listed_of stable.now) (unmet_of StorageT.index conflict) }
+    requires listed { ListsOne StorageT.index stable.now conflict }
     ensures { IfOk result (IsCounterexample grm.now sgraph.now bound (unmet_of StorageT.index conflict)) }
 {
     let (token, state) = (conflict.token, conflict.state);

@@ -1,10 +1,10 @@
 //! Counterexamples of the conflicts of a table with merged item sets.
-ghost use Rattle.std.specs.Prelude.{◌≡◌, ◌++◌, ◌∷◌, [], IfOk, IfSome, IsPermutation, OnOk};
+ghost use Rattle.std.specs.Prelude.{IfOk, IfSome, IsPermutation, OnOk};
 ghost use Rattle.std.specs.Bool.{OnTrue};
-ghost use Rattle.lrpar_table_sentences.specs.Moves.{move_of};
-ghost use Rattle.lrpar_conflict_examples.specs.Conflicts.{AreAlike, listed_of, unmet_of};
-ghost use Rattle.lrpar_conflict_examples.specs.ExamplesFit.{ExamplesFit};
-ghost use Rattle.lrpar_conflict_examples.specs.Merged.{AddsConflict, IsCanonicalOf, IsLike, conflicts_of};
+ghost use Rattle.lrpar_conflict_derivations.specs.Stored.{IsSameMove};
+ghost use Rattle.lrpar_conflict_examples.specs.Conflicts.{AreLike, listed_of, unmet_of};
+ghost use Rattle.lrpar_conflict_examples.specs.ExamplesFit.{MergedFit};
+ghost use Rattle.lrpar_conflict_examples.specs.Merged.{AddsConflict, AddsExample, IsCanonicalOf, IsLike, KeepsExamples, conflicts_of};
 
 use crate::conflict::ConflictExample;
 use crate::listed::{example_of, listed_in};
@@ -135,7 +135,7 @@ pub fn conflict_examples_by<StorageT: StorageIndex>(
     max_states: usize,
     bound: usize,
 ) -> Result<MergedConflicts<StorageT>, NoExamples<StorageT>>
-    ensures fit { IfOk result (λ found. ExamplesFit grm.now found.examples.items) }
+    ensures fit { IfOk result (MergedFit grm.now) }
     // Each conflict of the table is in one of the three lists, as often as the table lists it, and they have no others.
     ensures all { IfOk result (λ found. IsPermutation (listed_of stable.now) (conflicts_of StorageT.index found)) }
 {
@@ -204,7 +204,7 @@ fn are_alike<StorageT: StorageIndex>(
     one: UnmetConflict<StorageT>,
     other: UnmetConflict<StorageT>,
 ) -> bool
-    ensures { OnTrue result (AreAlike (unmet_of StorageT.index one) (unmet_of StorageT.index other)) }
+    ensures { OnTrue result (AreLike StorageT.index one other) }
 {
     usize::from(one.token) == usize::from(other.token)
         && are_same(one.first, other.first)
@@ -213,7 +213,7 @@ fn are_alike<StorageT: StorageIndex>(
 
 // Whether two moves are the same.
 fn are_same<StorageT: StorageIndex>(one: Move<StorageT>, other: Move<StorageT>) -> bool
-    ensures { OnTrue result (move_of StorageT.index one ≡ move_of StorageT.index other) }
+    ensures { OnTrue result (IsSameMove StorageT.index one other) }
 {
     match (one, other) {
         (Move::Take(token), Move::Take(same)) => usize::from(token) == usize::from(same),
@@ -232,8 +232,8 @@ fn push<StorageT: StorageIndex>(
     found: &mut MergedConflicts<StorageT>,
 ) -> Result<(), AllocError>
     requires canonical { IsCanonicalOf StorageT.index grm.now usize.MAX canonical.now }
-    requires fit { ExamplesFit grm.now found.old.examples.items }
-    ensures fit { OnOk result (ExamplesFit grm.now found.new.examples.items) }
+    requires fit { MergedFit grm.now found.old }
+    ensures fit { OnOk result (MergedFit grm.now found.new) }
     ensures all { OnOk result (AddsConflict StorageT.index (unmet_of StorageT.index conflict) found.old found.new) }
 {
     match canonical.like(conflict) {
@@ -252,7 +252,7 @@ fn push_example<StorageT: StorageIndex>(
     found: &mut MergedConflicts<StorageT>,
     example: ConflictExample<StorageT>,
 ) -> Result<(), AllocError>
-    ensures examples { OnOk result (found.new.examples.items ≡ found.old.examples.items ++ example ∷ []) }
+    ensures examples { OnOk result (AddsExample example found.old found.new) }
     ensures all { OnOk result (AddsConflict StorageT.index example.conflict found.old found.new) }
 {
     found.examples.push(example)?;
@@ -265,7 +265,7 @@ fn push_apart<StorageT: StorageIndex>(
     canonical: &Canonical<StorageT>,
     conflict: UnmetConflict<StorageT>,
 ) -> Result<(), AllocError>
-    ensures examples { OnOk result (found.new.examples ≡ found.old.examples) }
+    ensures kept { OnOk result (KeepsExamples found.old found.new) }
     ensures all { OnOk result (AddsConflict StorageT.index (unmet_of StorageT.index conflict) found.old found.new) }
 {
     if canonical.pairs.is_paired(conflict.state) {

@@ -1,13 +1,10 @@
 //! The states that a parse can meet if precedences resolve conflicts.
-ghost use Rattle.std.specs.Prelude.{◌≡◌, ◌<◌, ◌==◌, ◌&&◌, ◌++◌, All, IfOk, OnOk, length, map};
+ghost use Rattle.std.specs.Prelude.{◌≡◌, ◌<◌, IfOk, OnOk, length};
 ghost use Rattle.std.specs.Bool.{OnFalse, OnTrue};
-ghost use Rattle.lrpar_table_first.specs.FirstRows.{HoldNothing, rows_of};
-ghost use Rattle.lrpar_table_rows.specs.PlainConflicts.{shift_reduce_of};
-ghost use Rattle.lrpar_table_rows.specs.PlainRows.{plain_action};
+ghost use Rattle.lrpar_table_first.specs.FirstRows.{rows_of};
 ghost use Rattle.lrpar_table_rows.specs.Table.{states_len};
 ghost use Rattle.lrpar_table_sentences.specs.AccessLens.{IsStoredAt};
-ghost use Rattle.lrpar_table_sentences.specs.Reachable.{unmarked};
-ghost use Rattle.lrpar_conflict_examples.specs.Met.{AddsTokens, AreMarksByAny, AreMet, AreSteps, AreTakenAway, AreWithin, HasRoomOf, KeepsMarks, MarksNext, StepKeepsMarks, loses_shift, shift_step, steps_of, take_away};
+ghost use Rattle.lrpar_conflict_examples.specs.Met.{AddsTaken, AddsToken, AppendsShift, AppendsSteps, AreClosed, AreEmpty, AreWithin, HasRoomOf, HasSets, HasSteps, HaveRoom, IsWithin, KeepsMarks, MarksMet, MarksMore, MarksStart, MarksStep, StepKeepsMarks, TakesAway, loses_shift};
 
 use lrpar_grammar::span::{PIdx, StIdx, StorageIndex, TIdx};
 use lrpar_grammar::token_set::TokenSet;
@@ -21,7 +18,7 @@ pub(crate) fn met_states<StorageT: StorageIndex>(
     precedences: &Precedences,
     stable: &StateTable<StorageT>,
 ) -> Result<Vec<bool>, AllocError>
-    ensures { IfOk result (λ marks. AreMet precedences.now stable.now marks.items) }
+    ensures { IfOk result (MarksMet precedences.now stable.now) }
 {
     let edges = steps(alloc, precedences, stable)?;
     let mut marks = start_marked(alloc, stable)?;
@@ -34,7 +31,7 @@ fn start_marked<StorageT: StorageIndex>(
     alloc: Global,
     stable: &StateTable<StorageT>,
 ) -> Result<Vec<bool>, AllocError>
-    ensures { IfOk result (λ marks. AreMarksByAny stable.now marks.items) }
+    ensures { IfOk result (MarksStart stable.now) }
 {
     let mut marks = vec![in alloc; false; stable.states_len()]?;
     marks[usize::from(stable.start_state())] = true;
@@ -46,8 +43,8 @@ fn mark_all(edges: &[(usize, usize)], marks: &mut [bool]) -> bool
     requires within { AreWithin (length marks.old) edges.now }
     ensures marks { KeepsMarks edges.now marks.old marks.new }
     ensures len { length marks.new ≡ length marks.old }
-    ensures grown { OnTrue result (unmarked marks.new < unmarked marks.old) }
-    ensures closed { OnFalse result (All (MarksNext marks.new) edges.now) }
+    ensures grown { OnTrue result (MarksMore marks.old marks.new) }
+    ensures closed { OnFalse result (AreClosed edges.now marks.new) }
 {
     let mut grown = false;
     for edge in edges {
@@ -61,12 +58,12 @@ fn mark_all(edges: &[(usize, usize)], marks: &mut [bool]) -> bool
 
 // Marks the next state, if the one that a step comes from is marked, and returns whether it was new.
 fn mark_next(marks: &mut [bool], from: usize, next: usize) -> bool
-    requires { (from < length marks.old) × (next < length marks.old) }
+    requires { IsWithin (length marks.old) (from, next) }
     ensures marks { StepKeepsMarks from next marks.old marks.new }
     ensures len { length marks.new ≡ length marks.old }
-    ensures grown { OnTrue result (unmarked marks.new < unmarked marks.old) }
+    ensures grown { OnTrue result (MarksMore marks.old marks.new) }
     ensures same { OnFalse result (marks.new ≡ marks.old) }
-    ensures closed { OnFalse result (MarksNext marks.new (from, next)) }
+    ensures closed { OnFalse result (MarksStep from next marks.new) }
 {
     if !marks[from] || marks[next] {
         return false;
@@ -81,8 +78,9 @@ fn steps<StorageT: StorageIndex>(
     precedences: &Precedences,
     stable: &StateTable<StorageT>,
 ) -> Result<Vec<(usize, usize)>, AllocError>
-    ensures { IfOk result (λ edges. AreSteps precedences.now stable.now edges.items) }
+    ensures { IfOk result (HasSteps precedences.now stable.now) }
 {
+    // The proof needs that there are no actions past the table's tokens.
     let _tokens = stable.tokens_len();
     let taken = taken_away(alloc, precedences, stable)?;
     let mut edges = Vec::new(alloc);
@@ -101,7 +99,7 @@ fn push_steps<StorageT: StorageIndex>(
     taken: &TokenSet,
 ) -> Result<(), AllocError>
     requires { StorageT.index s.0 < states_len stable.now }
-    ensures edges { OnOk result (edges.new.items ≡ edges.old.items ++ steps_of taken.now.bits.items stable.now (StorageT.index s.0)) }
+    ensures edges { OnOk result (AppendsSteps StorageT.index taken.now stable.now s edges.old edges.new) }
     ensures stored { OnOk result (IsStoredAt stable.now (StorageT.index s.0)) }
 {
     let (tokens, actions) = stable.actions_of(s);
@@ -129,7 +127,7 @@ fn push_shift<StorageT: StorageIndex>(
     action: Action<StorageT>,
     taken: &TokenSet,
 ) -> Result<(), AllocError>
-    ensures { OnOk result (edges.new.items ≡ edges.old.items ++ shift_step taken.now.bits.items state token (plain_action StorageT.index action)) }
+    ensures { OnOk result (AppendsShift StorageT.index taken.now state token action edges.old edges.new) }
 {
     match action {
         Action::Shift(next) => {
@@ -148,7 +146,7 @@ fn taken_away<StorageT: StorageIndex>(
     precedences: &Precedences,
     stable: &StateTable<StorageT>,
 ) -> Result<Vec<TokenSet>, AllocError>
-    ensures { IfOk result (λ sets. AreTakenAway precedences.now stable.now (rows_of sets.items)) }
+    ensures { IfOk result (TakesAway precedences.now stable.now) }
 {
     let mut sets = empty_sets(alloc, stable.states_len(), stable.tokens_len())?;
     let Some(conflicts) = stable.conflicts() else {
@@ -160,9 +158,9 @@ fn taken_away<StorageT: StorageIndex>(
 
 // So many empty sets, each with room for this number of tokens.
 fn empty_sets(alloc: Global, len: usize, tokens: usize) -> Result<Vec<TokenSet>, AllocError>
-    ensures len { IfOk result (λ sets. length sets.items ≡ len) }
-    ensures wide { IfOk result (λ sets. All (λ row. length row ≡ tokens) (rows_of sets.items)) }
-    ensures none { IfOk result (λ sets. HoldNothing (rows_of sets.items)) }
+    ensures len { IfOk result (HasSets len) }
+    ensures wide { IfOk result (HaveRoom tokens) }
+    ensures none { IfOk result AreEmpty }
 {
     let mut sets = Vec::with_capacity(alloc, len)?;
     for _ in 0..len {
@@ -178,7 +176,7 @@ fn take_all<StorageT: StorageIndex>(
     conflicts: &[(TIdx<StorageT>, PIdx<StorageT>, StIdx<StorageT>)],
 )
     ensures room { HasRoomOf (rows_of sets.old) (rows_of sets.new) }
-    ensures exact { AddsTokens (rows_of sets.old) (rows_of sets.new) (take_away precedences.now (map (shift_reduce_of StorageT.index) conflicts.now)) }
+    ensures exact { AddsTaken StorageT.index precedences.now conflicts.now sets.old sets.new }
 {
     for conflict in conflicts {
         let (token, prod, state) = *conflict;
@@ -191,7 +189,7 @@ fn take_all<StorageT: StorageIndex>(
 // Adds the token to the set of the state, if both are within range.
 fn take_shift(sets: &mut [TokenSet], state: usize, token: usize)
     ensures room { HasRoomOf (rows_of sets.old) (rows_of sets.new) }
-    ensures exact { AddsTokens (rows_of sets.old) (rows_of sets.new) (λ s t. (state == s) && (token == t)) }
+    ensures exact { AddsToken state token sets.old sets.new }
 {
     if state >= sets.len() {
         return;

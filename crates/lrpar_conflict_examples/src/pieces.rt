@@ -1,12 +1,12 @@
 //! The text of a tree that is given by its moves. They are read from the last one back: so each node comes before its trees, and the last
 //! of these first. The text's pieces come from right to left, and nothing recurses, however deep the tree is.
-ghost use Rattle.std.specs.Prelude.{◌≡◌, ◌<◌, ◌++◌, All, IfOk, OnOk, replicate};
+ghost use Rattle.std.specs.Prelude.{◌<◌, IfOk, OnOk};
 ghost use Rattle.lrpar_grammar.specs.Grammar.{prods_len};
-ghost use Rattle.lrpar_table_sentences.specs.Moves.{move_of, moves_in};
-ghost use Rattle.lrpar_conflict_examples.specs.Fits.{HasTree, IsMoveOf};
-ghost use Rattle.lrpar_conflict_examples.specs.Pieces.{AreTextOf, Meets, PieceFits, piece_text};
-ghost use Rattle.lrpar_conflict_examples.specs.Texts.{AppendsOfTree};
-ghost use Rattle.lrpar_conflict_examples.specs.Words.{Appends, front_text, tree_text};
+ghost use Rattle.lrpar_table_sentences.specs.Moves.{move_of};
+ghost use Rattle.lrpar_conflict_examples.specs.Fits.{IsMoveOf, MakeTree};
+ghost use Rattle.lrpar_conflict_examples.specs.Pieces.{AddsTrees, AreTextOfMoves, MeetsMove, PieceFits, PiecesFit, piece_text};
+ghost use Rattle.lrpar_conflict_examples.specs.Texts.{AddsTree};
+ghost use Rattle.lrpar_conflict_examples.specs.Words.{Appends, front_text};
 
 use crate::words::push_word;
 use lrpar_grammar::grammar::YaccGrammar;
@@ -41,8 +41,8 @@ pub(crate) fn push_tree<StorageT: StorageIndex>(
     grm: &YaccGrammar<StorageT>,
     moves: &[Move<StorageT>],
 ) -> Result<(), AllocError>
-    requires { HasTree grm.now (moves_in StorageT.index moves.now) }
-    ensures { OnOk result (AppendsOfTree grm.now (moves_in StorageT.index moves.now) (tree_text grm.now) out.old out.new) }
+    requires { MakeTree StorageT.index grm.now moves.now }
+    ensures { OnOk result (AddsTree StorageT.index grm.now moves.now out.old out.new) }
 {
     let mut pieces = pieces_of(alloc, grm, moves)?;
     while let Some(piece) = pieces.pop() {
@@ -57,10 +57,11 @@ fn pieces_of<StorageT: StorageIndex>(
     grm: &YaccGrammar<StorageT>,
     moves: &[Move<StorageT>],
 ) -> Result<Vec<Piece<StorageT>>, AllocError>
-    requires { HasTree grm.now (moves_in StorageT.index moves.now) }
-    ensures fit { IfOk result (λ pieces. All (PieceFits StorageT.index grm.now) pieces.items) }
-    ensures text { IfOk result (λ pieces. AreTextOf StorageT.index grm.now (moves_in StorageT.index moves.now) pieces.items) }
+    requires { MakeTree StorageT.index grm.now moves.now }
+    ensures fit { IfOk result (PiecesFit StorageT.index grm.now) }
+    ensures text { IfOk result (AreTextOfMoves StorageT.index grm.now moves.now) }
 {
+    // The proof needs that the grammar is well-formed.
     let _start = grm.start_prod();
     let mut pieces = Vec::new(alloc);
     let mut waiting = Vec::new(alloc);
@@ -87,7 +88,7 @@ fn meet<StorageT: StorageIndex>(
     waiting: &mut Vec<Waiting<StorageT>>,
 ) -> Result<(), AllocError>
     requires { IsMoveOf grm.now (move_of StorageT.index step) }
-    ensures { OnOk result (Meets StorageT.index grm.now step pieces.old.items pieces.new.items waiting.old.items waiting.new.items) }
+    ensures { OnOk result (MeetsMove StorageT.index grm.now step pieces.old pieces.new waiting.old waiting.new) }
 {
     match step {
         Move::Take(token) => Ok(pieces.push(Piece::Word(token))?),
@@ -104,7 +105,7 @@ fn push_trees<StorageT: StorageIndex>(
     waiting: &mut Vec<Waiting<StorageT>>,
     count: usize,
 ) -> Result<(), AllocError>
-    ensures { OnOk result (waiting.new.items ≡ waiting.old.items ++ replicate count Waiting.Tree) }
+    ensures { OnOk result (AddsTrees count waiting.old waiting.new) }
 {
     for _i in 0..count {
         waiting.push(Waiting::Tree)?;

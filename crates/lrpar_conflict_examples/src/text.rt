@@ -1,12 +1,10 @@
 //! The texts of counterexamples.
 ghost use Rattle.std.specs.Prelude.{◌≡◌, ◌≤◌, IfOk, OnOk, drop, length};
-ghost use Rattle.std.specs.String.{string_bytes};
-ghost use Rattle.lrpar_table_sentences.specs.Moves.{move_of, moves_in};
-ghost use Rattle.lrpar_conflict_derivations.specs.Texts.{token_numbers};
-ghost use Rattle.lrpar_conflict_examples.specs.ExamplesFit.{ExampleFits, ExamplesFit, DerivesFrom};
-ghost use Rattle.lrpar_conflict_examples.specs.Fits.{AreTokensOf, HasTree, IsMoveOf};
-ghost use Rattle.lrpar_conflict_examples.specs.Texts.{AppendsExample, AppendsOfTree, AreExampleTexts, bound_text, count_text, other_tree_line, title_text, tree_line};
-ghost use Rattle.lrpar_conflict_examples.specs.Words.{Appends, derivation_text, line_text};
+ghost use Rattle.lrpar_table_sentences.specs.Moves.{move_of};
+ghost use Rattle.lrpar_conflict_examples.specs.ExamplesFit.{Continue, ExampleFits, ExamplesFit, SecondFits};
+ghost use Rattle.lrpar_conflict_examples.specs.Fits.{HasTokens, IsMoveOf, MakeTree};
+ghost use Rattle.lrpar_conflict_examples.specs.Texts.{AddsBound, AddsCount, AddsDerivation, AddsOtherText, AddsText, AppendsExample, ShowsExamples, title_text};
+ghost use Rattle.lrpar_conflict_examples.specs.Words.{AddsLine, Appends};
 
 use crate::conflict::ConflictExample;
 use crate::pieces::push_tree;
@@ -41,7 +39,7 @@ pub fn format_examples<StorageT: StorageIndex>(
     examples: &[ConflictExample<StorageT>],
 ) -> Result<String, AllocError>
     requires fit { ExamplesFit grm.now examples.now }
-    ensures { IfOk result (λ text. AreExampleTexts grm.now examples.now (string_bytes text)) }
+    ensures { IfOk result (ShowsExamples grm.now examples.now) }
 {
     let mut out = String::new(alloc);
     let mut rest = examples;
@@ -92,7 +90,7 @@ fn push_count<StorageT: StorageIndex>(
     out: &mut String,
     example: &Example<StorageT>,
 ) -> Result<(), AllocError>
-    ensures { OnOk result (Appends out.old out.new (count_text example.now)) }
+    ensures { OnOk result (AddsCount example.now out.old out.new) }
 {
     if !example.is_ambiguous() {
         let bound = example.bound();
@@ -103,7 +101,7 @@ fn push_count<StorageT: StorageIndex>(
 
 // Adds that the derivations have two texts, and the bound of the search for one.
 fn push_bound(out: &mut String, bound: usize) -> Result<(), AllocError>
-    ensures { OnOk result (Appends out.old out.new (bound_text bound)) }
+    ensures { OnOk result (AddsBound bound out.old out.new) }
 {
     write!(out, "two texts; one for both not found within {bound}")
 }
@@ -115,8 +113,8 @@ fn push_other_text<StorageT: StorageIndex>(
     grm: &YaccGrammar<StorageT>,
     example: &Example<StorageT>,
 ) -> Result<(), AllocError>
-    requires { DerivesFrom grm.now example.now.before example.now.second }
-    ensures { OnOk result (AppendsOfTree grm.now example.now.second (other_tree_line grm.now example.now) out.old out.new) }
+    requires { SecondFits grm.now example.now }
+    ensures { OnOk result (AddsOtherText grm.now example.now out.old out.new) }
 {
     if example.is_ambiguous() {
         return Ok(());
@@ -132,9 +130,10 @@ fn push_text<StorageT: StorageIndex>(
     before: &[TIdx<StorageT>],
     moves: &[Move<StorageT>],
 ) -> Result<(), AllocError>
-    requires { DerivesFrom grm.now (token_numbers StorageT.index before.now) (moves_in StorageT.index moves.now) }
-    ensures { OnOk result (AppendsOfTree grm.now (moves_in StorageT.index moves.now) (tree_line grm.now (token_numbers StorageT.index before.now)) out.old out.new) }
+    requires { Continue StorageT.index grm.now before.now moves.now }
+    ensures { OnOk result (AddsText StorageT.index grm.now before.now moves.now out.old out.new) }
 {
+    // The proof needs that the grammar is well-formed.
     let _start = grm.start_prod();
     let text = tokens_of(alloc, moves)?;
     push_line(out, grm, before, rest_of(&text, before.len()))
@@ -155,9 +154,9 @@ fn push_line<StorageT: StorageIndex>(
     before: &[TIdx<StorageT>],
     rest: &[TIdx<StorageT>],
 ) -> Result<(), AllocError>
-    requires before { AreTokensOf grm.now (token_numbers StorageT.index before.now) }
-    requires rest { AreTokensOf grm.now (token_numbers StorageT.index rest.now) }
-    ensures { OnOk result (Appends out.old out.new (line_text grm.now (token_numbers StorageT.index before.now) (token_numbers StorageT.index rest.now))) }
+    requires before { HasTokens StorageT.index grm.now before.now }
+    requires rest { HasTokens StorageT.index grm.now rest.now }
+    ensures { OnOk result (AddsLine StorageT.index grm.now before.now rest.now out.old out.new) }
 {
     out.push(' ')?;
     push_words(out, grm, before)?;
@@ -175,8 +174,8 @@ fn push_derivation<StorageT: StorageIndex>(
     moves: &[Move<StorageT>],
 ) -> Result<(), AllocError>
     requires next { IsMoveOf grm.now (move_of StorageT.index next) }
-    requires tree { HasTree grm.now (moves_in StorageT.index moves.now) }
-    ensures { OnOk result (AppendsOfTree grm.now (moves_in StorageT.index moves.now) (derivation_text grm.now (move_of StorageT.index next)) out.old out.new) }
+    requires tree { MakeTree StorageT.index grm.now moves.now }
+    ensures { OnOk result (AddsDerivation StorageT.index grm.now next moves.now out.old out.new) }
 {
     out.push_str("  ")?;
     push_move(out, grm, next)?;

@@ -2,10 +2,10 @@
 ghost use Rattle.std.specs.Prelude.{◌≡◌, IfErr, IfOk};
 ghost use Rattle.lrpar_table_build.specs.Built.{IsBuilt};
 ghost use Rattle.lrpar_table_sentences.specs.Reachable.{is_marked};
-ghost use Rattle.lrpar_conflict_derivations.specs.Example.{IsExampleFault};
+ghost use Rattle.lrpar_conflict_derivations.specs.Example.{IsFault};
 ghost use Rattle.lrpar_conflict_examples.specs.Conflicts.{unmet_of};
-ghost use Rattle.lrpar_conflict_examples.specs.ExamplesFit.{ExamplesFit};
-ghost use Rattle.lrpar_conflict_examples.specs.Met.{AreConflictsLeft, AreParted, is_left};
+ghost use Rattle.lrpar_conflict_examples.specs.ExamplesFit.{LeftFit};
+ghost use Rattle.lrpar_conflict_examples.specs.Met.{AreConflictsLeft, ArePartedBy, is_left};
 
 use crate::conflict::ConflictExample;
 use crate::listed::{examples_of, listed_in};
@@ -68,8 +68,8 @@ pub fn conflict_examples_with<StorageT: StorageIndex>(
 ) -> Result<ConflictsLeft<StorageT>, ExampleFault<StorageT>>
     requires built { IsBuilt grm.now sgraph.now stable.now }
     ensures left { IfOk result (AreConflictsLeft StorageT.index grm.now precedences.now sgraph.now stable.now bound) }
-    ensures fit { IfOk result (λ left. ExamplesFit grm.now left.examples.items) }
-    ensures refused { IfErr result (IsExampleFault StorageT.index grm.now) }
+    ensures fit { IfOk result (LeftFit grm.now) }
+    ensures refused { IfErr result (IsFault StorageT.index grm.now) }
 {
     let marks = met_states(alloc, precedences, stable)?;
     let (met, unmet) = parted(alloc, precedences, stable, &marks)?;
@@ -88,7 +88,7 @@ fn parted<StorageT: StorageIndex>(
     stable: &StateTable<StorageT>,
     marks: &[bool],
 ) -> Result<(Vec<UnmetConflict<StorageT>>, Vec<UnmetConflict<StorageT>>), AllocError>
-    ensures { IfOk result (λ lists. AreParted StorageT.index precedences.now stable.now marks.now lists.0.items lists.1.items) }
+    ensures { IfOk result (ArePartedBy StorageT.index precedences.now stable.now marks.now) }
 {
     let listed = listed_in(alloc, stable)?;
     let mut met = Vec::new(alloc);

@@ -1,11 +1,10 @@
 //! The words of counterexamples' texts.
-ghost use Rattle.std.specs.Prelude.{◌≡◌, ◌<◌, OnOk, map};
+ghost use Rattle.std.specs.Prelude.{◌≡◌, ◌<◌, OnOk};
 ghost use Rattle.lrpar_grammar.specs.Grammar.{prods_len, tokens_len};
 ghost use Rattle.lrpar_grammar.specs.Symbols.{symbol_of};
 ghost use Rattle.lrpar_table_sentences.specs.Moves.{move_of};
-ghost use Rattle.lrpar_conflict_derivations.specs.Texts.{token_numbers};
-ghost use Rattle.lrpar_conflict_examples.specs.Fits.{AreSymbolsOf, AreTokensOf, IsMoveOf, IsSymbolOf};
-ghost use Rattle.lrpar_conflict_examples.specs.Words.{Appends, move_text, reduce_text, shown_name, symbol_text, symbols_text, word_text, words_text};
+ghost use Rattle.lrpar_conflict_examples.specs.Fits.{HasSymbols, HasTokens, IsMoveOf, IsSymbolOf};
+ghost use Rattle.lrpar_conflict_examples.specs.Words.{AddsSymbols, AddsWords, Appends, move_text, name_of, reduce_text, symbol_text, word_text};
 
 use lrpar_grammar::grammar::YaccGrammar;
 use lrpar_grammar::span::{PIdx, StorageIndex, Symbol, TIdx};
@@ -18,7 +17,7 @@ pub(crate) fn shown_name<StorageT: StorageIndex>(
     token: TIdx<StorageT>,
 ) -> &str
     requires { StorageT.index token.0 < tokens_len grm.now }
-    ensures { result.now ≡ shown_name grm.now (StorageT.index token.0) }
+    ensures { result.now ≡ name_of StorageT.index grm.now token }
 {
     grm.token_name(token).unwrap_or("$")
 }
@@ -42,8 +41,8 @@ pub(crate) fn push_words<StorageT: StorageIndex>(
     grm: &YaccGrammar<StorageT>,
     tokens: &[TIdx<StorageT>],
 ) -> Result<(), AllocError>
-    requires { AreTokensOf grm.now (token_numbers StorageT.index tokens.now) }
-    ensures { OnOk result (Appends out.old out.new (words_text grm.now (token_numbers StorageT.index tokens.now))) }
+    requires { HasTokens StorageT.index grm.now tokens.now }
+    ensures { OnOk result (AddsWords StorageT.index grm.now tokens.now out.old out.new) }
 {
     let mut rest = tokens;
     while let Some((token, others)) = rest.split_first() {
@@ -80,6 +79,7 @@ fn push_reduce<StorageT: StorageIndex>(
     requires { StorageT.index prod.0 < prods_len grm.now }
     ensures { OnOk result (Appends out.old out.new (reduce_text grm.now (StorageT.index prod.0))) }
 {
+    // The proof needs that the grammar is well-formed.
     let _start = grm.start_prod();
     let name = grm.rule_name_str(grm.prod_to_rule(prod));
     write!(out, "reduce {name}:")?;
@@ -92,8 +92,8 @@ fn push_symbols<StorageT: StorageIndex>(
     grm: &YaccGrammar<StorageT>,
     symbols: &[Symbol<StorageT>],
 ) -> Result<(), AllocError>
-    requires { AreSymbolsOf grm.now (map (symbol_of StorageT.index) symbols.now) }
-    ensures { OnOk result (Appends out.old out.new (symbols_text grm.now (map (symbol_of StorageT.index) symbols.now))) }
+    requires { HasSymbols StorageT.index grm.now symbols.now }
+    ensures { OnOk result (AddsSymbols StorageT.index grm.now symbols.now out.old out.new) }
 {
     let mut rest = symbols;
     while let Some((symbol, others)) = rest.split_first() {

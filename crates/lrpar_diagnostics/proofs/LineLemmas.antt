@@ -11,25 +11,20 @@ use Rattle.lrpar_grammar_places.specs.Lines.{is_line_feed, is_in_line, starts_li
 use Rattle.lrpar_diagnostics.specs.Columns.{repeated}
 use Rattle.lrpar_diagnostics.specs.Underline.{starts_after, is_printed, printed_after}
 
-in_line : (b : ℕ) → ¬ (b ≡ 10) → is_in_line b ≡ true
-in_line b h = grind (arith, nat_tests)
+-- a byte is a line feed, or it is in a line
+is_feed : (b : ℕ) → b ≡ 10 → (is_line_feed b ≡ true) × (is_in_line b ≡ false)
+is_feed b h = (grind (arith, nat_tests), grind (arith, nat_tests))
 
-at_end : (b : ℕ) → b ≡ 10 → is_in_line b ≡ false
-at_end b h = grind (arith, nat_tests)
-
-is_feed : (b : ℕ) → b ≡ 10 → is_line_feed b ≡ true
-is_feed b h = grind (arith, nat_tests)
-
-no_feed : (b : ℕ) → ¬ (b ≡ 10) → is_line_feed b ≡ false
-no_feed b h = grind (arith, nat_tests)
+no_feed : (b : ℕ) → ¬ (b ≡ 10) → (is_line_feed b ≡ false) × (is_in_line b ≡ true)
+no_feed b h = (grind (arith, nat_tests), grind (arith, nat_tests))
 
 -- one byte on in a line
 line_end_on : (src : List ℕ) (b : ℕ) → b < length src → ¬ (slice_index src b ≡ 10) → line_end src (b + 1) ≡ line_end src b
-line_end_on src b within other = let e = prefix_len-drop_yes is_in_line src b 0 within (in_line (slice_index src b) other) in omega (arith, e)
+line_end_on src b within other = let e = prefix_len-drop_yes is_in_line src b 0 within (no_feed (slice_index src b) other).1 in omega (arith, e)
 
 -- a line ends before a line feed
 line_end_here : (src : List ℕ) (b : ℕ) → b < length src → slice_index src b ≡ 10 → line_end src b ≡ b
-line_end_here src b within feed = let e = prefix_len-drop_no is_in_line src b 0 within (at_end (slice_index src b) feed) in omega (arith, e)
+line_end_here src b within feed = let e = prefix_len-drop_no is_in_line src b 0 within (is_feed (slice_index src b) feed).1 in omega (arith, e)
 
 -- and at the end of the text
 line_end_last : (src : List ℕ) (b : ℕ) → length src ≤ b → line_end src b ≡ b
@@ -60,7 +55,7 @@ after_last src b (suc n) within last =
       | inl feed ↦ absurd (let ends = line_end_here src b (omega arith) feed in omega (arith, ends))
       | inr other ↦
           let back : (b + 1) - 1 ≡ b = omega arith in
-          let no : starts_line src (b + 1) ≡ false = rw back (no_feed (slice_index src b) other) in
+          let no : starts_line src (b + 1) ≡ false = rw back (no_feed (slice_index src b) other).0 in
           let on = line_end_on src b (omega arith) other in
           ap (λ v. cond v ((b + 1) ∷ filter (starts_line src) (range_with_len ((b + 1) + 1) n)) (filter (starts_line src) (range_with_len ((b + 1) + 1) n))) no
           ∙ after_last src (b + 1) n (omega arith) (omega (arith, on))
@@ -75,7 +70,7 @@ after_next src b (suc n) within inside =
     elim (cases_eq (slice_index src b) 10) [
       | inl feed ↦
           let back : (b + 1) - 1 ≡ b = omega arith in
-          let yes : starts_line src (b + 1) ≡ true = rw back (is_feed (slice_index src b) feed) in
+          let yes : starts_line src (b + 1) ≡ true = rw back (is_feed (slice_index src b) feed).0 in
           let ends = line_end_here src b (omega arith) feed in
           let left : b + suc n - (b + 1) ≡ n = omega arith in
           ap (λ v. cond v ((b + 1) ∷ filter (starts_line src) (range_with_len ((b + 1) + 1) n)) (filter (starts_line src) (range_with_len ((b + 1) + 1) n))) yes
@@ -83,7 +78,7 @@ after_next src b (suc n) within inside =
           ∙ ap (λ e. (e + 1) ∷ filter (starts_line src) (range_with_len ((e + 1) + 1) (b + suc n - (e + 1)))) (sym ends)
       | inr other ↦
           let back : (b + 1) - 1 ≡ b = omega arith in
-          let no : starts_line src (b + 1) ≡ false = rw back (no_feed (slice_index src b) other) in
+          let no : starts_line src (b + 1) ≡ false = rw back (no_feed (slice_index src b) other).0 in
           let on = line_end_on src b (omega arith) other in
           let same : b + 1 + n ≡ b + suc n = omega arith in
           ap (λ v. cond v ((b + 1) ∷ filter (starts_line src) (range_with_len ((b + 1) + 1) n)) (filter (starts_line src) (range_with_len ((b + 1) + 1) n))) no

@@ -1,7 +1,7 @@
 -- Texts that are written piece by piece.
-use Rattle.std.proofs.Common.{◌≡◌, ◌∙◌, ℕ, List, [], ◌∷◌, ◌++◌, ap, sym, lit<, append_assoc, Result, Ok, Err, is_ok, OnOk, if◌then◌else◌}
+use Rattle.std.proofs.Common.{◌≡◌, ◌∙◌, ℕ, List, [], ◌∷◌, ◌++◌, ap, sym, lit<, append_assoc, map, Result, Ok, Err, is_ok, OnOk, if◌then◌else◌}
 use Rattle.std.specs.Prelude.{encode_utf8}
-use Rattle.std.specs.List.{flat_map}
+use Rattle.std.specs.List.{AllByRecursion, flat_map}
 use Rattle.std.proofs.lemmas.Str.{encode_ascii}
 
 -- a text is added, unless an allocation failed
@@ -42,3 +42,18 @@ pub next_text : {A : Type 0} (f : A → List ℕ) (rest others : List A) (x : A)
     → out ++ flat_map f rest ≡ whole → new ++ flat_map f others ≡ whole
 next_text f rest others x out new whole parted written all =
     ap (λ o. o ++ flat_map f others) written ∙ append_assoc out (f x) (flat_map f others) ∙ ap (λ xs. out ++ flat_map f xs) (sym parted) ∙ all
+
+-- the texts of the first things are written: with those of the things that are left, the text so far is the whole
+pub record AreWritten {X A : Type 0} (Fits : A → Type 0) (text_of : A → List ℕ) (plain : X → A) (all rest : List X) (old out : List ℕ) : Type 0 where
+  pub fit : AllByRecursion Fits (map plain rest)
+  pub whole : out ++ flat_map text_of (map plain rest) ≡ old ++ flat_map text_of (map plain all)
+
+-- so are they with the next thing
+pub written_more : {X A : Type 0} (Fits : A → Type 0) (text_of : A → List ℕ) (plain : X → A) (all rest others : List X) (x : X) (old out new : List ℕ)
+    → rest ≡ x ∷ others → new ≡ out ++ text_of (plain x) → AreWritten Fits text_of plain all rest old out → AreWritten Fits text_of plain all others old new
+written_more Fits text_of plain all rest others x old out new parted written before =
+    let fit = rw parted at before.fit in
+    record {
+      fit = fit.1;
+      whole = next_text text_of (map plain rest) (map plain others) (plain x) out new _ (ap (map plain) parted) written before.whole;
+    }

@@ -43,10 +43,10 @@ pub record IsDiagnostic (with_message : List ℕ → List ℕ) (printed : Option
 abbrev pub next_block : List ℕ → SpansKind → ℕ → Extent → List Extent → List ℕ
 next_block src kind number span others = 10 ∷ block_text src (dots src span others) span (label kind number) 94
 
--- this is such a text
-abbrev pub IsDiagnosticText : {A : Type 0} → (List ℕ → List ℕ) → Option (List ℕ) → String A → Type 0
-IsDiagnosticText with_message printed text = IsDiagnostic with_message printed (string_bytes text)
+-- this is the text of all places of a thing, the first with what may be printed for the thing
+abbrev pub IsShown : {X : Type 0} → (SpansKind → List Extent → List ℕ → List ℕ) → (X → SpansKind) → (X → List Extent) → (X → Option (List ℕ)) → X → List ℕ → Type 0
+IsShown shown kind places printed thing = λ text. IsDiagnostic (shown (kind thing) (places thing)) (printed thing) text
 
--- this is the text of the blocks of all places of a thing, the first with what may be printed for the thing
-abbrev pub ShowsThing : {X A : Type 0} → List ℕ → (X → SpansKind) → (X → List Extent) → (X → Option (List ℕ)) → X → String A → Type 0
-ShowsThing src kind places printed thing text = IsDiagnosticText (spanned_text src (kind thing) (places thing)) (printed thing) text
+-- the same of a string
+abbrev pub ShowsThing : {X A : Type 0} → (SpansKind → List Extent → List ℕ → List ℕ) → (X → SpansKind) → (X → List Extent) → (X → Option (List ℕ)) → X → String A → Type 0
+ShowsThing shown kind places printed thing = λ text. IsDiagnostic (shown (kind thing) (places thing)) (printed thing) (string_bytes text)

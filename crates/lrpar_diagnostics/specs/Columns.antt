@@ -8,6 +8,10 @@ use Rattle.lrpar_grammar_places.specs.Lines.{line_of, line_end}
 abbrev pub Appends : {A : Type 0} → String A → String A → List ℕ → Type 0
 Appends old new text = string_bytes new ≡ string_bytes old ++ text
 
+-- this is the text
+abbrev pub IsText : {A : Type 0} → List ℕ → String A → Type 0
+IsText bytes = λ text. string_bytes text ≡ bytes
+
 -- how many columns the bytes from i up to j take
 abbrev pub columns : List ℕ → ℕ → ℕ → ℕ
 columns src i j = str_width false (chars (slice_range src i j))

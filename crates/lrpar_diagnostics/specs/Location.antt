@@ -6,6 +6,13 @@ use Rattle.lrpar_grammar_places.specs.Lines.{line_of, column_of}
 use Rattle.lrpar_grammar_places.specs.Span.{Extent}
 use Rattle.lrpar_diagnostics.specs.Subject.{Subject}
 
+-- messages are about this text, and they name it by this path
+abbrev pub HasText : List ℕ → Subject → Type 0
+HasText text = λ f. f.text ≡ text
+
+abbrev pub HasPath : List ℕ → Subject → Type 0
+HasPath path = λ f. f.path ≡ path
+
 -- whether a number ends in 11, 12 or 13
 abbrev pub is_teen : ℕ → Bool
 is_teen n = nat_le 11 (n % 100) && nat_le (n % 100) 13

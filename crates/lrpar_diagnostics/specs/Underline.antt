@@ -1,9 +1,10 @@
 -- Parts of a text, underlined on the lines that they touch.
-use Rattle.std.specs.Prelude.{ℕ, ◌≡◌, ◌+◌, ◌-◌, ◌≤◌, ◌||◌, nat_lt, Bool, List, [], ◌∷◌, ◌++◌, MatchOption, Option, length, filter, min, max}
+use Rattle.std.specs.Prelude.{ℕ, ◌≡◌, ◌+◌, ◌-◌, ◌≤◌, ◌||◌, nat_lt, Bool, List, [], ◌∷◌, ◌++◌, MatchOption, Option, String, length, filter, min, max, string_bytes}
 use Rattle.std.specs.List.{join_by, range_with_len}
 use Rattle.lrpar_grammar_places.specs.Lines.{line_start, line_end, starts_line}
 use Rattle.lrpar_grammar_places.specs.Span.{Extent}
 use Rattle.lrpar_grammar.specs.SpansFit.{IsPartOf}
+use Rattle.lrpar_diagnostics.specs.Subject.{Subject}
 use Rattle.lrpar_diagnostics.specs.Columns.{columns, repeated, text_end, margin, printed_line}
 
 -- the starts of the lines that start after byte b, up to byte end
@@ -63,6 +64,13 @@ abbrev pub on_line_text : List ℕ → List Extent → List ℕ → ℕ → List
 on_line_text src [] message c = []
 on_line_text src (span ∷ spans) message c = first_mark src c span ++ marks_after src c span.end spans ++ 32 ∷ message
 
+-- these lines of the text that messages are about, with a message
+abbrev pub shown_block : {A : Type 0} → Subject → List ℕ → Extent → String A → ℕ → List ℕ
+shown_block f prefix span message c = block_text f.text prefix span (string_bytes message) c
+
+abbrev pub shown_on_line : {A : Type 0} → Subject → List Extent → String A → ℕ → List ℕ
+shown_on_line f spans message c = on_line_text f.text spans (string_bytes message) c
+
 -- parts of a text after byte i, in order, none of which overlaps the next
 abbrev pub FollowInOrder : List ℕ → ℕ → List Extent → Type 0
 FollowInOrder src i [] = Unit {0}
@@ -82,6 +90,10 @@ EndOnFirstLine src (span ∷ spans) = EndOnLine src (line_start src span.start) 
 pub record FollowOnLine (src : List ℕ) (spans : List Extent) : Type 0 where
   pub order : FollowInOrder src 0 spans
   pub line : EndOnFirstLine src spans
+
+-- the same of the text that messages are about
+abbrev pub SpansFollow : Subject → List Extent → Type 0
+SpansFollow f spans = FollowOnLine f.text spans
 
 -- this is the start of the next line after the one that starts at byte b which is printed for a part up to byte end, if there is one
 abbrev pub IsNextPrinted : List ℕ → ℕ → ℕ → Option ℕ → Type 0

@@ -1,13 +1,13 @@
 //! Texts of errors and warnings: a block for each of their places.
 ghost use Rattle.std.specs.Prelude.{◌≡◌, ◌-◌, ◌↔◌, List, ℕ, IfOk, IsErrOf, IsTrue, OnOk};
 ghost use Rattle.std.specs.List.{AllByRecursion};
-ghost use Rattle.std.specs.String.{string_bytes};
 ghost use Rattle.lrpar_grammar_places.specs.Lines.{line_of};
 ghost use Rattle.lrpar_grammar_places.specs.Span.{Extent};
 ghost use Rattle.lrpar_grammar_places.specs.declared.span.SpansKind.{SpansKind};
 ghost use Rattle.lrpar_grammar.specs.SpansFit.{IsPartOf};
-ghost use Rattle.lrpar_diagnostics.specs.Blocks.{HasSeveralSpans, IsDiagnostic, IsDiagnosticText, ShowsThing, blocks_after, dots, label, next_block, spanned_text};
-ghost use Rattle.lrpar_diagnostics.specs.Columns.{Appends};
+ghost use Rattle.lrpar_diagnostics.specs.Blocks.{HasSeveralSpans, IsShown, ShowsThing, blocks_after, dots, label, next_block, spanned_text};
+ghost use Rattle.lrpar_diagnostics.specs.Columns.{Appends, IsText};
+ghost use Rattle.lrpar_diagnostics.specs.declared.fault.DiagnosticFault.TheVariants.{SeveralSpans};
 
 use crate::fault::{DiagnosticError, DiagnosticFault};
 use crate::formatter::SpannedDiagnosticFormatter;
@@ -35,8 +35,8 @@ pub trait DiagnosticFormatter {
         e: E,
     ) -> Result<DiagnosticError, DiagnosticFault>
         requires { shows self.now (E.places e) }
-        ensures text { IfOk result (IsDiagnostic (shown self.now (E.kind e) (E.places e)) (E.output e)) }
-        ensures several { IsErrOf result DiagnosticFault.SeveralSpans ↔ HasSeveralSpans (E.kind e) (E.places e) };
+        ensures text { IfOk result (IsShown (shown self.now) E.kind E.places E.output e) }
+        ensures several { IsErrOf result SeveralSpans ↔ HasSeveralSpans (E.kind e) (E.places e) };
 
     /// The text of a warning, as that of an error.
     fn format_warning<W: Spanned + Display + Drop>(
@@ -45,8 +45,8 @@ pub trait DiagnosticFormatter {
         w: W,
     ) -> Result<String, DiagnosticFault>
         requires { shows self.now (W.places w) }
-        ensures text { IfOk result (IsDiagnosticText (shown self.now (W.kind w) (W.places w)) (W.output w)) }
-        ensures several { IsErrOf result DiagnosticFault.SeveralSpans ↔ HasSeveralSpans (W.kind w) (W.places w) };
+        ensures text { IfOk result (ShowsThing (shown self.now) W.kind W.places W.output w) }
+        ensures several { IsErrOf result SeveralSpans ↔ HasSeveralSpans (W.kind w) (W.places w) };
 }
 
 impl<'a> DiagnosticFormatter for SpannedDiagnosticFormatter<'a> {
@@ -79,8 +79,8 @@ impl<'a> Source<'a> {
         thing: &T,
     ) -> Result<String, DiagnosticFault>
         requires { AllByRecursion (IsPartOf self.now.src.now) (T.places thing.now) }
-        ensures text { IfOk result (ShowsThing self.now.src.now T.kind T.places T.output thing.now) }
-        ensures several { IsErrOf result DiagnosticFault.SeveralSpans ↔ HasSeveralSpans (T.kind thing.now) (T.places thing.now) }
+        ensures text { IfOk result (ShowsThing (spanned_text self.now.src.now) T.kind T.places T.output thing.now) }
+        ensures several { IsErrOf result SeveralSpans ↔ HasSeveralSpans (T.kind thing.now) (T.places thing.now) }
     {
         if has_several_spans(thing.spanskind(), thing.spans()) {
             return Err(DiagnosticFault::SeveralSpans);
@@ -98,7 +98,7 @@ impl<'a> Source<'a> {
         message: &str,
     ) -> Result<String, AllocError>
         requires { AllByRecursion (IsPartOf self.now.src.now) spans.now }
-        ensures { IfOk result (λ text. string_bytes text ≡ spanned_text self.now.src.now kind spans.now message.now) }
+        ensures { IfOk result (IsText (spanned_text self.now.src.now kind spans.now message.now)) }
     {
         let mut out = String::new(alloc);
         let Some((first, others)) = spans.split_first() else {
@@ -173,7 +173,7 @@ impl<'a> Source<'a> {
 
 // The label of the place of this number, which isn't the first.
 fn label(alloc: Global, kind: SpansKind, number: usize) -> Result<String, AllocError>
-    ensures { IfOk result (λ text. string_bytes text ≡ label kind number) }
+    ensures { IfOk result (IsText (label kind number)) }
 {
     match kind {
         SpansKind::DuplicationError => {

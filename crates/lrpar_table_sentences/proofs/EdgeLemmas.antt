@@ -16,7 +16,7 @@ use Rattle.lrpar_table_sentences.specs.AccessLens.{AreEdges, EdgeOf, IsStoredAt,
 
 -- what is made of one element more comes after what is made of the first i
 module _ {X Y : Type 0} (f : X → List Y) (xs : List X) (i : ℕ) (x : X) where
-  pub made_more : (first before after : List Y) → i < length xs → x ≡ get_or xs i x → before ≡ first ++ flat_map f (take i xs) → after ≡ before ++ f x
+  made_more : (first before after : List Y) → i < length xs → x ≡ get_or xs i x → before ≡ first ++ flat_map f (take i xs) → after ≡ before ++ f x
       → after ≡ first ++ flat_map f (take (i + 1) xs)
   made_more first before after low is was now =
       let here : take (i + 1) xs ≡ take i xs ++ x ∷ [] = take_more xs i x low ∙ ap (λ y. take i xs ++ y ∷ []) (sym is) in
@@ -25,7 +25,7 @@ module _ {X Y : Type 0} (f : X → List Y) (xs : List X) (i : ℕ) (x : X) where
       now ∙ ap (λ ys. ys ++ f x) was ∙ append_assoc first (flat_map f (take i xs)) (f x) ∙ ap (λ ys. first ++ ys) (sym made)
 
 -- and what is made of all is all
-pub made_all : {X Y : Type 0} (f : X → List Y) (xs : List X) (i : ℕ) (first all : List Y) → length xs ≤ i → all ≡ first ++ flat_map f (take i xs)
+made_all : {X Y : Type 0} (f : X → List Y) (xs : List X) (i : ℕ) (first all : List Y) → length xs ≤ i → all ≡ first ++ flat_map f (take i xs)
     → all ≡ first ++ flat_map f xs
 made_all f xs i first all past is = is ∙ ap (λ ys. first ++ flat_map f ys) (take_all i xs past)
 

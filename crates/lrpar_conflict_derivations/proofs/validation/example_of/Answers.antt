@@ -2,13 +2,14 @@ use Rattle.std.proofs.Common.{◌↔◌, ◌∙◌, IsTrue, subst, sym, inr}
 use Rattle.lrpar_table_sentences.specs.Moves.{move_of, moves_in}
 use Rattle.lrpar_conflict_derivations.specs.Example.{IsLeastTo}
 use Rattle.lrpar_conflict_derivations.specs.Replay.{AreOfTree}
+use Rattle.lrpar_conflict_derivations.specs.Stored.{IsExampleAfter}
 use Rattle.lrpar_conflict_derivations.specs.Texts.{tokens_in}
 use Rattle.lrpar_conflict_derivations.proofs.ExampleLemmas.{example_done, least_by}
 use Rattle.lrpar_conflict_derivations.proofs.ValidationLemmas.{validated_derives}
 use Rattle.lrpar_conflict_derivations.proofs.validation.example_of.Goals as goal
 
-pub returns-clause-example : goal.returns-clause-example
-returns-clause-example g c =
+pub returns : goal.returns
+returns g c =
     let index = g.StorageT.StorageIndex.index in
     let grm = c.args.grm.now in
     let conflict = c.args.conflict.now in
@@ -24,7 +25,7 @@ returns-clause-example g c =
     let made = c.in_ok-example.ensures in
     let example = c.in_ok-example.example in
     let flag = c.in_ok-shortest.shortest in
-    λ graph s steps short_steps lead least.
+    let is : IsExampleAfter index grm conflict c.args.front.now c.args.short.now example = λ graph s steps short_steps lead least.
     example_done grm graph s t steps front a b one other example c.requires lead
     (validated_derives grm steps t front _ a one c.in_ok-first.ensures (c.begin_with.ensures.begins c.if-not-begin_with.false)
     (c.begin_with.ensures.shifts c.if-not-begin_with.false) tree_a)
@@ -33,4 +34,4 @@ returns-clause-example g c =
     flag c.args.bound made
     (subst (λ is. IsTrue is ↔ IsLeastTo grm graph s (tokens_in front)) (sym made.shortest)
     (least_by grm graph s steps short_steps front short flag lead least c.in_ok-shortest.ensures))
-    (inr (sym c.is_ambiguous.ensures ∙ c.if-not-is_ambiguous.false))
+    (inr (sym c.is_ambiguous.ensures ∙ c.if-not-is_ambiguous.false)) in (is, made.bound)

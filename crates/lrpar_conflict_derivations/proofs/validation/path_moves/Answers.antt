@@ -10,12 +10,13 @@ use Rattle.lrpar_conflict_derivations.proofs.validation.path_moves.Goals as goal
 pub returns : goal.returns
 returns g c =
     let index = g.StorageT.StorageIndex.index in
-    let grm = c.args.grm.now in
+    let context = c.args.context.now in
+    let grm = context.grm.now in
     let steps = steps_of index c.args.steps.now in
     let pushed = c.in_ok-push_sentences.ensures c.if-not-branch.false in
     let symbols : map (symbol_of index) c.deref.result.now ≡ symbols_in steps = ap (map (symbol_of index)) c.deref.ensures.value ∙ c.in_ok-symbols.ensures in
     let items = c.push_sentences.new.out.items in
     let moves : moves_in index items ≡ forest_moves pushed.0 = pushed.2 ∙ ap (λ xs. moves_in index xs ++ forest_moves pushed.0) c.new-moves.ensures.items in
     let fit = subst (λ (w : List GrammarSymbol). AreTreesOf grm w pushed.0) symbols pushed.1 in
-    front_by grm c.args.graph.now c.args.table.now c.start_prod-start.ensures.well_formed c.requires.built c.states_len-states.ensures.closed (index c.args.state.0) steps
+    front_by grm context.graph.now context.table.now c.start_prod-start.ensures.well_formed c.requires.built c.states_len-states.ensures.closed (index c.args.state.0) steps
     (c.lead.ensures c.if-not-lead.false) pushed.0 fit (moves_in index items) moves
