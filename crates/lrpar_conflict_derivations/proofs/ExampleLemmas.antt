@@ -2,15 +2,14 @@
 use Rattle.std.proofs.Common.{◌≡◌, ◌≢◌, ◌<◌, ◌↔◌, ◌⊎◌, ◌∙◌, refl, sym, ap, subst, inl, arith, ℕ, Bool, true, IsTrue, List, Option, length}
 use Rattle.std.specs.List.{Contains}
 use Rattle.lrpar_grammar.specs.Grammar.{Grammar}
-use Rattle.lrpar_grammar.specs.Tree.{Forest, Tree, forest_leaves, leaves}
+use Rattle.lrpar_grammar.specs.Tree.{forest_leaves, leaves}
 use Rattle.lrpar_table_rows.specs.Graph.{Graph}
 use Rattle.lrpar_table_rows.specs.Table.{ReduceReduce, ShiftReduce, Table}
 use Rattle.lrpar_table_first.specs.FirstRows.{AreFirsts}
 use Rattle.lrpar_table_build.specs.Built.{IsBuilt}
 use Rattle.lrpar_table_build.specs.BuilderLaws.{lists_in}
 use Rattle.lrpar_table_sentences.specs.Choices.{AreShortest, ChoiceOf}
-use Rattle.lrpar_table_sentences.specs.Moves.{MoveOf, Makes, Takes, forest_moves}
-use Rattle.lrpar_table_sentences.specs.Texts.{AreTreesOf}
+use Rattle.lrpar_table_sentences.specs.Moves.{MoveOf, Makes, Takes}
 use Rattle.lrpar_table_sentences.specs.AccessStrings.{StepOf, symbols_in}
 use Rattle.lrpar_conflict_derivations.specs.Example.{AreExamplesFor, ExampleOf, ExamplesOf, IsExample, IsFront, IsLeastTo, IsMadeOf, IsShortestFront, IsTextTo}
 use Rattle.lrpar_conflict_derivations.specs.Completion.{CanComplete}

@@ -10,7 +10,8 @@ use Rattle.lrpar_conflict_derivations.specs.Example.{ExampleOf}
 use Rattle.lrpar_conflict_derivations.specs.Texts.{token_numbers}
 use Rattle.lrpar_conflict_examples.specs.Conflicts.{ConflictExampleOf}
 use Rattle.lrpar_conflict_examples.specs.Fits.{AreMovesOf}
-use Rattle.lrpar_conflict_examples.specs.Words.{Appends, derivation_text, shown_name, text_line, tree_text}
+use Rattle.lrpar_grammar_places.specs.Strings.{Appends}
+use Rattle.lrpar_conflict_examples.specs.Words.{derivation_text, shown_name, text_line, tree_text}
 
 -- that the derivations have two texts, and the bound of the search for one
 abbrev pub bound_text : ℕ → List ℕ

@@ -1,17 +1,14 @@
 -- The texts of tokens, symbols, moves and trees.
-use Rattle.std.specs.Prelude.{◌≡◌, ℕ, List, [], ◌∷◌, ◌++◌, String, codes, drop, length, map, string_bytes, unwrap_or}
+use Rattle.std.specs.Prelude.{ℕ, List, [], ◌∷◌, ◌++◌, String, codes, drop, length, map, unwrap_or}
 use Rattle.std.specs.List.{flat_map}
 use Rattle.lrpar_grammar.specs.Grammar.{Grammar, GrammarSymbol, Nonterminal, Terminal, rule_name, rule_of, symbols_of, token_name}
 use Rattle.lrpar_grammar.specs.Symbols.{symbol_of}
 use Rattle.lrpar_grammar.specs.Tree.{Forest, Tree, Branch, Cons, Leaf, Nil}
+use Rattle.lrpar_grammar_places.specs.Strings.{Appends}
 use Rattle.lrpar_grammar_places.specs.declared.span.Symbol.{Symbol}
 use Rattle.lrpar_grammar_places.specs.declared.span.TIdx.{TIdx}
 use Rattle.lrpar_table_sentences.specs.Moves.{MoveOf, Makes, Takes}
 use Rattle.lrpar_conflict_derivations.specs.Texts.{token_numbers}
-
--- the text was added at the end
-abbrev pub Appends : {A : Type 0} → String A → String A → List ℕ → Type 0
-Appends old new text = string_bytes new ≡ string_bytes old ++ text
 
 -- a token as conflicts name it: by its name, and the end token by `$`
 abbrev pub shown_name : Grammar → ℕ → List ℕ

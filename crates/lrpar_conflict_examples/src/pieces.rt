@@ -6,7 +6,8 @@ ghost use Rattle.lrpar_table_sentences.specs.Moves.{move_of};
 ghost use Rattle.lrpar_conflict_examples.specs.Fits.{IsMoveOf, MakeTree};
 ghost use Rattle.lrpar_conflict_examples.specs.Pieces.{AddsTrees, AreTextOfMoves, MeetsMove, PieceFits, PiecesFit, piece_text};
 ghost use Rattle.lrpar_conflict_examples.specs.Texts.{AddsTree};
-ghost use Rattle.lrpar_conflict_examples.specs.Words.{Appends, front_text};
+ghost use Rattle.lrpar_grammar_places.specs.Strings.{Appends};
+ghost use Rattle.lrpar_conflict_examples.specs.Words.{front_text};
 
 use crate::words::push_word;
 use lrpar_grammar::grammar::YaccGrammar;

@@ -4,7 +4,8 @@ ghost use Rattle.lrpar_table_sentences.specs.Moves.{move_of};
 ghost use Rattle.lrpar_conflict_examples.specs.ExamplesFit.{Continue, ExampleFits, ExamplesFit, SecondFits};
 ghost use Rattle.lrpar_conflict_examples.specs.Fits.{HasTokens, IsMoveOf, MakeTree};
 ghost use Rattle.lrpar_conflict_examples.specs.Texts.{AddsBound, AddsCount, AddsDerivation, AddsOtherText, AddsText, AppendsExample, ShowsExamples, title_text};
-ghost use Rattle.lrpar_conflict_examples.specs.Words.{AddsLine, Appends};
+ghost use Rattle.lrpar_grammar_places.specs.Strings.{Appends};
+ghost use Rattle.lrpar_conflict_examples.specs.Words.{AddsLine};
 
 use crate::conflict::ConflictExample;
 use crate::pieces::push_tree;

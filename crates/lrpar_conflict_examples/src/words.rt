@@ -4,7 +4,8 @@ ghost use Rattle.lrpar_grammar.specs.Grammar.{prods_len, tokens_len};
 ghost use Rattle.lrpar_grammar.specs.Symbols.{symbol_of};
 ghost use Rattle.lrpar_table_sentences.specs.Moves.{move_of};
 ghost use Rattle.lrpar_conflict_examples.specs.Fits.{HasSymbols, HasTokens, IsMoveOf, IsSymbolOf};
-ghost use Rattle.lrpar_conflict_examples.specs.Words.{AddsSymbols, AddsWords, Appends, move_text, name_of, reduce_text, symbol_text, word_text};
+ghost use Rattle.lrpar_grammar_places.specs.Strings.{Appends};
+ghost use Rattle.lrpar_conflict_examples.specs.Words.{AddsSymbols, AddsWords, move_text, name_of, reduce_text, symbol_text, word_text};
 
 use lrpar_grammar::grammar::YaccGrammar;
 use lrpar_grammar::span::{PIdx, StorageIndex, Symbol, TIdx};

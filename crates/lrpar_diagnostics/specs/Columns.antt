@@ -4,10 +4,6 @@ use Rattle.std.specs.Fmt.{decimal}
 use Rattle.unicode_width.specs.Width.{str_width}
 use Rattle.lrpar_grammar_places.specs.Lines.{line_of, line_end}
 
--- the text was appended
-abbrev pub Appends : {A : Type 0} → String A → String A → List ℕ → Type 0
-Appends old new text = string_bytes new ≡ string_bytes old ++ text
-
 -- this is the text
 abbrev pub IsText : {A : Type 0} → List ℕ → String A → Type 0
 IsText bytes = λ text. string_bytes text ≡ bytes

@@ -4,7 +4,8 @@ ghost use Rattle.lrpar_grammar.specs.Grammar.{end_token, prods_len, rules_len, t
 ghost use Rattle.lrpar_grammar.specs.SpansFit.{IsPartOf, NamesFit, SpansFit};
 ghost use Rattle.lrpar_table_rows.specs.ConflictsFit.{ConflictsFit, ReductionsFit, ShiftFits};
 ghost use Rattle.lrpar_table_rows.specs.PlainConflicts.{reduce_reduce_of, shift_reduce_of};
-ghost use Rattle.lrpar_diagnostics.specs.Columns.{Appends, IsText};
+ghost use Rattle.lrpar_grammar_places.specs.Strings.{Appends};
+ghost use Rattle.lrpar_diagnostics.specs.Columns.{IsText};
 ghost use Rattle.lrpar_diagnostics.specs.ConflictText.{by_line, conflicts_text, dollar_span, group_label, labelled, shift_or_reduction, shown_name, shown_span, shown_spans, two_reductions};
 ghost use Rattle.lrpar_diagnostics.specs.StoredConflicts.{AllReductionsFit, AllShiftsFit, IsDollarSpan, IsFirstGroup, PlacesRule, labelled_rule, labelled_token, lines_text, reductions_text, reductions_texts, shift_or_reduce_text, shifts_texts, symbols_text, token_as_lookahead, token_or_rule_line, token_or_rule_text, two_rules_line, two_rules_text};
 ghost use Rattle.lrpar_diagnostics.specs.Underline.{FollowInOrder};

@@ -3,7 +3,8 @@ ghost use Rattle.std.specs.Prelude.{◌≡◌, ◌%◌, ◌≤◌, ◌++◌, ◌
 ghost use Rattle.std.specs.String.{string_bytes};
 ghost use Rattle.lrpar_grammar_places.specs.Lines.{line_table};
 ghost use Rattle.lrpar_grammar.specs.SpansFit.{IsPartOf};
-ghost use Rattle.lrpar_diagnostics.specs.Columns.{Appends, IsText};
+ghost use Rattle.lrpar_grammar_places.specs.Strings.{Appends};
+ghost use Rattle.lrpar_diagnostics.specs.Columns.{IsText};
 ghost use Rattle.lrpar_diagnostics.specs.Location.{HasPath, HasText, IsLocationText, IsPlaceText, is_teen, ordinal_text, suffix_of_digit};
 ghost use Rattle.lrpar_diagnostics.specs.Underline.{FollowInOrder, SpansFollow, shown_block, shown_on_line};
 

@@ -2,7 +2,8 @@
 ghost use Rattle.std.specs.Prelude.{◌≡◌, ◌<◌, ◌≤◌, ◌↔◌, IfOk, IfSome, IsTrue, OnOk, length};
 ghost use Rattle.std.specs.Str.{IsCharBoundary, IsUtf8};
 ghost use Rattle.lrpar_grammar_places.specs.Lines.{line_end, line_of, line_start, line_table};
-ghost use Rattle.lrpar_diagnostics.specs.Columns.{Appends, columns, margin, printed_line, repeated, text_end};
+ghost use Rattle.lrpar_grammar_places.specs.Strings.{Appends};
+ghost use Rattle.lrpar_diagnostics.specs.Columns.{columns, margin, printed_line, repeated, text_end};
 ghost use Rattle.lrpar_diagnostics.specs.Underline.{EndOnFirstLine, EndOnLine, FollowInOrder, FollowOnLine, IsNextPrinted, block_text, first_mark, is_printed, marked_line, marks_after, on_line_text, underline};
 ghost use Rattle.lrpar_diagnostics.specs.Location.{AreLineAndColumn};
 ghost use Rattle.lrpar_grammar.specs.SpansFit.{IsPartOf};

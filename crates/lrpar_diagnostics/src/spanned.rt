@@ -6,7 +6,8 @@ ghost use Rattle.lrpar_grammar_places.specs.Span.{Extent};
 ghost use Rattle.lrpar_grammar_places.specs.declared.span.SpansKind.{SpansKind};
 ghost use Rattle.lrpar_grammar.specs.SpansFit.{IsPartOf};
 ghost use Rattle.lrpar_diagnostics.specs.Blocks.{HasSeveralSpans, IsShown, ShowsThing, blocks_after, dots, label, next_block, spanned_text};
-ghost use Rattle.lrpar_diagnostics.specs.Columns.{Appends, IsText};
+ghost use Rattle.lrpar_grammar_places.specs.Strings.{Appends};
+ghost use Rattle.lrpar_diagnostics.specs.Columns.{IsText};
 ghost use Rattle.lrpar_diagnostics.specs.declared.fault.DiagnosticFault.TheVariants.{SeveralSpans};
 
 use crate::fault::{DiagnosticError, DiagnosticFault};
