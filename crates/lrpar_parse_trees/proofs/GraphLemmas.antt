@@ -153,4 +153,4 @@ enter_falls parent above rest node left is = rw (rests_push above (parent, rest)
 
 pub turn_falls : {X S : Type 0} (above : List (ℕ × Bor (List (Node X S)))) (aside : ℕ × Bor (List (Node X S)))
     → measure_left above aside.1.now < measure_left (above ++ aside ∷ []) []
-turn_falls above aside = rw (rests_push above aside) (turn_smaller (rests above) aside.1)
+turn_falls above aside = rw (rests_push above aside) (turn_smaller (rests above) (rests above ++ aside.1 ∷ []) aside.1 [] refl refl)

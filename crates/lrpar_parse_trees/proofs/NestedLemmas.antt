@@ -1,6 +1,8 @@
 -- What is left to write of a tree on one line, by what a loop has left: the current trees, and those of each level above.
 use denote.Ref.{Bor}
-use Rattle.std.proofs.Common.{◌≡◌, ℕ, ◌+◌, ◌*◌, ◌<◌, Bool, true, false, List, [], ◌∷◌, ◌++◌, length, map, refl, ap, sym, ◌∙◌, arith, append_assoc, append-nil, length-append}
+use Rattle.std.proofs.Common.{◌≡◌, ℕ, ◌+◌, ◌*◌, ◌<◌, Bool, true, false, List, [], ◌∷◌, ◌++◌, Option, length, map, refl, ap, sym, subst, ◌∙◌, arith, append_assoc, append-nil, length-append}
+use Rattle.std.specs.Io.KnownBytes.{Appends}
+use Rattle.std.proofs.lemmas.List.{nil_from_length}
 use Rattle.lrpar_grammar.specs.Grammar.{Grammar, rule_name}
 use Rattle.lrpar_grammar.specs.Sentence.{LexemeFacts}
 use Rattle.lrpar_parse_trees.specs.declared.node.Node.{Node}
@@ -9,6 +11,7 @@ use Rattle.lrpar_parse_trees.specs.declared.node.Node.TheViews.{out-Node}
 use Rattle.lrpar_parse_trees.specs.declared.node.Node.TheFolds.{fold_out-Node, map-Node}
 use Rattle.lrpar_parse_trees.specs.TreeText.{layer_nodes, nodes_below}
 use Rattle.lrpar_parse_trees.proofs.WeightLemmas.{weight, weights, weight_step}
+use Rattle.lrpar_parse_trees.proofs.WriteLemmas.{appends_both}
 use Rattle.lrpar_parse_trees.specs.Fronts.{front_text, is_rule, layer_front, layer_is_rule, trees_text}
 use Rattle.lrpar_parse_trees.specs.Nested.{end_of, gap, joined, nested_step, nested_text, rule_front}
 use Rattle.lrpar_parse_trees.specs.declared.form.Form.{Form}
@@ -120,6 +123,34 @@ module _ {X S : Type 0} (form : Form) (facts : X → LexemeFacts) (index : S →
   left_turn first below rest =
       ap (λ l. end_of form ++ l) (sym (later_push below rest ∙ append_assoc (trees false rest.now) (end_of form) (later below)))
 
+  -- a separator and a front are written, and then what is left after a rule that is entered
+  pub writes_enter : (first : Bool) (below : List (Bor (List (Node X S)))) (rest : Bor (List (Node X S))) (node : Node X S) (left : List (Node X S))
+      (old gapped fronted last : Option (List ℕ)) → left ≡ node ∷ rest.now → is_rule node ≡ true → Appends old gapped (gap form first)
+      → Appends gapped fronted (front node) → Appends fronted last (left_text true (below ++ rest ∷ []) (nodes_below node))
+      → Appends old last (left_text first below left)
+  writes_enter first below rest node left old gapped fronted last is rule gaps fronts more =
+      let inner = left_text true (below ++ rest ∷ []) (nodes_below node) in
+      subst (Appends old last) (left_enter first below rest node left is rule)
+      (appends_both old gapped last (gap form first) (front node ++ inner) gaps (appends_both gapped fronted last (front node) inner fronts more))
+
+  -- the same for a lexeme
+  pub writes_leaf : (first : Bool) (below : List (Bor (List (Node X S)))) (rest : Bor (List (Node X S))) (node : Node X S) (left : List (Node X S))
+      (old gapped fronted last : Option (List ℕ)) → left ≡ node ∷ rest.now → is_rule node ≡ false → Appends old gapped (gap form first)
+      → Appends gapped fronted (front node) → Appends fronted last (left_text false below rest.now) → Appends old last (left_text first below left)
+  writes_leaf first below rest node left old gapped fronted last is leaf gaps fronts more =
+      let others = left_text false below rest.now in
+      subst (Appends old last) (left_leaf first below rest node left is leaf)
+      (appends_both old gapped last (gap form first) (front node ++ others) gaps (appends_both gapped fronted last (front node) others fronts more))
+
+  -- the end of a node is written, and then what was put aside last
+  pub writes_turn : (first : Bool) (below aside : List (Bor (List (Node X S)))) (rest : Bor (List (Node X S))) (left : List (Node X S))
+      (old ended last : Option (List ℕ)) → length left ≡ 0 → aside ≡ below ++ rest ∷ [] → Appends old ended (end_of form)
+      → Appends ended last (left_text false below rest.now) → Appends old last (left_text first aside left)
+  writes_turn first below aside rest left old ended last none put ends more =
+      let same : end_of form ++ left_text false below rest.now ≡ left_text first aside left =
+      left_turn first below rest ∙ sym (ap (left_text first aside) (nil_from_length left none) ∙ ap (λ b. left_text first b []) put) in
+      subst (Appends old last) same (appends_both old ended last (end_of form) (left_text false below rest.now) ends more)
+
   -- nothing is left but the end of the root
   pub left_end : (first : Bool) → end_of form ≡ left_text first [] []
   left_end first = sym (append-nil (end_of form))
@@ -148,9 +179,10 @@ leaf_smaller below rest node left is =
     let whole : weights left ≡ weight node + weights rest.now = ap weights is in
     omega (arith, whole, weight_out node)
 
-pub turn_smaller : {X S : Type 0} (below : List (Bor (List (Node X S)))) (rest : Bor (List (Node X S)))
-    → left_measure below rest.now < left_measure (below ++ rest ∷ []) []
-turn_smaller below rest = omega (arith, weights_push below rest, length-append below (rest ∷ []))
+pub turn_smaller : {X S : Type 0} (below aside : List (Bor (List (Node X S)))) (rest : Bor (List (Node X S))) (left : List (Node X S))
+    → length left ≡ 0 → aside ≡ below ++ rest ∷ [] → left_measure below rest.now < left_measure aside left
+turn_smaller below aside rest left none put =
+    rw (nil_from_length left none, put) (omega (arith, weights_push below rest, length-append below (rest ∷ [])))
 
 -- three texts are added, one after the other
 pub added_thrice : (old a b c mid next new : List ℕ) → mid ≡ old ++ a → next ≡ mid ++ b → new ≡ next ++ c → new ≡ old ++ (a ++ b ++ c)

@@ -144,13 +144,24 @@ pub weights_entered : {X S : Type 0} (a : Node X S) (rest nodes more : List (Nod
 weights_entered a rest nodes more n =
     rw n (weights_enter a (rest ++ more) ∙ ap (λ k. 1 + k) (weights_append (children a) (rest ++ more)))
 
+-- if the first nodes are alike, and the trees below them are compared apart, the others decide
+pub nodes_eq_skip : {X S : Type 0} {a b : Node X S} {rest others nodes others' below below' : List (Node X S)} (eq : X → X → Bool) (same : S → S → Bool) (known : Bool)
+    (more more' : List (Node X S)) → nodes ≡ a ∷ rest → others' ≡ b ∷ others → true ≡ visit_eq eq same (visit a) (visit b) → below ≡ children a → below' ≡ children b
+    → known ≡ nodes_eq eq same below below'
+    → nodes_eq eq same (nodes ++ more) (others' ++ more') ≡ (known && nodes_eq eq same (rest ++ more) (others ++ more'))
+nodes_eq_skip {a = a} {b = b} {rest = rest} {others = others} {nodes = nodes} {others' = others'} {below = below} {below' = below'} eq same known more more' n o is at at' compared =
+    let apart = nodes_eq_append eq same (children a) (children b) (rest ++ more) (others ++ more') (children_even eq same a b (sym is)) in
+    let result : nodes_eq eq same (children a) (children b) ≡ known =
+    sym (compared ∙ ap (λ ns. nodes_eq eq same ns below') at ∙ ap (nodes_eq eq same (children a)) at') in
+    nodes_eq_enter eq same a b true rest others nodes others' more more' n o is ∙ apart ∙ ap (λ k. k && nodes_eq eq same (rest ++ more) (others ++ more')) result
+
 -- with no list: several trees are equal if the first nodes are alike, the trees below these are equal, and the others
 nodes_eq_begins : {X S : Type 0} (eq : X → X → Bool) (same : S → S → Bool) (a b : Node X S) (like : Bool) (rest others nodes others' : List (Node X S))
     → nodes ≡ a ∷ rest → others' ≡ b ∷ others → like ≡ visit_eq eq same (visit a) (visit b)
     → nodes_eq eq same nodes others' ≡ (like && nodes_eq eq same (children a ++ rest) (children b ++ others))
 nodes_eq_begins eq same a b like rest others nodes others' n o is = rw (n, o, walks_enter a rest, walks_enter b others, is) refl
 
-pub nodes_eq_apart : {X S : Type 0} (eq : X → X → Bool) (same : S → S → Bool) (a b : Node X S) (rest others nodes others' below below' : List (Node X S))
+nodes_eq_apart : {X S : Type 0} (eq : X → X → Bool) (same : S → S → Bool) (a b : Node X S) (rest others nodes others' below below' : List (Node X S))
     → nodes ≡ a ∷ rest → others' ≡ b ∷ others → true ≡ visit_eq eq same (visit a) (visit b) → below ≡ children a → below' ≡ children b
     → nodes_eq eq same nodes others' ≡ (nodes_eq eq same below below' && nodes_eq eq same rest others)
 nodes_eq_apart eq same a b rest others nodes others' below below' n o is at at' =
@@ -166,16 +177,31 @@ pub weights_begin : {X S : Type 0} (a : Node X S) (rest nodes below : List (Node
 weights_begin a rest nodes below n at = rw (n, at) (omega (arith, weight_out a))
 
 -- of two parts that have to be equal one is known
-pub first_unequal : (a b whole : Bool) → whole ≡ (a && b) → false ≡ a → false ≡ whole
+first_unequal : (a b whole : Bool) → whole ≡ (a && b) → false ≡ a → false ≡ whole
 first_unequal a b whole is known = sym (is ∙ ap (λ x. x && b) (sym known))
 
-pub second_unequal : (a b whole : Bool) → whole ≡ (a && b) → false ≡ b → false ≡ whole
+second_unequal : (a b whole : Bool) → whole ≡ (a && b) → false ≡ b → false ≡ whole
 second_unequal false b whole is known = sym is
 second_unequal true b whole is known = known ∙ sym is
 
-pub first_equal : (a b whole : Bool) → whole ≡ (a && b) → true ≡ a → b ≡ whole
+first_equal : (a b whole : Bool) → whole ≡ (a && b) → true ≡ a → b ≡ whole
 first_equal a b whole is known = sym (is ∙ ap (λ x. x && b) (sym known))
 
-pub second_equal : (a b whole : Bool) → whole ≡ (a && b) → true ≡ b → a ≡ whole
+second_equal : (a b whole : Bool) → whole ≡ (a && b) → true ≡ b → a ≡ whole
 second_equal false b whole is known = sym is
 second_equal true b whole is known = known ∙ sym is
+
+-- the first nodes are alike, and of the trees below them and the others only the ones are compared
+module _ {X S : Type 0} (eq : X → X → Bool) (same : S → S → Bool) {a b : Node X S} {rest others nodes others' below below' : List (Node X S)}
+    (n : nodes ≡ a ∷ rest) (o : others' ≡ b ∷ others) (is : true ≡ visit_eq eq same (visit a) (visit b)) (at : below ≡ children a) (at' : below' ≡ children b) where
+  pub unequal_below : false ≡ nodes_eq eq same below below' → false ≡ nodes_eq eq same nodes others'
+  unequal_below known = first_unequal _ (nodes_eq eq same rest others) _ (nodes_eq_apart eq same a b rest others nodes others' below below' n o is at at') known
+
+  pub unequal_after : false ≡ nodes_eq eq same rest others → false ≡ nodes_eq eq same nodes others'
+  unequal_after known = second_unequal (nodes_eq eq same below below') _ _ (nodes_eq_apart eq same a b rest others nodes others' below below' n o is at at') known
+
+  pub equal_below : true ≡ nodes_eq eq same below below' → nodes_eq eq same rest others ≡ nodes_eq eq same nodes others'
+  equal_below known = first_equal _ (nodes_eq eq same rest others) _ (nodes_eq_apart eq same a b rest others nodes others' below below' n o is at at') known
+
+  pub equal_after : true ≡ nodes_eq eq same rest others → nodes_eq eq same below below' ≡ nodes_eq eq same nodes others'
+  equal_after known = second_equal (nodes_eq eq same below below') _ _ (nodes_eq_apart eq same a b rest others nodes others' below below' n o is at at') known

@@ -1,9 +1,9 @@
 -- Lexemes and rules as trees print them.
 use denote.Ref.{Bor}
-use Rattle.std.specs.Prelude.{◌≡◌, ℕ, List, Some, String, slice_range}
+use Rattle.std.specs.Prelude.{◌≡◌, ℕ, List, Result, Some, String, slice_range}
 use Rattle.lrpar_grammar.specs.Grammar.{Grammar, rule_name, token_name}
 use Rattle.lrpar_grammar_places.specs.declared.span.RIdx.{RIdx}
-use Rattle.lrpar_parse_errors.specs.Strings.{Appends}
+use Rattle.lrpar_parse_errors.specs.Strings.{Pushes}
 use Rattle.lrpar_parse_lexemes.specs.Lexemes.{LexemeParts}
 use Rattle.lrpar_parse_trees.specs.Graph.{leaf_label, leaf_line}
 use Rattle.lrpar_parse_trees.specs.Nested.{bracket_leaf, json_leaf, json_place, leaf_text}
@@ -30,26 +30,26 @@ IsFaultyAs x = λ leaf. leaf.is_faulty ≡ x.faulty
 abbrev pub IsNameOf : {S : Type 0} → (S → ℕ) → Grammar → RIdx S → Bor (List ℕ) → Type 0
 IsNameOf index g rule = λ name. name.now ≡ rule_name g (index rule.0)
 
--- the lexeme was added, in the form
-abbrev pub AppendsLeaf : {A : Type 0} → Form → Leaf → String A → String A → Type 0
-AppendsLeaf form leaf old new = Appends old new (leaf_text form leaf.name.now leaf.text.now leaf.start leaf.end leaf.is_faulty)
+-- if the call succeeded, the lexeme was added, in the form
+abbrev pub PushesLeaf : {A T E : Type 0} → Form → Leaf → String A → String A → Result T E → Type 0
+PushesLeaf form leaf old new result = Pushes (leaf_text form leaf.name.now leaf.text.now leaf.start leaf.end leaf.is_faulty) old new result
 
--- it was added in the form with brackets
-abbrev pub AppendsBracketLeaf : {A : Type 0} → Leaf → String A → String A → Type 0
-AppendsBracketLeaf leaf old new = Appends old new (bracket_leaf leaf.name.now leaf.text.now leaf.is_faulty)
+-- if it did, the lexeme was added in the form with brackets
+abbrev pub PushesBracketLeaf : {A T E : Type 0} → Leaf → String A → String A → Result T E → Type 0
+PushesBracketLeaf leaf old new result = Pushes (bracket_leaf leaf.name.now leaf.text.now leaf.is_faulty) old new result
 
--- it was added as JSON
-abbrev pub AppendsJsonLeaf : {A : Type 0} → Leaf → String A → String A → Type 0
-AppendsJsonLeaf leaf old new = Appends old new (json_leaf leaf.name.now leaf.text.now leaf.start leaf.end leaf.is_faulty)
+-- if it did, the lexeme was added as JSON
+abbrev pub PushesJsonLeaf : {A T E : Type 0} → Leaf → String A → String A → Result T E → Type 0
+PushesJsonLeaf leaf old new result = Pushes (json_leaf leaf.name.now leaf.text.now leaf.start leaf.end leaf.is_faulty) old new result
 
--- its place was added as JSON, and whether a repair made it
-abbrev pub AppendsJsonPlace : {A : Type 0} → Leaf → String A → String A → Type 0
-AppendsJsonPlace leaf old new = Appends old new (json_place leaf.start leaf.end leaf.is_faulty)
+-- if it did, the lexeme's place was added as JSON, and whether a repair made it
+abbrev pub PushesJsonPlace : {A T E : Type 0} → Leaf → String A → String A → Result T E → Type 0
+PushesJsonPlace leaf old new result = Pushes (json_place leaf.start leaf.end leaf.is_faulty) old new result
 
--- its label in a graph was added
-abbrev pub AppendsLabel : {A : Type 0} → Leaf → String A → String A → Type 0
-AppendsLabel leaf old new = Appends old new (leaf_label leaf.name.now leaf.text.now leaf.is_faulty)
+-- if it did, the lexeme's label in a graph was added
+abbrev pub PushesLabel : {A T E : Type 0} → Leaf → String A → String A → Result T E → Type 0
+PushesLabel leaf old new result = Pushes (leaf_label leaf.name.now leaf.text.now leaf.is_faulty) old new result
 
--- its line in a graph was added, as that of the node of this number
-abbrev pub AppendsLeafLine : {A : Type 0} → ℕ → Leaf → String A → String A → Type 0
-AppendsLeafLine number leaf old new = Appends old new (leaf_line number leaf.name.now leaf.text.now leaf.is_faulty)
+-- if it did, the lexeme's line in a graph was added, as that of the node of this number
+abbrev pub PushesLeafLine : {A T E : Type 0} → ℕ → Leaf → String A → String A → Result T E → Type 0
+PushesLeafLine number leaf old new result = Pushes (leaf_line number leaf.name.now leaf.text.now leaf.is_faulty) old new result

@@ -1,3 +1,4 @@
+pub mod Kept
 pub mod Visits
 pub mod Walks
 pub mod WalkLaws

@@ -1,6 +1,8 @@
 -- The text that `{:?}` writes for a tree, over the `Debug` texts of its lexemes and of its rules' numbers.
-use Rattle.std.specs.Prelude.{ℕ, List, [], Option, Some, codes}
-use Rattle.std.specs.Fmt.{◌++?◌, debug_items}
+use Rattle.std.specs.Prelude.{ℕ, List, [], Option, Result, Some, codes}
+use Rattle.std.specs.Fmt.{◌++?◌, DisplaysOnOk, debug_items}
+use Rattle.std.specs.declared.fmt.Error.{Error}
+use Rattle.std.specs.declared.fmt.Formatter.{Formatter}
 use Rattle.lrpar_parse_trees.specs.declared.node.Node.{Node}
 use Rattle.lrpar_parse_trees.specs.declared.node.Node.TheOpen.{Node-F}
 use Rattle.lrpar_parse_trees.specs.declared.node.Node.TheFolds.{fold-Node}
@@ -29,3 +31,8 @@ shown {X = X} {S = S} lexeme number = fold-Node X S (Option (List ℕ)) (shown_s
 -- trees with commas between them, and the end of the rule over them
 abbrev pub shown_trees : {X S : Type 0} → (X → Option (List ℕ)) → (S → Option (List ℕ)) → List (Node X S) → Option (List ℕ)
 shown_trees lexeme number trees = debug_items (shown lexeme number) [] trees ++? shown_end
+
+-- if the call succeeded, the trees were shown, and the end of the rule over them; `took` says what a writer takes
+abbrev pub ShowsTrees : {X S W : Type 0} → (X → Option (List ℕ)) → (S → Option (List ℕ)) → (W → List ℕ → W → Type 0) → List (Node X S)
+    → Formatter W → Result (Unit {0}) Error → Formatter W → Type 0
+ShowsTrees lexeme number took trees old result new = DisplaysOnOk took old result (shown_trees lexeme number trees) new

@@ -1,16 +1,16 @@
 -- Trees as they are stored, over a grammar and an input: whether they fit, and their texts. `index` gives the number of a value of the storage
 -- type, and `parts` the parts of a lexeme.
-use Rattle.std.specs.Prelude.{ℕ, List, Option, String, length, string_bytes}
+use Rattle.std.specs.Prelude.{ℕ, List, Option, Result, String, length, string_bytes}
 use Rattle.std.specs.List.{AllByRecursion}
 use Rattle.lrpar_grammar.specs.Grammar.{Grammar}
-use Rattle.lrpar_parse_errors.specs.Strings.{Appends, HasText}
+use Rattle.lrpar_parse_errors.specs.Strings.{HasText, Pushes}
 use Rattle.lrpar_parse_lexemes.specs.Lexemes.{LexemeParts, facts_of}
 use Rattle.lrpar_parse_trees.specs.Fronts.{front_text, trees_text}
 use Rattle.lrpar_parse_trees.specs.Graph.{graph_text}
 use Rattle.lrpar_parse_trees.specs.Lines.{node_line, trees_lines}
 use Rattle.lrpar_parse_trees.specs.Nested.{nested_text}
 use Rattle.lrpar_parse_trees.specs.TreeText.{MetFits, TreeFits, all_met, met_line, root_at, tree_text}
-use Rattle.lrpar_parse_trees.specs.Written.{Writes}
+use Rattle.lrpar_parse_trees.specs.Written.{WritesAll}
 use Rattle.lrpar_parse_trees.specs.declared.form.Form.{Form}
 use Rattle.lrpar_parse_trees.specs.declared.node.Node.{Node}
 
@@ -35,40 +35,40 @@ module _ {S X : Type 0} (index : S → ℕ) (parts : X → LexemeParts S) (g : G
   abbrev pub IsTextOf : {A : Type 0} → Node X S → String A → Type 0
   IsTextOf tree = HasText (tree_text (λ x. facts_of index (parts x)) index g input tree)
 
-  -- the line of the root of the tree was added, at a level
-  abbrev pub AppendsRoot : {A : Type 0} → ℕ → Node X S → String A → String A → Type 0
-  AppendsRoot level tree old new = Appends old new (met_line (λ x. facts_of index (parts x)) index g input (root_at level tree))
+  -- if the call succeeded, the line of the root of the tree was added, at a level
+  abbrev pub PushesRoot : {A T E : Type 0} → ℕ → Node X S → String A → String A → Result T E → Type 0
+  PushesRoot level tree old new result = Pushes (met_line (λ x. facts_of index (parts x)) index g input (root_at level tree)) old new result
 
   module _ {W : Type 0} (contents : W → Option (List ℕ)) where
-    -- the text of the tree was written
-    abbrev pub WritesTree : Node X S → W → W → Type 0
-    WritesTree tree old new = Writes contents old new (tree_text (λ x. facts_of index (parts x)) index g input tree)
+    -- if the call succeeded, the text of the tree was written
+    abbrev pub WritesTree : {T E : Type 0} → Node X S → W → W → Result T E → Type 0
+    WritesTree tree old new result = WritesAll (tree_text (λ x. facts_of index (parts x)) index g input tree) contents old new result
 
-    -- the line of the root of the tree was written, at the level that the spaces of a line give
-    abbrev pub WritesRoot : {A : Type 0} → String A → Node X S → W → W → Type 0
-    WritesRoot line tree old new =
-        Writes contents old new (met_line (λ x. facts_of index (parts x)) index g input (root_at (length (string_bytes line)) tree))
+    -- if it did, the line of the root of the tree was written, at the level that the spaces of a line give
+    abbrev pub WritesRoot : {A T E : Type 0} → String A → Node X S → W → W → Result T E → Type 0
+    WritesRoot line tree old new result =
+        WritesAll (met_line (λ x. facts_of index (parts x)) index g input (root_at (length (string_bytes line)) tree)) contents old new result
 
-    -- the tree was written as a graph
-    abbrev pub WritesGraph : Node X S → W → W → Type 0
-    WritesGraph tree old new = Writes contents old new (graph_text (λ x. facts_of index (parts x)) index g input tree)
+    -- if it did, the tree was written as a graph
+    abbrev pub WritesGraph : {T E : Type 0} → Node X S → W → W → Result T E → Type 0
+    WritesGraph tree old new result = WritesAll (graph_text (λ x. facts_of index (parts x)) index g input tree) contents old new result
 
-    -- the lines of the trees below the root of a graph were written
-    abbrev pub WritesBelow : List (Node X S) → W → W → Type 0
-    WritesBelow trees old new = Writes contents old new (trees_lines (λ x. facts_of index (parts x)) index g input 0 1 trees)
+    -- if it did, the lines of the trees below the root of a graph were written
+    abbrev pub WritesBelow : {T E : Type 0} → List (Node X S) → W → W → Result T E → Type 0
+    WritesBelow trees old new result = WritesAll (trees_lines (λ x. facts_of index (parts x)) index g input 0 1 trees) contents old new result
 
-    -- the line of the root of the tree in a graph was written, with this number
-    abbrev pub WritesNode : ℕ → Node X S → W → W → Type 0
-    WritesNode number tree old new = Writes contents old new (node_line (λ x. facts_of index (parts x)) index g input number tree)
+    -- if it did, the line of the root of the tree in a graph was written, with this number
+    abbrev pub WritesNode : {T E : Type 0} → ℕ → Node X S → W → W → Result T E → Type 0
+    WritesNode number tree old new result = WritesAll (node_line (λ x. facts_of index (parts x)) index g input number tree) contents old new result
 
-    -- the tree was written on one line
-    abbrev pub WritesNested : Form → Node X S → W → W → Type 0
-    WritesNested form tree old new = Writes contents old new (nested_text form (λ x. facts_of index (parts x)) index g input tree)
+    -- if it did, the tree was written on one line
+    abbrev pub WritesNested : {T E : Type 0} → Form → Node X S → W → W → Result T E → Type 0
+    WritesNested form tree old new result = WritesAll (nested_text form (λ x. facts_of index (parts x)) index g input tree) contents old new result
 
-    -- what follows the front of a rule over these trees was written
-    abbrev pub WritesTrees : Form → List (Node X S) → W → W → Type 0
-    WritesTrees form trees old new = Writes contents old new (trees_text form (λ x. facts_of index (parts x)) index g input trees)
+    -- if it did, what follows the front of a rule over these trees was written
+    abbrev pub WritesTrees : {T E : Type 0} → Form → List (Node X S) → W → W → Result T E → Type 0
+    WritesTrees form trees old new result = WritesAll (trees_text form (λ x. facts_of index (parts x)) index g input trees) contents old new result
 
-    -- the front of the tree was written
-    abbrev pub WritesFront : Form → Node X S → W → W → Type 0
-    WritesFront form tree old new = Writes contents old new (front_text form (λ x. facts_of index (parts x)) index g input tree)
+    -- if it did, the front of the tree was written
+    abbrev pub WritesFront : {T E : Type 0} → Form → Node X S → W → W → Result T E → Type 0
+    WritesFront form tree old new result = WritesAll (front_text form (λ x. facts_of index (parts x)) index g input tree) contents old new result

@@ -1,10 +1,14 @@
 -- What is written to a writer, and the spaces at the front of a line.
-use Rattle.std.specs.Prelude.{◌≡◌, ℕ, List, Option, String, length, replicate, string_bytes, take}
+use Rattle.std.specs.Prelude.{◌≡◌, ℕ, List, OnOk, Option, Result, String, length, replicate, string_bytes, take}
 use Rattle.std.specs.Io.KnownBytes.{Appends}
 
 -- the text was written; `contents` is what a writer has, as far as that is known
 abbrev pub Writes : {W : Type 0} → (W → Option (List ℕ)) → W → W → List ℕ → Type 0
 Writes contents old new text = Appends (contents old) (contents new) text
+
+-- if the call succeeded, the text was written
+abbrev pub WritesAll : {W T E : Type 0} → List ℕ → (W → Option (List ℕ)) → W → W → Result T E → Type 0
+WritesAll text contents old new result = OnOk result (Writes contents old new text)
 
 -- the line is this number of spaces
 abbrev pub IsSpaces : {A : Type 0} → ℕ → String A → Type 0

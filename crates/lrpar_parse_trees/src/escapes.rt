@@ -1,6 +1,6 @@
 //! Texts between double quotes.
-ghost use Rattle.std.specs.Prelude.{◌≡◌, ◌<◌, OnOk};
-ghost use Rattle.lrpar_parse_errors.specs.Strings.{Appends};
+ghost use Rattle.std.specs.Prelude.{◌≡◌, ◌<◌};
+ghost use Rattle.lrpar_parse_errors.specs.Strings.{Pushes};
 ghost use Rattle.lrpar_parse_trees.specs.Escapes.{escaped, escaped_char, hex_digit, hex_escape};
 
 use std::alloc::AllocError;
@@ -9,7 +9,7 @@ use std::alloc::AllocError;
 /// `\n`, `\r` and `\t`, any other control character as `\u00` and two hexadecimal digits, and all else unchanged. Takes time linear in
 /// the text. After an `Err`, which means out of memory, `out` has its old text and some of the new one.
 pub fn push_escaped(out: &mut String, text: &str) -> Result<(), AllocError>
-    ensures { OnOk result (Appends out.old out.new (escaped text.now)) }
+    ensures { Pushes (escaped text.now) out.old out.new result }
 {
     for c in text.chars() {
         push_char(out, c)?;
@@ -19,7 +19,7 @@ pub fn push_escaped(out: &mut String, text: &str) -> Result<(), AllocError>
 
 // Adds a character, escaped.
 fn push_char(out: &mut String, c: char) -> Result<(), AllocError>
-    ensures { OnOk result (Appends out.old out.new (escaped_char c)) }
+    ensures { Pushes (escaped_char c) out.old out.new result }
 {
     match c {
         '"' => out.push_str("\\\""),
@@ -35,7 +35,7 @@ fn push_char(out: &mut String, c: char) -> Result<(), AllocError>
 /// Adds a character below U+0100 as `\u00` and two hexadecimal digits.
 pub(crate) fn push_hex(out: &mut String, number: u32) -> Result<(), AllocError>
     requires { number < 256 }
-    ensures { OnOk result (Appends out.old out.new (hex_escape number)) }
+    ensures { Pushes (hex_escape number) out.old out.new result }
 {
     out.push_str("\\u00")?;
     out.push(hex_digit(number / 16))?;

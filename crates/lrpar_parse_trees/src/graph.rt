@@ -1,10 +1,10 @@
 //! Trees as graphs for Graphviz.
-ghost use Rattle.std.specs.Prelude.{◌≡◌, ◌+◌, IfOk, OnOk};
-ghost use Rattle.lrpar_parse_errors.specs.Strings.{Appends};
+ghost use Rattle.std.specs.Prelude.{◌≡◌, ◌+◌, IfOk};
+ghost use Rattle.lrpar_parse_errors.specs.Strings.{Pushes};
 ghost use Rattle.lrpar_parse_trees.specs.Graph.{edge_line, label_front, leaf_shape, name_label, rule_line};
-ghost use Rattle.lrpar_parse_trees.specs.Leaves.{AppendsLabel, AppendsLeafLine};
+ghost use Rattle.lrpar_parse_trees.specs.Leaves.{PushesLabel, PushesLeafLine};
 ghost use Rattle.lrpar_parse_trees.specs.StoredTrees.{WritesBelow, WritesGraph, WritesNode};
-ghost use Rattle.lrpar_parse_trees.specs.Written.{Writes};
+ghost use Rattle.lrpar_parse_trees.specs.Written.{WritesAll};
 
 use crate::Node;
 use crate::labels::push_label;
@@ -29,7 +29,7 @@ pub fn write_graph<LexemeT: Lexeme<StorageT>, StorageT: StorageIndex, W: Write>(
     tree: &Node<LexemeT, StorageT>,
     out: &mut W,
 ) -> io::Result<()>
-    ensures { OnOk result (WritesGraph StorageT.index LexemeT.parts grm.now input.now W.contents tree.now out.old out.new) }
+    ensures { WritesGraph StorageT.index LexemeT.parts grm.now input.now W.contents tree.now out.old out.new result }
 {
     let mut line = String::new(alloc);
     out.write_all(b"digraph tree {\n")?;
@@ -47,7 +47,7 @@ fn write_below<LexemeT: Lexeme<StorageT>, StorageT: StorageIndex, W: Write>(
     input: &str,
     nodes: &[Node<LexemeT, StorageT>],
 ) -> io::Result<()>
-    ensures { OnOk result (WritesBelow StorageT.index LexemeT.parts grm.now input.now W.contents nodes.now out.old out.new) }
+    ensures { WritesBelow StorageT.index LexemeT.parts grm.now input.now W.contents nodes.now out.old out.new result }
 {
     let mut above = Vec::new(alloc);
     let mut left = nodes;
@@ -93,7 +93,7 @@ fn write_node<LexemeT: Lexeme<StorageT>, StorageT: StorageIndex, W: Write>(
     number: usize,
     node: &Node<LexemeT, StorageT>,
 ) -> io::Result<()>
-    ensures { OnOk result (WritesNode StorageT.index LexemeT.parts grm.now input.now W.contents number node.now out.old out.new) }
+    ensures { WritesNode StorageT.index LexemeT.parts grm.now input.now W.contents number node.now out.old out.new result }
 {
     line.clear();
     match node {
@@ -111,7 +111,7 @@ fn write_node<LexemeT: Lexeme<StorageT>, StorageT: StorageIndex, W: Write>(
 
 // Adds the line of a node of a rule.
 fn push_rule(line: &mut String, number: usize, rule: &str) -> Result<(), AllocError>
-    ensures { OnOk result (Appends line.old line.new (rule_line number rule.now)) }
+    ensures { Pushes (rule_line number rule.now) line.old line.new result }
 {
     push_front(line, number)?;
     push_label(line, rule)?;
@@ -120,7 +120,7 @@ fn push_rule(line: &mut String, number: usize, rule: &str) -> Result<(), AllocEr
 
 // Adds the line of a lexeme.
 fn push_leaf(line: &mut String, number: usize, leaf: Leaf<'_>) -> Result<(), AllocError>
-    ensures { OnOk result (AppendsLeafLine number leaf.entry line.old line.new) }
+    ensures { PushesLeafLine number leaf.entry line.old line.new result }
 {
     push_front(line, number)?;
     push_leaf_label(line, leaf)?;
@@ -141,14 +141,14 @@ fn leaf_shape(is_faulty: bool) -> &'static str
 
 // Adds the beginning of a node's line, up to its label.
 fn push_front(line: &mut String, number: usize) -> Result<(), AllocError>
-    ensures { OnOk result (Appends line.old line.new (label_front number)) }
+    ensures { Pushes (label_front number) line.old line.new result }
 {
     write!(line, "  n{number} [label=\"")
 }
 
 // Adds the label of a lexeme.
 fn push_leaf_label(line: &mut String, leaf: Leaf<'_>) -> Result<(), AllocError>
-    ensures { OnOk result (AppendsLabel leaf.entry line.old line.new) }
+    ensures { PushesLabel leaf.entry line.old line.new result }
 {
     if leaf.is_faulty {
         return push_label(line, leaf.name);
@@ -159,7 +159,7 @@ fn push_leaf_label(line: &mut String, leaf: Leaf<'_>) -> Result<(), AllocError>
 
 // Adds the name of a token as a line of a label, if the name isn't the text.
 fn push_other_name(line: &mut String, name: &str, text: &str) -> Result<(), AllocError>
-    ensures { OnOk result (Appends line.old line.new (name_label name.now text.now)) }
+    ensures { Pushes (name_label name.now text.now) line.old line.new result }
 {
     if name == text {
         return Ok(());
@@ -175,7 +175,7 @@ fn write_edge<W: Write>(
     parent: usize,
     child: usize,
 ) -> io::Result<()>
-    ensures { OnOk result (Writes W.contents out.old out.new (edge_line parent child)) }
+    ensures { WritesAll (edge_line parent child) W.contents out.old out.new result }
 {
     line.clear();
     writeln!(line, "  n{parent} -> n{child};")?;

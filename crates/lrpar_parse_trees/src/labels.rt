@@ -1,8 +1,7 @@
 //! Texts in labels of graphs.
-ghost use Rattle.std.specs.Prelude.{◌≡◌, ◌<◌, ◌∷◌, OnOk};
-ghost use Rattle.lrpar_parse_errors.specs.Strings.{Appends};
-ghost use Rattle.lrpar_parse_trees.specs.Escapes.{hex_escape};
-ghost use Rattle.lrpar_parse_trees.specs.Labels.{is_control, label_char, label_text};
+ghost use Rattle.std.specs.Prelude.{◌≡◌, ◌<◌};
+ghost use Rattle.lrpar_parse_errors.specs.Strings.{Pushes};
+ghost use Rattle.lrpar_parse_trees.specs.Labels.{is_control, label_char, label_text, shown_hex};
 
 use crate::escapes::push_hex;
 use std::alloc::AllocError;
@@ -12,7 +11,7 @@ use std::alloc::AllocError;
 /// and two hexadecimal digits. Takes time linear in the text. After an `Err`, which means out of memory, `out` has its old text and
 /// some of the new one.
 pub(crate) fn push_label(out: &mut String, text: &str) -> Result<(), AllocError>
-    ensures { OnOk result (Appends out.old out.new (label_text text.now)) }
+    ensures { Pushes (label_text text.now) out.old out.new result }
 {
     for c in text.chars() {
         push_label_char(out, c)?;
@@ -22,7 +21,7 @@ pub(crate) fn push_label(out: &mut String, text: &str) -> Result<(), AllocError>
 
 // Adds a character, escaped.
 fn push_label_char(out: &mut String, c: char) -> Result<(), AllocError>
-    ensures { OnOk result (Appends out.old out.new (label_char c)) }
+    ensures { Pushes (label_char c) out.old out.new result }
 {
     match c {
         '"' => out.push_str("\\\""),
@@ -39,7 +38,7 @@ fn push_label_char(out: &mut String, c: char) -> Result<(), AllocError>
 // Adds a control character by its number, so that it is shown.
 fn push_shown_hex(out: &mut String, number: u32) -> Result<(), AllocError>
     requires { number < 256 }
-    ensures { OnOk result (Appends out.old out.new (92 ∷ hex_escape number)) }
+    ensures { Pushes (shown_hex number) out.old out.new result }
 {
     out.push('\\')?;
     push_hex(out, number)

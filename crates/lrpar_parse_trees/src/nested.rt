@@ -1,7 +1,7 @@
 //! Trees on one line: the text of a node encloses the texts of its trees.
-ghost use Rattle.std.specs.Prelude.{false, OnOk};
-ghost use Rattle.lrpar_parse_errors.specs.Strings.{Appends};
-ghost use Rattle.lrpar_parse_trees.specs.Leaves.{AppendsBracketLeaf, AppendsJsonLeaf, AppendsJsonPlace, AppendsLeaf};
+ghost use Rattle.std.specs.Prelude.{false};
+ghost use Rattle.lrpar_parse_errors.specs.Strings.{Pushes};
+ghost use Rattle.lrpar_parse_trees.specs.Leaves.{PushesBracketLeaf, PushesJsonLeaf, PushesJsonPlace, PushesLeaf};
 ghost use Rattle.lrpar_parse_trees.specs.Nested.{bracket_leaf, bracket_rule, json_inserted, json_rule, name_before, rule_front};
 ghost use Rattle.lrpar_parse_trees.specs.StoredTrees.{WritesFront, WritesNested, WritesTrees};
 
@@ -28,7 +28,7 @@ pub fn write_nested<LexemeT: Lexeme<StorageT>, StorageT: StorageIndex, W: Write>
     tree: &Node<LexemeT, StorageT>,
     out: &mut W,
 ) -> io::Result<()>
-    ensures { OnOk result (WritesNested StorageT.index LexemeT.parts grm.now input.now W.contents form tree.now out.old out.new) }
+    ensures { WritesNested StorageT.index LexemeT.parts grm.now input.now W.contents form tree.now out.old out.new result }
 {
     let mut piece = String::new(alloc);
     write_front(out, &mut piece, form, grm, input, tree)?;
@@ -49,7 +49,7 @@ fn write_trees<LexemeT: Lexeme<StorageT>, StorageT: StorageIndex, W: Write>(
     input: &str,
     nodes: &[Node<LexemeT, StorageT>],
 ) -> io::Result<()>
-    ensures { OnOk result (WritesTrees StorageT.index LexemeT.parts grm.now input.now W.contents form nodes.now out.old out.new) }
+    ensures { WritesTrees StorageT.index LexemeT.parts grm.now input.now W.contents form nodes.now out.old out.new result }
 {
     let mut below = Vec::new(alloc);
     let mut left = nodes;
@@ -88,7 +88,7 @@ fn write_front<LexemeT: Lexeme<StorageT>, StorageT: StorageIndex, W: Write>(
     input: &str,
     node: &Node<LexemeT, StorageT>,
 ) -> io::Result<()>
-    ensures { OnOk result (WritesFront StorageT.index LexemeT.parts grm.now input.now W.contents form node.now out.old out.new) }
+    ensures { WritesFront StorageT.index LexemeT.parts grm.now input.now W.contents form node.now out.old out.new result }
 {
     piece.clear();
     match node {
@@ -105,104 +105,104 @@ fn write_front<LexemeT: Lexeme<StorageT>, StorageT: StorageIndex, W: Write>(
 }
 
 // Adds what comes before the trees of a rule.
-fn push_rule(piece: &mut String, form: Form, name: &str) -> Result<(), AllocError>
-    ensures { OnOk result (Appends piece.old piece.new (rule_front form name.now)) }
+fn push_rule(out: &mut String, form: Form, name: &str) -> Result<(), AllocError>
+    ensures { Pushes (rule_front form name.now) out.old out.new result }
 {
     match form {
-        Form::Brackets => push_bracket_rule(piece, name),
-        Form::Json => push_json_rule(piece, name),
+        Form::Brackets => push_bracket_rule(out, name),
+        Form::Json => push_json_rule(out, name),
     }
 }
 
 // Adds a rule's name and a bracket.
-fn push_bracket_rule(piece: &mut String, name: &str) -> Result<(), AllocError>
-    ensures { OnOk result (Appends piece.old piece.new (bracket_rule name.now)) }
+fn push_bracket_rule(out: &mut String, name: &str) -> Result<(), AllocError>
+    ensures { Pushes (bracket_rule name.now) out.old out.new result }
 {
-    piece.push_str(name)?;
-    piece.push('[')
+    out.push_str(name)?;
+    out.push('[')
 }
 
 // Adds what comes before the trees of a rule in JSON, with its name.
-fn push_json_rule(piece: &mut String, name: &str) -> Result<(), AllocError>
-    ensures { OnOk result (Appends piece.old piece.new (json_rule name.now)) }
+fn push_json_rule(out: &mut String, name: &str) -> Result<(), AllocError>
+    ensures { Pushes (json_rule name.now) out.old out.new result }
 {
-    piece.push_str("{\"rule\":\"")?;
-    push_escaped(piece, name)?;
-    piece.push_str("\",\"children\":[")?;
+    out.push_str("{\"rule\":\"")?;
+    push_escaped(out, name)?;
+    out.push_str("\",\"children\":[")?;
     Ok(())
 }
 
 // Adds a lexeme.
-fn push_leaf(piece: &mut String, form: Form, leaf: Leaf<'_>) -> Result<(), AllocError>
-    ensures { OnOk result (AppendsLeaf form leaf.entry piece.old piece.new) }
+fn push_leaf(out: &mut String, form: Form, leaf: Leaf<'_>) -> Result<(), AllocError>
+    ensures { PushesLeaf form leaf.entry out.old out.new result }
 {
     match form {
-        Form::Brackets => push_bracket_leaf(piece, leaf),
-        Form::Json => push_json_leaf(piece, leaf),
+        Form::Brackets => push_bracket_leaf(out, leaf),
+        Form::Json => push_json_leaf(out, leaf),
     }
 }
 
 // Adds a lexeme: its token's name, if that isn't its text, and its text between double quotes; or its name and that it was inserted.
-fn push_bracket_leaf(piece: &mut String, leaf: Leaf<'_>) -> Result<(), AllocError>
-    ensures { OnOk result (AppendsBracketLeaf leaf.entry piece.old piece.new) }
+fn push_bracket_leaf(out: &mut String, leaf: Leaf<'_>) -> Result<(), AllocError>
+    ensures { PushesBracketLeaf leaf.entry out.old out.new result }
 {
     if leaf.is_faulty {
-        piece.push_str(leaf.name)?;
-        piece.push_str(" (inserted)")
+        out.push_str(leaf.name)?;
+        out.push_str(" (inserted)")
     } else {
-        push_bracket_text(piece, leaf.name, leaf.text)
+        push_bracket_text(out, leaf.name, leaf.text)
     }
 }
 
 // Adds the name of a token, if that isn't the text, and the text between double quotes.
-fn push_bracket_text(piece: &mut String, name: &str, text: &str) -> Result<(), AllocError>
-    ensures { OnOk result (Appends piece.old piece.new (bracket_leaf name.now text.now false)) }
+fn push_bracket_text(out: &mut String, name: &str, text: &str) -> Result<(), AllocError>
+    ensures { Pushes (bracket_leaf name.now text.now false) out.old out.new result }
 {
-    push_other_name(piece, name, text)?;
-    piece.push('"')?;
-    push_escaped(piece, text)?;
-    piece.push('"')
+    push_other_name(out, name, text)?;
+    out.push('"')?;
+    push_escaped(out, text)?;
+    out.push('"')
 }
 
 // Adds the name of a token and a space, if the name isn't the text.
-fn push_other_name(piece: &mut String, name: &str, text: &str) -> Result<(), AllocError>
-    ensures { OnOk result (Appends piece.old piece.new (name_before name.now text.now)) }
+fn push_other_name(out: &mut String, name: &str, text: &str) -> Result<(), AllocError>
+    ensures { Pushes (name_before name.now text.now) out.old out.new result }
 {
     if name == text {
         return Ok(());
     }
-    piece.push_str(name)?;
-    piece.push(' ')
+    out.push_str(name)?;
+    out.push(' ')
 }
 
 // Adds a lexeme as JSON.
-fn push_json_leaf(piece: &mut String, leaf: Leaf<'_>) -> Result<(), AllocError>
-    ensures { OnOk result (AppendsJsonLeaf leaf.entry piece.old piece.new) }
+fn push_json_leaf(out: &mut String, leaf: Leaf<'_>) -> Result<(), AllocError>
+    ensures { PushesJsonLeaf leaf.entry out.old out.new result }
 {
-    piece.push_str("{\"token\":\"")?;
-    push_escaped(piece, leaf.name)?;
-    piece.push_str("\",\"text\":\"")?;
-    push_escaped(piece, leaf.text)?;
-    push_json_place(piece, leaf)
+    out.push_str("{\"token\":\"")?;
+    push_escaped(out, leaf.name)?;
+    out.push_str("\",\"text\":\"")?;
+    push_escaped(out, leaf.text)?;
+    push_json_place(out, leaf)
 }
 
 // Adds the place of a lexeme as JSON, and whether a repair made it.
-fn push_json_place(piece: &mut String, leaf: Leaf<'_>) -> Result<(), AllocError>
-    ensures { OnOk result (AppendsJsonPlace leaf.entry piece.old piece.new) }
+fn push_json_place(out: &mut String, leaf: Leaf<'_>) -> Result<(), AllocError>
+    ensures { PushesJsonPlace leaf.entry out.old out.new result }
 {
     let start = leaf.start;
     let end = leaf.end;
-    write!(piece, "\",\"start\":{start},\"end\":{end}")?;
-    push_inserted(piece, leaf.is_faulty)?;
-    piece.push('}')
+    write!(out, "\",\"start\":{start},\"end\":{end}")?;
+    push_inserted(out, leaf.is_faulty)?;
+    out.push('}')
 }
 
 // Adds that a repair made the lexeme, if one did.
-fn push_inserted(piece: &mut String, is_faulty: bool) -> Result<(), AllocError>
-    ensures { OnOk result (Appends piece.old piece.new (json_inserted is_faulty)) }
+fn push_inserted(out: &mut String, is_faulty: bool) -> Result<(), AllocError>
+    ensures { Pushes (json_inserted is_faulty) out.old out.new result }
 {
     if is_faulty {
-        piece.push_str(",\"inserted\":true")
+        out.push_str(",\"inserted\":true")
     } else {
         Ok(())
     }

@@ -4,7 +4,7 @@ mod copied;
 mod equal;
 mod shown;
 
-ghost use Rattle.std.specs.Prelude.{◌≡◌, [], MatchOption};
+ghost use Rattle.lrpar_parse_trees.specs.Kept.{IsKeptUnlessEmpty};
 
 use lrpar_grammar::span::RIdx;
 use std::mem;
@@ -78,7 +78,7 @@ impl<LexemeT: Drop, StorageT: Drop> Drop for Node<LexemeT, StorageT> {
 
 // The list, if it has items.
 fn unless_empty<T>(items: Vec<T>) -> Option<Vec<T>>
-    ensures { MatchOption result (items.items ≡ []) (λ list. list ≡ items) }
+    ensures { IsKeptUnlessEmpty items result }
 {
     if items.is_empty() {
         items.destroy_empty();

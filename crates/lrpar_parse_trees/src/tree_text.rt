@@ -1,6 +1,6 @@
 //! The text of a tree, with a line for each node, and the test whether a tree fits a grammar and an input.
-ghost use Rattle.std.specs.Prelude.{◌≡◌, ◌↔◌, ℕ, IfOk, IsTrue, OnOk};
-ghost use Rattle.lrpar_parse_trees.specs.StoredTrees.{AppendsRoot, FitIn, FitsIn, IsTextOf, RootFits};
+ghost use Rattle.std.specs.Prelude.{◌≡◌, ◌↔◌, ℕ, IfOk, IsTrue};
+ghost use Rattle.lrpar_parse_trees.specs.StoredTrees.{FitIn, FitsIn, IsTextOf, PushesRoot, RootFits};
 ghost use Rattle.lrpar_parse_trees.specs.TreeText.{nodes_below};
 
 use crate::node::Node;
@@ -170,7 +170,7 @@ pub(crate) fn push_line<LexemeT: Lexeme<StorageT>, StorageT: StorageIndex>(
     node: &Node<LexemeT, StorageT>,
 ) -> Result<(), AllocError>
     requires { RootFits StorageT.index LexemeT.parts grm.now input.now level node.now }
-    ensures { OnOk result (AppendsRoot StorageT.index LexemeT.parts grm.now input.now level node.now out.old out.new) }
+    ensures { PushesRoot StorageT.index LexemeT.parts grm.now input.now level node.now out.old out.new result }
 {
     push_spaces(out, level)?;
     push_node(out, grm, input, node)
@@ -184,7 +184,7 @@ pub(crate) fn push_node<LexemeT: Lexeme<StorageT>, StorageT: StorageIndex>(
     node: &Node<LexemeT, StorageT>,
 ) -> Result<(), AllocError>
     requires { RootFits StorageT.index LexemeT.parts grm.now input.now 0 node.now }
-    ensures { OnOk result (AppendsRoot StorageT.index LexemeT.parts grm.now input.now 0 node.now out.old out.new) }
+    ensures { PushesRoot StorageT.index LexemeT.parts grm.now input.now 0 node.now out.old out.new result }
 {
     match node {
         Node::Term { lexeme } => {

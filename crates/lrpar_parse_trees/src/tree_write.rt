@@ -25,7 +25,7 @@ impl<LexemeT: Lexeme<StorageT>, StorageT: StorageIndex> Node<LexemeT, StorageT> 
         input: &str,
         out: &mut W,
     ) -> io::Result<()>
-        ensures text { OnOk result (WritesTree StorageT.index LexemeT.parts grm.now input.now W.contents self.now out.old out.new) }
+        ensures text { WritesTree StorageT.index LexemeT.parts grm.now input.now W.contents self.now out.old out.new result }
         ensures fits { OnOk result (FitsIn StorageT.index LexemeT.parts grm.now input.now self.now) }
     {
         let mut line = String::new(alloc);
@@ -67,7 +67,7 @@ fn write_line<LexemeT: Lexeme<StorageT>, StorageT: StorageIndex, W: Write>(
     node: &Node<LexemeT, StorageT>,
 ) -> io::Result<()>
     requires { HasOnlySpaces line.old }
-    ensures text { OnOk result (WritesRoot StorageT.index LexemeT.parts grm.now input.now W.contents line.old node.now out.old out.new) }
+    ensures text { WritesRoot StorageT.index LexemeT.parts grm.now input.now W.contents line.old node.now out.old out.new result }
     ensures fits { OnOk result (RootFitsAfter StorageT.index LexemeT.parts grm.now input.now line.old node.now) }
     ensures indent { OnOk result (KeepsSpaces line.old line.new) }
 {

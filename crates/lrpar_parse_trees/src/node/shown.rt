@@ -1,6 +1,6 @@
 //! The `Debug` text of trees.
 ghost use Rattle.std.specs.Fmt.{DisplaysOnOk, WritesOnOk};
-ghost use Rattle.lrpar_parse_trees.specs.Shown.{shown, shown_lexeme, shown_rule, shown_trees};
+ghost use Rattle.lrpar_parse_trees.specs.Shown.{ShowsTrees, shown, shown_lexeme, shown_rule};
 
 use crate::node::Node;
 use lrpar_grammar::span::RIdx;
@@ -57,7 +57,7 @@ fn write_nodes<'a, LexemeT: fmt::Debug, StorageT: fmt::Debug, W: fmt::Write>(
     f: &mut fmt::Formatter<W>,
     mut nodes: &'a [Node<LexemeT, StorageT>],
 ) -> fmt::Result
-    ensures { DisplaysOnOk W.write_str_gives f.old result (shown_trees LexemeT.debug_output StorageT.debug_output nodes.entry.now) f.new }
+    ensures { ShowsTrees LexemeT.debug_output StorageT.debug_output W.write_str_gives nodes.entry.now f.old result f.new }
 {
     let mut left = Vec::new(alloc);
     let mut mark = "";

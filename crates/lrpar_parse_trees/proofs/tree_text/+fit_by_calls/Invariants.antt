@@ -1,8 +1,8 @@
 use Rattle.std.proofs.Common.{◌≤◌}
 use Rattle.std.specs.Prelude.{◌↔◌}
 use Rattle.std.specs.List.{AllByRecursion}
-use Rattle.lrpar_parse_lexemes.specs.Lexemes.{facts_of}
-use Rattle.lrpar_parse_trees.specs.TreeText.{MetFits, all_met}
+use Rattle.lrpar_parse_trees.specs.TreeText.{all_met}
+use Rattle.lrpar_parse_trees.proofs.FitsLemmas.{fit}
 use Rattle.lrpar_parse_trees.proofs.WeightLemmas.{weights}
 use Rattle.lrpar_parse_trees.proofs.tree_text.+fit_by_calls.Given as goal
 
@@ -13,9 +13,7 @@ decreases-fit_by_calls g l = weights l.nodes.now
 -- what is left fits if and only if the trees do
 abbrev pub invariant-loop-node : goal.invariant-loop-node
 invariant-loop-node g l =
-    let index = g.StorageT.StorageIndex.index in
-    let facts = λ (x : g.row.LexemeT.Denot). facts_of index (g.LexemeT.Lexeme.parts x) in
-    let P = MetFits facts index l.grm l.input in
+    let P = fit g.StorageT.StorageIndex.index g.LexemeT.Lexeme.parts l.grm l.input in
     record {
       fits : AllByRecursion P (all_met 1 l.nodes) ↔ AllByRecursion P (all_met 1 l.fn.nodes);
       below : weights l.nodes ≤ weights l.fn.nodes;

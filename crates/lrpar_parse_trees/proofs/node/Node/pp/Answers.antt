@@ -1,18 +1,16 @@
 use Rattle.std.proofs.Common.{◌≡◌, ◌+◌, ◌++◌, [], ◌∷◌, length, append-nil, ap, sym, ◌∙◌, subst}
 use Rattle.std.specs.List.{AllByRecursion, flat_map}
 use Rattle.std.specs.String.{string_bytes}
-use Rattle.lrpar_parse_lexemes.specs.Lexemes.{facts_of}
-use Rattle.lrpar_parse_trees.specs.TreeText.{MetFits, met_line, root_at, all_met, nodes_below}
+use Rattle.lrpar_parse_trees.specs.TreeText.{root_at, all_met, nodes_below}
 use Rattle.lrpar_grammar_places.proofs.FaultLemmas.{no_value}
+use Rattle.lrpar_parse_trees.proofs.FitsLemmas.{fit, line_of}
 use Rattle.lrpar_parse_trees.proofs.TreeTextLemmas.{fit_below, fit_enter, fit_first, fit_root, left_falls, left_turned, text_begins, text_ends, text_enter, turn_falls}
 use Rattle.lrpar_parse_trees.proofs.node.Node.pp.Goals as goal
 
 pub loop-node-init : goal.loop-node-init
 loop-node-init g c =
-    let index = g.StorageT.StorageIndex.index in
-    let facts = λ (x : g.row.LexemeT.Denot). facts_of index (g.LexemeT.Lexeme.parts x) in
-    let P = MetFits facts index c.args.grm.now c.args.input.now in
-    let line = met_line facts index c.args.grm.now c.args.input.now in
+    let P = fit g.StorageT.StorageIndex.index g.LexemeT.Lexeme.parts c.args.grm.now c.args.input.now in
+    let line = line_of g.StorageT.StorageIndex.index g.LexemeT.Lexeme.parts c.args.grm.now c.args.input.now in
     let self = c.args.self.now in
     record {
       fits = rw (c.new-below.ensures.items, c.children-left.ensures, append-nil (all_met (0 + 1) (nodes_below self))) (fit_below P self 0 c.requires.fits);
@@ -27,10 +25,8 @@ loop-node-smaller-in-Some g c =
 
 pub loop-node-preserved-in-Some : goal.loop-node-preserved-in-Some
 loop-node-preserved-in-Some g c =
-    let index = g.StorageT.StorageIndex.index in
-    let facts = λ (x : g.row.LexemeT.Denot). facts_of index (g.LexemeT.Lexeme.parts x) in
-    let P = MetFits facts index c.args.grm.now c.args.input.now in
-    let line = met_line facts index c.args.grm.now c.args.input.now in
+    let P = fit g.StorageT.StorageIndex.index g.LexemeT.Lexeme.parts c.args.grm.now c.args.input.now in
+    let line = line_of g.StorageT.StorageIndex.index g.LexemeT.Lexeme.parts c.args.grm.now c.args.input.now in
     let below = c.loop-node.below.items in
     let rest = c.in-Some.rest in
     let node = c.in-Some.node.now in
@@ -49,10 +45,8 @@ loop-node-smaller g c =
 
 pub loop-node-preserved : goal.loop-node-preserved
 loop-node-preserved g c =
-    let index = g.StorageT.StorageIndex.index in
-    let facts = λ (x : g.row.LexemeT.Denot). facts_of index (g.LexemeT.Lexeme.parts x) in
-    let P = MetFits facts index c.args.grm.now c.args.input.now in
-    let line = met_line facts index c.args.grm.now c.args.input.now in
+    let P = fit g.StorageT.StorageIndex.index g.LexemeT.Lexeme.parts c.args.grm.now c.args.input.now in
+    let line = line_of g.StorageT.StorageIndex.index g.LexemeT.Lexeme.parts c.args.grm.now c.args.input.now in
     let same =
     left_turned c.pop.new.self.items c.loop-node.below.items c.in-Some-pop.rest c.loop-node.left.now c.in-None.ensures.cases c.in-Some-pop.ensures.items in
     record {
@@ -62,12 +56,12 @@ loop-node-preserved g c =
 
 pub push_line-requires : goal.push_line-requires
 push_line-requires g c =
-    fit_root (MetFits (λ x. facts_of g.StorageT.StorageIndex.index (g.LexemeT.Lexeme.parts x)) g.StorageT.StorageIndex.index c.args.grm.now c.args.input.now)
+    fit_root (fit g.StorageT.StorageIndex.index g.LexemeT.Lexeme.parts c.args.grm.now c.args.input.now)
     c.args.self.now 0 c.requires.fits
 
 pub push_line-requires-in-Some : goal.push_line-requires-in-Some
 push_line-requires-in-Some g c =
-    fit_first (MetFits (λ x. facts_of g.StorageT.StorageIndex.index (g.LexemeT.Lexeme.parts x)) g.StorageT.StorageIndex.index c.args.grm.now c.args.input.now)
+    fit_first (fit g.StorageT.StorageIndex.index g.LexemeT.Lexeme.parts c.args.grm.now c.args.input.now)
     c.loop-node.below.items c.push.new.self.items c.in-Some.rest c.in-Some.node.now c.loop-node.left.now c.len.result c.in-Some.ensures.cases.0
     c.in_ok-push-in-Some.ensures.items (c.len.ensures ∙ c.push.new.self.ok.0) c.loop-node.invariant.fits
 
@@ -87,7 +81,7 @@ returns-in_err-push_line-in-Some g c = record {
 pub returns-in-None-pop : goal.returns-in-None-pop
 returns-in-None-pop g c = record {
   text = text_ends
-      (met_line (λ x. facts_of g.StorageT.StorageIndex.index (g.LexemeT.Lexeme.parts x)) g.StorageT.StorageIndex.index c.args.grm.now c.args.input.now)
+      (line_of g.StorageT.StorageIndex.index g.LexemeT.Lexeme.parts c.args.grm.now c.args.input.now)
       c.loop-node.below.items c.loop-node.left.now (string_bytes c.loop-node.out) _ c.in-None.ensures.cases
       (sym c.loop-node.below.ok.0 ∙ c.in-None-pop.ensures.cases.0) c.loop-node.invariant.whole;
 }

@@ -3,9 +3,9 @@ use Rattle.std.specs.List.{AllByRecursion, flat_map}
 use Rattle.std.specs.Io.KnownBytes.{Appends}
 use Rattle.std.specs.String.{string_bytes}
 use Rattle.std.proofs.lemmas.List.{length_push}
-use Rattle.lrpar_parse_lexemes.specs.Lexemes.{facts_of}
-use Rattle.lrpar_parse_trees.specs.TreeText.{MetFits, met_line, root_at, nodes_below, tree_text}
+use Rattle.lrpar_parse_trees.specs.TreeText.{met_from, nodes_below, root_at}
 use Rattle.lrpar_grammar_places.proofs.FaultLemmas.{nothing_done}
+use Rattle.lrpar_parse_trees.proofs.FitsLemmas.{fit, line_of}
 use Rattle.lrpar_parse_trees.proofs.TreeTextLemmas.{fit_begins, fit_left, fit_none, left_none, text_begins, text_enter, left_falls, left_met, left_turned, turn_falls}
 use Rattle.lrpar_parse_trees.proofs.IndentLemmas.{indent_less, shorter, spaces_alone, spaces_counted}
 use Rattle.lrpar_parse_trees.proofs.WriteLemmas.{appends_both, appends_nothing}
@@ -13,12 +13,10 @@ use Rattle.lrpar_parse_trees.proofs.node.Node.write.Goals as goal
 
 pub loop-node-init : goal.loop-node-init
 loop-node-init g c =
-    let index = g.StorageT.StorageIndex.index in
-    let facts = λ (x : g.row.LexemeT.Denot). facts_of index (g.LexemeT.Lexeme.parts x) in
-    let line = met_line facts index c.args.grm.now c.args.input.now in
+    let line = line_of g.StorageT.StorageIndex.index g.LexemeT.Lexeme.parts c.args.grm.now c.args.input.now in
     let self = c.args.self.now in
     let contents = g.W.Write.contents in
-    let whole : line (root_at 0 self) ++ flat_map line (left_met [] (nodes_below self)) ≡ tree_text facts index c.args.grm.now c.args.input.now self =
+    let whole : line (root_at 0 self) ++ flat_map line (left_met [] (nodes_below self)) ≡ flat_map line (met_from self 0) =
     text_begins line self (line (root_at 0 self)) refl in
     let none : length (string_bytes c.new-line.result) ≡ 0 = ap length c.new-line.ensures.bytes in
     let first = rw none at c.in_ok-write_line.ensures.text in
@@ -30,7 +28,7 @@ loop-node-init g c =
           (appends_both (contents c.args.out.now) (contents c.write_line.new.out) last (line (root_at 0 self)) (flat_map line (left_met [] (nodes_below self)))
           first rest);
       fits = λ all.
-          fit_begins (MetFits facts index c.args.grm.now c.args.input.now) self (rw none at c.in_ok-write_line.ensures.fits) (rw (c.new-below.ensures.items, c.children-left.ensures) at all);
+          fit_begins (fit g.StorageT.StorageIndex.index g.LexemeT.Lexeme.parts c.args.grm.now c.args.input.now) self (rw none at c.in_ok-write_line.ensures.fits) (rw (c.new-below.ensures.items, c.children-left.ensures) at all);
       indent = rw c.new-below.ensures.items refl;
     }
 
@@ -41,9 +39,7 @@ loop-node-smaller-in-Some g c =
 
 pub loop-node-preserved-in-Some : goal.loop-node-preserved-in-Some
 loop-node-preserved-in-Some g c =
-    let index = g.StorageT.StorageIndex.index in
-    let facts = λ (x : g.row.LexemeT.Denot). facts_of index (g.LexemeT.Lexeme.parts x) in
-    let line = met_line facts index c.args.grm.now c.args.input.now in
+    let line = line_of g.StorageT.StorageIndex.index g.LexemeT.Lexeme.parts c.args.grm.now c.args.input.now in
     let contents = g.W.Write.contents in
     let below = c.loop-node.below.items in
     let rest = c.in-Some.rest in
@@ -51,7 +47,7 @@ loop-node-preserved-in-Some g c =
     let inner = left_met (below ++ rest ∷ []) (nodes_below node) in
     let indented = string_bytes c.indent.new.line in
     let here = line (root_at (length indented) node) in
-    let met = MetFits facts index c.args.grm.now c.args.input.now in
+    let met = fit g.StorageT.StorageIndex.index g.LexemeT.Lexeme.parts c.args.grm.now c.args.input.now in
     let count : c.len.result ≡ length below = c.len.ensures ∙ c.loop-node.below.ok.0 in
     let level : length indented ≡ length (below ++ rest ∷ []) =
     spaces_counted indented (c.len.result + 1) c.in_ok-indent-in-Some.ensures ∙ ap (λ n. n + 1) count ∙ sym (length_push below rest) in
@@ -92,15 +88,13 @@ loop-node-smaller g c =
 
 pub loop-node-preserved : goal.loop-node-preserved
 loop-node-preserved g c =
-    let index = g.StorageT.StorageIndex.index in
-    let facts = λ (x : g.row.LexemeT.Denot). facts_of index (g.LexemeT.Lexeme.parts x) in
-    let line = met_line facts index c.args.grm.now c.args.input.now in
+    let line = line_of g.StorageT.StorageIndex.index g.LexemeT.Lexeme.parts c.args.grm.now c.args.input.now in
     let contents = g.W.Write.contents in
     let same =
     left_turned c.pop.new.self.items c.loop-node.below.items c.in-Some-pop.rest c.loop-node.left.now c.in-None.ensures.cases c.in-Some-pop.ensures.items in
     record {
       text = λ last more. c.loop-node.invariant.text last (subst (λ ms. Appends (contents c.loop-node.out) last (flat_map line ms)) (sym same) more);
-      fits = λ all. c.loop-node.invariant.fits (subst (AllByRecursion (MetFits facts index c.args.grm.now c.args.input.now)) (sym same) all);
+      fits = λ all. c.loop-node.invariant.fits (subst (AllByRecursion (fit g.StorageT.StorageIndex.index g.LexemeT.Lexeme.parts c.args.grm.now c.args.input.now)) (sym same) all);
       indent = indent_less (string_bytes c.loop-node.line) (length c.pop.new.self.items) (length c.loop-node.below.items)
           (shorter c.loop-node.below.items c.pop.new.self.items c.in-Some-pop.rest c.in-Some-pop.ensures.items) c.loop-node.invariant.indent;
     }
@@ -125,14 +119,13 @@ returns-in_err-write_line-in-Some-clause-fits g c = nothing_done c.from_residual
 
 pub returns-in-None-pop-clause-text : goal.returns-in-None-pop-clause-text
 returns-in-None-pop-clause-text g c =
-    let facts = λ (x : g.row.LexemeT.Denot). facts_of g.StorageT.StorageIndex.index (g.LexemeT.Lexeme.parts x) in
     c.loop-node.invariant.text (g.W.Write.contents c.loop-node.out)
     (appends_nothing (g.W.Write.contents c.loop-node.out) _
-    (ap (flat_map (met_line facts g.StorageT.StorageIndex.index c.args.grm.now c.args.input.now))
+    (ap (flat_map (line_of g.StorageT.StorageIndex.index g.LexemeT.Lexeme.parts c.args.grm.now c.args.input.now))
     (left_none c.loop-node.below.items c.loop-node.left.now c.in-None.ensures.cases (sym c.loop-node.below.ok.0 ∙ c.in-None-pop.ensures.cases.0))))
 
 pub returns-in-None-pop-clause-fits : goal.returns-in-None-pop-clause-fits
 returns-in-None-pop-clause-fits g c =
     c.loop-node.invariant.fits
-    (fit_none (MetFits (λ x. facts_of g.StorageT.StorageIndex.index (g.LexemeT.Lexeme.parts x)) g.StorageT.StorageIndex.index c.args.grm.now c.args.input.now)
+    (fit_none (fit g.StorageT.StorageIndex.index g.LexemeT.Lexeme.parts c.args.grm.now c.args.input.now)
     c.loop-node.below.items c.loop-node.left.now c.in-None.ensures.cases (sym c.loop-node.below.ok.0 ∙ c.in-None-pop.ensures.cases.0))

@@ -1,11 +1,11 @@
-use Rattle.std.proofs.Common.{length, true, false, ◌&&◌, ◌++◌, Some, ap, sym, ◌∙◌}
+use Rattle.std.proofs.Common.{length, true, false, Some, ap, sym, ◌∙◌}
 use Rattle.std.proofs.lemmas.List.{length_push, nil_from_length}
 use Rattle.std.proofs.lemmas.List.Elements.{All-push, All-pop}
 use Rattle.lrpar_parse_trees.specs.declared.node.equal.Pair.{Pair}
-use Rattle.lrpar_parse_trees.specs.Walks.{nodes_eq, children}
+use Rattle.lrpar_parse_trees.specs.Walks.{children}
 use Rattle.lrpar_parse_trees.proofs.PairLemmas.{IsEven, later_nodes, later_others, later_nodes_push, later_others_push, rests_even}
 use Rattle.lrpar_parse_trees.proofs.WeightLemmas.{weights_fall, weights_skip, weights_turn}
-use Rattle.lrpar_parse_trees.proofs.WalkLemmas.{nodes_eq_enter, nodes_eq_append, children_even, weights_entered}
+use Rattle.lrpar_parse_trees.proofs.WalkLemmas.{children_even, nodes_eq_enter, nodes_eq_skip, weights_entered}
 use Rattle.lrpar_parse_trees.proofs.node.equal.are_equal.Goals as goal
 
 pub returns-then-not-is_like : goal.returns-then-not-is_like
@@ -22,18 +22,10 @@ equal_by_calls-requires g c =
 
 pub returns-then-not-equal_by_calls : goal.returns-then-not-equal_by_calls
 returns-then-not-equal_by_calls g c =
-    let eq = g.LexemeT.PartialEq.eq in
-    let same = g.StorageT.PartialEq.eq in
-    let node = c.in-Some-Some.node.now in
-    let other = c.in-Some-Some.other.now in
-    let more = c.in-Some-Some.rest.now ++ later_nodes c.loop-node.left.items in
-    let others = c.in-Some-Some.other_rest.now ++ later_others c.loop-node.left.items in
-    let entered = nodes_eq_enter eq same node other true
-    c.in-Some-Some.rest.now c.in-Some-Some.other_rest.now c.loop-node.nodes.now c.loop-node.others.now (later_nodes c.loop-node.left.items) (later_others c.loop-node.left.items)
-    c.in-Some-Some.ensures.cases.0 c.in-Some-Some.ensures'.cases.0 c.if-not-is_like.ensures.like in
-    let split = nodes_eq_append eq same (children node) (children other) more others (children_even eq same node other (sym c.if-not-is_like.ensures.like)) in
-    let unequal = rw (c.children.ensures.children, c.children-in-Err.ensures.children) at c.if-not-equal_by_calls.ensures in
-    ap (λ b. b && nodes_eq eq same more others) unequal ∙ sym split ∙ sym entered ∙ c.loop-node.invariant.same
+    sym (nodes_eq_skip g.LexemeT.PartialEq.eq g.StorageT.PartialEq.eq false (later_nodes c.loop-node.left.items) (later_others c.loop-node.left.items)
+    c.in-Some-Some.ensures.cases.0 c.in-Some-Some.ensures'.cases.0 c.if-not-is_like.ensures.like c.children.ensures.children c.children-in-Err.ensures.children
+    c.if-not-equal_by_calls.ensures)
+    ∙ c.loop-node.invariant.same
 
 pub loop-node-smaller-in-Ok : goal.loop-node-smaller-in-Ok
 loop-node-smaller-in-Ok g c =
@@ -71,19 +63,11 @@ loop-node-smaller-else-not-equal_by_calls g c =
 
 pub loop-node-preserved-else-not-equal_by_calls : goal.loop-node-preserved-else-not-equal_by_calls
 loop-node-preserved-else-not-equal_by_calls g c =
-    let eq = g.LexemeT.PartialEq.eq in
-    let same = g.StorageT.PartialEq.eq in
-    let node = c.in-Some-Some.node.now in
-    let other = c.in-Some-Some.other.now in
-    let more = c.in-Some-Some.rest.now ++ later_nodes c.loop-node.left.items in
-    let others = c.in-Some-Some.other_rest.now ++ later_others c.loop-node.left.items in
-    let entered = nodes_eq_enter eq same node other true
-    c.in-Some-Some.rest.now c.in-Some-Some.other_rest.now c.loop-node.nodes.now c.loop-node.others.now (later_nodes c.loop-node.left.items) (later_others c.loop-node.left.items)
-    c.in-Some-Some.ensures.cases.0 c.in-Some-Some.ensures'.cases.0 c.if-not-is_like.ensures.like in
-    let split = nodes_eq_append eq same (children node) (children other) more others (children_even eq same node other (sym c.if-not-is_like.ensures.like)) in
-    let equal = rw (c.children.ensures.children, c.children-in-Err.ensures.children) at c.if-not-equal_by_calls.ensures in
+    let skipped = nodes_eq_skip g.LexemeT.PartialEq.eq g.StorageT.PartialEq.eq true (later_nodes c.loop-node.left.items) (later_others c.loop-node.left.items)
+    c.in-Some-Some.ensures.cases.0 c.in-Some-Some.ensures'.cases.0 c.if-not-is_like.ensures.like c.children.ensures.children c.children-in-Err.ensures.children
+    c.if-not-equal_by_calls.ensures in
     record {
-      same = rw c.in-Err.ensures.items (ap (λ b. b && nodes_eq eq same more others) equal ∙ sym split ∙ sym entered ∙ c.loop-node.invariant.same);
+      same = rw c.in-Err.ensures.items (sym skipped ∙ c.loop-node.invariant.same);
       even = rests_even c.loop-node.nodes.now c.loop-node.others.now c.in-Some-Some.rest.now c.in-Some-Some.other_rest.now c.in-Some-Some.ensures.cases.1 c.in-Some-Some.ensures'.cases.1 c.loop-node.invariant.even;
       pairs = rw c.in-Err.ensures.items c.loop-node.invariant.pairs;
     }
