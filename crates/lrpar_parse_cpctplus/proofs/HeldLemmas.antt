@@ -1,10 +1,11 @@
 -- Configurations by the numbers of their stacks: they stay what they are as stacks are added; and one that is numbered is numbered as a
 -- configuration, too, since no two numbers have the same stack.
-use Rattle.std.proofs.Common.{◌≡◌, ◌≢◌, ◌<◌, ◌∙◌, ◌||◌, ◌&&◌, eqb, inl, inr, ℕ, zero, suc, List, [], ◌∷◌, ◌++◌, if◌then◌else◌, Bool, true, false, true≢false, Some, length, slice_get, refl, sym, subst, ap, ap₂}
+use Rattle.std.proofs.Common.{◌≡◌, ◌≢◌, ◌<◌, ◌∙◌, ◌&&◌, eqb, inl, inr, ℕ, zero, suc, List, [], ◌∷◌, ◌++◌, if◌then◌else◌, Bool, true, false, true≢false, Some, length, slice_get, refl, sym, subst, ap, ap₂}
 use Rattle.std.specs.Cmp.Derive.{both_true}
 use Rattle.std.specs.List.{list_any}
 use Rattle.std.proofs.lemmas.Bool.{eq-eqb, eqb-true}
 use Rattle.std.proofs.lemmas.List.{length-map, map-append}
+use Rattle.std.proofs.lemmas.Map.Keys.{any_passes_from_place}
 use Rattle.std.proofs.lemmas.Option.{none-some, same_Some}
 use Rattle.indexmap.specs.IndexSet.{insert_key}
 use Rattle.lrpar_table_rows.specs.Table.{Table}
@@ -39,16 +40,7 @@ configuration_alike : (x : Configuration) → configuration_eq x x ≡ true
 configuration_alike x = both_true (eq-eqb x.stack x.stack refl) (eq-eqb x.place x.place refl)
 
 none_passes : (keys : List Configuration) (key : Configuration) → list_any (configuration_eq key) keys ≡ false → (i : ℕ) → slice_get keys i ≢ Some key
-none_passes [] key none i at = none-some key at
-none_passes (k ∷ ks) key none zero at =
-    let same : k ≡ key = same_Some k key at in
-    let passes : configuration_eq key k ≡ true = ap (λ (u : Configuration). configuration_eq key u) same ∙ configuration_alike key in
-    true≢false (sym (ap (λ (b : Bool). b || list_any (configuration_eq key) ks) passes) ∙ none)
-none_passes (k ∷ ks) key none (suc i) at = none_passes ks key (rest (configuration_eq key k) none) i at
-  where
-    rest : (b : Bool) → (b || list_any (configuration_eq key) ks) ≡ false → list_any (configuration_eq key) ks ≡ false
-    rest true e = absurd (true≢false e)
-    rest false e = e
+none_passes keys key none i at = true≢false (sym (any_passes_from_place (configuration_eq key) keys i key at (configuration_alike key)) ∙ none)
 
 -- what an insertion leaves
 pub numbered_by : (old new : List Configuration) (key : Configuration) (to : ℕ) → new ≡ insert_key configuration_eq old key

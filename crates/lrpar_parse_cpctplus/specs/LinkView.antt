@@ -68,3 +68,8 @@ links_by_from links u = filter (λ link. link.from == u) links
 -- from where links lead to each node
 abbrev pub froms_by_to : {S : Type 0} → List (Link S) → ℕ → List ℕ
 froms_by_to links u = map (λ link. link.from) (filter (λ link. link.to == u) links)
+
+-- the links are in rows: those from each node, and from where links lead to each node
+pub record AreInRows {S : Type 0} (end : ℕ) (links : List (Link S)) (out : List (Vec (Link S) Global)) (into : List (Vec ℕ Global)) : Type 0 where
+  pub from : AreRows end (links_by_from links) out
+  pub to : AreRows end (froms_by_to links) into

@@ -1,6 +1,9 @@
 -- The repairs that are listed at an error point: the first ones in an order, of those of least cost.
-use Rattle.std.specs.Prelude.{◌≡◌, ◌<◌, ◌≤◌, ◌↔◌, ◌⊎◌, ℕ, Bool, false, IsTrue, List, [], ◌∷◌, length, slice_index_or}
+use Rattle.std.specs.Prelude.{◌≡◌, ◌<◌, ◌≤◌, ◌↔◌, ◌⊎◌, ℕ, Bool, false, IsTrue, List, [], ◌∷◌, Vec, length, slice_index_or}
 use Rattle.std.specs.List.{All, AllPairs, Contains}
+use Rattle.lrpar_grammar_places.specs.declared.span.TIdx.{TIdx}
+use Rattle.lrpar_grammar.specs.Grammar.{Grammar, tokens_len}
+use Rattle.lrpar_table_stacks.specs.Expected.{tokens_of}
 use Rattle.lrpar_parse_repair.specs.Asked.{Asked}
 use Rattle.lrpar_parse_repair.specs.Sequences.{PlainStep, PlainInsert}
 use Rattle.lrpar_parse_cpctplus.specs.Cheapest.{AreAtMost, IsLeastCost, RepairsAt}
@@ -8,6 +11,7 @@ use Rattle.lrpar_parse_cpctplus.specs.Configurations.{IsNearer}
 use Rattle.lrpar_parse_cpctplus.specs.Forms.{Has}
 use Rattle.lrpar_parse_cpctplus.specs.Order.{IsEarlier}
 use Rattle.lrpar_parse_cpctplus.specs.Reaching.{GoesAsFar}
+use Rattle.lrpar_parse_cpctplus.specs.Said.{AreSaid, said_by}
 
 -- How a recoverer is set: how many configurations a search may keep; what each token costs, by its number, where a token past these
 -- costs 1; which tokens are to be avoided, by their numbers; how many repairs are listed at most; and whether all repairs of least
@@ -23,6 +27,22 @@ pub record Settings : Type 0 where
 abbrev pub settings_with : ℕ → List ℕ → Settings
 settings_with limit costs = record { limit = limit; costs = costs; avoided = []; most = 100; lists_all = false }
 
+-- it is set with these costs, and nothing else is set
+abbrev pub HasCosts : {A : Type 0} → ℕ → Vec ℕ A → Settings → Type 0
+HasCosts limit costs = λ settings. settings ≡ settings_with limit costs.items
+
+-- nothing but its costs is set
+abbrev pub HasOnlyCosts : ℕ → Settings → Type 0
+HasOnlyCosts limit = λ settings. settings ≡ settings_with limit settings.costs
+
+-- it has what the function says that the tokens of the grammar cost; `index` gives the number of a value of the storage type
+abbrev pub HasSaidCosts : {S : Type 0} → (S → ℕ) → (TIdx S → ℕ → Type 0) → Grammar → Settings → Type 0
+HasSaidCosts index says g = λ settings. AreSaid (said_by index says) (tokens_len g) settings.costs
+
+-- all is set as before but the tokens to be avoided
+abbrev pub KeepsOthers : Settings → Settings → Type 0
+KeepsOthers old = λ new. new ≡ record old { avoided = new.avoided }
+
 -- these tokens are to be avoided, and no others
 abbrev pub AreAvoided : List Bool → List ℕ → Type 0
 AreAvoided avoided tokens = (t : ℕ) → IsTrue (slice_index_or avoided t false) ↔ Contains tokens t
@@ -30,6 +50,10 @@ AreAvoided avoided tokens = (t : ℕ) → IsTrue (slice_index_or avoided t false
 -- so is this one, by its number, in addition to those that were before
 abbrev pub AvoidsAlso : ℕ → List Bool → List Bool → Type 0
 AvoidsAlso token old new = (t : ℕ) → IsTrue (slice_index_or new t false) ↔ (IsTrue (slice_index_or old t false) ⊎ (t ≡ token))
+
+-- these tokens of the program are to be avoided, and no others
+abbrev pub Avoids : {S : Type 0} → (S → ℕ) → List (TIdx S) → Settings → Type 0
+Avoids index tokens = λ settings. AreAvoided settings.avoided (tokens_of index tokens)
 
 -- the sequence inserts a token that is to be avoided
 abbrev pub InsertsAvoided : List Bool → List PlainStep → Type 0

@@ -1,7 +1,9 @@
 -- Why costs are refused.
 use Rattle.std.specs.Prelude.{◌≡◌, ◌<◌, ℕ, List, length}
+use Rattle.lrpar_grammar_places.specs.declared.span.TIdx.{TIdx}
+use Rattle.lrpar_grammar.specs.Grammar.{Grammar, tokens_len}
 use Rattle.lrpar_parse_cpctplus.specs.Costs.{token_cost}
-use Rattle.lrpar_parse_cpctplus.specs.Said.{AreSaid}
+use Rattle.lrpar_parse_cpctplus.specs.Said.{AreSaid, said_by}
 use Rattle.lrpar_parse_cpctplus.specs.declared.fault.CostFault.{CostFault}
 use Rattle.lrpar_parse_cpctplus.specs.declared.fault.CostFault.TheVariants.{CostsNothing, Memory}
 
@@ -21,3 +23,7 @@ IsFreeToken costs Memory = ⊥
 abbrev pub IsFreeBy : (ℕ → ℕ → Type 0) → ℕ → CostFault → Type 0
 IsFreeBy says count (CostsNothing token) = (costs : List ℕ) × AreSaid says count costs × IsFirstFree costs token
 IsFreeBy says count Memory = Unit {0}
+
+-- the same for the tokens of a grammar; `index` gives the number of a value of the storage type
+abbrev pub IsFreeTokenBy : {S : Type 0} → (S → ℕ) → (TIdx S → ℕ → Type 0) → Grammar → CostFault → Type 0
+IsFreeTokenBy index says g = λ fault. IsFreeBy (said_by index says) (tokens_len g) fault

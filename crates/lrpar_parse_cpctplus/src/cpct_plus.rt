@@ -6,8 +6,8 @@ ghost use Rattle.lrpar_table_stacks.specs.Expected.{tokens_of};
 ghost use Rattle.lrpar_parse_lexemes.specs.Views.{token_by};
 ghost use Rattle.lrpar_parse_repair.specs.PlainSteps.{plain_sequences};
 ghost use Rattle.lrpar_parse_cpctplus.specs.Costs.{AreCosts, items_of, token_cost};
-ghost use Rattle.lrpar_parse_cpctplus.specs.Listing.{AreAvoided, AreListed, AvoidsAlso, settings_with};
-ghost use Rattle.lrpar_parse_cpctplus.specs.Refused.{IsFirstFree, IsFreeBy, IsFreeToken};
+ghost use Rattle.lrpar_parse_cpctplus.specs.Listing.{AreAvoided, AreListed, Avoids, AvoidsAlso, HasCosts, HasOnlyCosts, HasSaidCosts, KeepsOthers, settings_with};
+ghost use Rattle.lrpar_parse_cpctplus.specs.Refused.{IsFirstFree, IsFreeToken, IsFreeTokenBy};
 ghost use Rattle.lrpar_parse_cpctplus.specs.Said.{AreSaid, said_by};
 ghost use Rattle.lrpar_parse_cpctplus.specs.SearchRound.{AreAllIn, AreOnce, AreWeights};
 
@@ -89,7 +89,7 @@ impl CpctPlus {
     /// Each token costs what the list says at its number; one past the list costs 1. The rest is as `new` sets it. Refused by the
     /// first token that would cost nothing. Allocates nothing.
     pub fn with_costs(limit: usize, costs: Vec<u8>) -> Result<Self, CostFault>
-        ensures made { IfOk result (λ c. c ≡ settings_with limit costs.items) }
+        ensures made { IfOk result (HasCosts limit costs) }
         ensures priced { IfOk result (λ c. AreCosts c.costs) }
         ensures refused { IfErr result (IsFreeToken costs.items) }
     {
@@ -108,10 +108,10 @@ impl CpctPlus {
         cost: F,
     ) -> Result<Self, CostFault>
         requires callable { F.IsAlwaysCallable cost }
-        ensures others { IfOk result (λ c. c ≡ settings_with limit c.costs) }
-        ensures made { IfOk result (λ c. AreSaid (said_by StorageT.index (F.post cost)) (tokens_len grm.now) c.costs) }
+        ensures others { IfOk result (HasOnlyCosts limit) }
+        ensures made { IfOk result (HasSaidCosts StorageT.index (F.post cost) grm.now) }
         ensures priced { IfOk result (λ c. AreCosts c.costs) }
-        ensures refused { IfErr result (IsFreeBy (said_by StorageT.index (F.post cost)) (tokens_len grm.now)) }
+        ensures refused { IfErr result (IsFreeTokenBy StorageT.index (F.post cost) grm.now) }
     {
         let costs = costs_by(alloc, grm, &cost)?;
         CpctPlus::with_costs(limit, costs)
@@ -125,8 +125,8 @@ impl CpctPlus {
         alloc: Global,
         tokens: &[TIdx<StorageT>],
     ) -> Result<Self, AllocError>
-        ensures avoided { IfOk result (λ c. AreAvoided c.avoided (tokens_of StorageT.index tokens.now)) }
-        ensures others { IfOk result (λ c. c ≡ record self { avoided = c.avoided }) }
+        ensures avoided { IfOk result (Avoids StorageT.index tokens.now) }
+        ensures others { IfOk result (KeepsOthers self) }
     {
         self.avoided = Some(avoided_by(alloc, tokens)?);
         Ok(self)

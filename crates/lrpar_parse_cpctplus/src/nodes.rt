@@ -1,7 +1,7 @@
 //! The nodes of a graph by numbers: the links from each in the order of their steps, and from where links lead to it.
 ghost use Rattle.std.specs.Prelude.{◌≡◌, [], IfOk, map};
 ghost use Rattle.lrpar_parse_repair.specs.PlainSteps.{plain_step};
-ghost use Rattle.lrpar_parse_cpctplus.specs.LinkView.{AreInStepOrder, AreRows, AreWithin, froms_by_to, links_by_from, plain_link, step_rank};
+ghost use Rattle.lrpar_parse_cpctplus.specs.LinkView.{AreInRows, AreInStepOrder, AreRows, AreWithin, plain_link, step_rank};
 
 use crate::link::Link;
 use lrpar_grammar::span::StorageIndex;
@@ -33,8 +33,7 @@ impl<'a, StorageT: StorageIndex> Nodes<'a, StorageT> {
         ensures { IfOk result (AreNodesOf StorageT.index avoided.now end links.items) }
     {
         let links = by_steps(links)?;
-        let out = by_from(alloc, end, &links)?;
-        let into = by_to(alloc, end, &links)?;
+        let (out, into) = in_rows(alloc, end, &links)?;
         Ok(Nodes {
             avoided,
             end,
@@ -85,38 +84,24 @@ fn rank_of<StorageT: StorageIndex>(step: RepairStep<StorageT>) -> (u8, usize)
     }
 }
 
-// By node up to the end: the links from it.
-fn by_from<StorageT: StorageIndex>(
+// By node up to the end: the links from it; and from where links lead to it.
+fn in_rows<StorageT: StorageIndex>(
     alloc: Global,
     end: usize,
     links: &[Link<StorageT>],
-) -> Result<Vec<Vec<Link<StorageT>>>, AllocError>
+) -> Result<(Vec<Vec<Link<StorageT>>>, Vec<Vec<usize>>), AllocError>
     requires within { AreWithin end links.now }
-    ensures { IfOk result (λ rows. AreRows end (links_by_from links.now) rows.items) }
+    ensures { IfOk result (λ rows. AreInRows end links.now rows.0.items rows.1.items) }
 {
-    let mut rows = empty_rows(alloc, end)?;
+    let mut out = empty_rows(alloc, end)?;
+    let mut into = empty_rows(alloc, end)?;
     for link in links {
-        let row = &mut rows[link.from];
-        row.push(*link)?;
+        let outgoing = &mut out[link.from];
+        outgoing.push(*link)?;
+        let incoming = &mut into[link.to];
+        incoming.push(link.from)?;
     }
-    Ok(rows)
-}
-
-// By node up to the end: from where links lead to it.
-fn by_to<StorageT: StorageIndex>(
-    alloc: Global,
-    end: usize,
-    links: &[Link<StorageT>],
-) -> Result<Vec<Vec<usize>>, AllocError>
-    requires within { AreWithin end links.now }
-    ensures { IfOk result (λ rows. AreRows end (froms_by_to links.now) rows.items) }
-{
-    let mut rows = empty_rows(alloc, end)?;
-    for link in links {
-        let row = &mut rows[link.to];
-        row.push(link.from)?;
-    }
-    Ok(rows)
+    Ok((out, into))
 }
 
 // One empty row for each number up to the end.

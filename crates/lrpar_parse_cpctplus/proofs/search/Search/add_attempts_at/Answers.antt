@@ -2,7 +2,7 @@ use Rattle.std.proofs.Common.{◌≡◌, ◌+◌, ◌-◌, ◌∙◌, ℕ, ap, a
 use Rattle.lrpar_parse_lexemes.specs.Views.{token_by}
 use Rattle.lrpar_parse_cpctplus.specs.GraphView.{configured_at, nodes_in}
 use Rattle.lrpar_parse_cpctplus.specs.Levels.{first_of}
-use Rattle.lrpar_parse_cpctplus.specs.RoundView.{plain_attempts}
+use Rattle.lrpar_parse_cpctplus.specs.RoundView.{nodes_of, plain_attempts}
 use Rattle.lrpar_parse_cpctplus.specs.SearchRound.{Adds, IsAttemptWithin}
 use Rattle.lrpar_parse_cpctplus.proofs.AddLemmas.{range_begins, range_more, weight_past, weight_range}
 use Rattle.lrpar_parse_cpctplus.proofs.HeldLemmas.{at_node, nodes_len}
@@ -71,20 +71,15 @@ loop-from-preserved g c =
 pub returns-clause-adds : goal.returns-clause-adds
 returns-clause-adds g c =
     let index = g.StorageT.StorageIndex.index in
-    let token = token_by index g.LexemeT.Lexeme.parts in
-    let search = c.args.self.now in
     let graph = c.args.graph.now in
+    let nodes = nodes_of c.args.stacks.now graph in
     let l = c.loop-from in
-    let stacks = c.args.stacks.now.stacks in
-    let keys = graph.configurations.keys in
-    let nodes = nodes_in stacks keys in
     let distance = c.levels-levels.result - c.from-less.result in
-    let count = nodes_len stacks keys in
     let rises = c.requires.levels.rising distance in
-    let end : l.from ≡ first_of graph.firsts.items (length keys) (distance + 1) =
+    let end : l.from ≡ first_of graph.firsts.items (length graph.configurations.keys) (distance + 1) =
     omega (arith, rises, c.first-from.ensures, c.first-from-end.ensures, c.loop-from-test.false, l.auto.from, l.auto.from-end) in
     let last : l.from ≡ first_of graph.firsts.items (length nodes) (distance + 1) =
-    end ∙ ap (λ (n : ℕ). first_of graph.firsts.items n (distance + 1)) (sym count) in
-    weight_range token search.terms.now.costs search.point.now nodes graph.firsts.items (length graph.firsts.items) c.args.weight distance l.from
-    (plain_attempts index c.args.attempts.now.items) (plain_attempts index l.attempts.items)
+    end ∙ ap (λ (n : ℕ). first_of graph.firsts.items n (distance + 1)) (sym (nodes_len c.args.stacks.now.stacks graph.configurations.keys)) in
+    weight_range (token_by index g.LexemeT.Lexeme.parts) c.args.self.now.terms.now.costs c.args.self.now.point.now nodes graph.firsts.items (length graph.firsts.items)
+    c.args.weight distance l.from (plain_attempts index c.args.attempts.now.items) (plain_attempts index l.attempts.items)
     (omega (arith, c.levels-levels.ensures.levels, c.from-less.ensures, c.if-levels-less.false)) last l.invariant.adds
