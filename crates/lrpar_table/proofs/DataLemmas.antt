@@ -15,8 +15,8 @@ use Rattle.lrpar_table_merge.specs.declared.build.Minimiser.TheVariants.{Canonic
 use Rattle.lrpar_table_merge.proofs.MergedByNoneLemmas.{merged_by_none_is_merged, none_decide}
 use Rattle.lrpar_table_merge.proofs.MergedCompleteLemmas.{merged_tables_are_complete_without_conflicts}
 use Rattle.lrpar_table_merge.proofs.MergedViableLemmas.{merged_tables_are_viable}
-use Rattle.lrpar_table.specs.MergedParserData.{GivesMergedData, IsMergedData, IsMinimisedData, IsUnmerged, IsUnminimised, TellsUnmerged}
-use Rattle.lrpar_table.specs.ParserData.{GivesParserData, IsParserDataOf, IsUnbuilt}
+use Rattle.lrpar_table.specs.MergedParserData.{IsMergedData, IsMinimisedData, IsUnmerged, IsUnminimised}
+use Rattle.lrpar_table.specs.ParserData.{IsParserDataOf, IsUnbuilt}
 use Rattle.lrpar_table.specs.TableLaws.{IsCompleteWithoutConflicts}
 use Rattle.lrpar_table.specs.declared.build.Unbuilt.{Unbuilt}
 use Rattle.lrpar_table.specs.declared.build.Unbuilt.TheVariants.{Chains, Table}
@@ -81,7 +81,7 @@ module _ (g : Grammar) (lists : PrecedenceLists) (none : lists ≡ no_precedence
 
   -- the same of results
   module _ {S : Type 0} (limit most bound : ℕ) (result : Result Checked (Unbuilt S)) where
-    pub gives_data : IsWellFormed g → IfOk result (IsMinimisedData Canonical g lists most bound) → GivesParserData g most bound result
+    pub gives_data : IsWellFormed g → IfOk result (IsMinimisedData Canonical g lists most bound) → IfOk result (IsParserDataOf g most bound)
     gives_data well =
         IfOk-weaker result (IsMinimisedData Canonical g lists most bound) (IsParserDataOf g most bound) (canonical_data well most bound)
 
@@ -89,8 +89,8 @@ module _ (g : Grammar) (lists : PrecedenceLists) (none : lists ≡ no_precedence
     tells_unbuilt well =
         IfErr-weaker result (IsUnminimised Canonical limit g lists most bound) (IsUnbuilt limit g most bound) (unbuilt well limit most bound)
 
-    pub gives_merged : IfOk result (IsMinimisedData Pager g lists most bound) → GivesMergedData g most bound result
+    pub gives_merged : IfOk result (IsMinimisedData Pager g lists most bound) → IfOk result (IsMergedData g most bound)
     gives_merged = IfOk-weaker result (IsMinimisedData Pager g lists most bound) (IsMergedData g most bound) (merged_data most bound)
 
-    pub tells_unmerged : IfErr result (IsUnminimised Pager limit g lists most bound) → TellsUnmerged g most bound result
+    pub tells_unmerged : IfErr result (IsUnminimised Pager limit g lists most bound) → IfErr result (IsUnmerged g most bound)
     tells_unmerged = IfErr-weaker result (IsUnminimised Pager limit g lists most bound) (IsUnmerged g most bound) (unmerged limit most bound)
