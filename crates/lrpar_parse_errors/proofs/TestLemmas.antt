@@ -1,13 +1,11 @@
 -- Tests of all elements of a list.
 use denote.Param.Members.{Mut}
-use Rattle.std.proofs.Common.{◌≡◌, ◌↔◌, zero, suc, Bool, true, false, IsTrue, List, [], ◌∷◌, map, MatchOption, Option, refl, arith}
-use Rattle.std.proofs.lemmas.Bool.{MatchBool-at_true, false≢true}
-use Rattle.std.proofs.lemmas.Iterator.{YieldsList, cases_from_all}
-use Rattle.std.proofs.lemmas.Iterator.Search.{true_from_All}
-use Rattle.std.proofs.lemmas.List.Elements.{All-from_all_within}
+use Rattle.std.proofs.Common.{◌≡◌, ◌↔◌, zero, suc, Bool, true, false, IsTrue, List, [], ◌∷◌, map, MatchOption, Option, arith}
+use Rattle.std.proofs.lemmas.Iterator.{YieldsList}
 use Rattle.std.specs.Fn.{Called}
 use Rattle.std.specs.Iterator.{YieldsThen}
 use Rattle.std.specs.List.{All, AllByRecursion, FoldsTo}
+use Rattle.lrpar_table_rows.proofs.Mapped.{all_by_test}
 
 -- what holds at each place holds of each image, one after another
 images : {B C : Type 0} (P : C → Type 0) (f : B → C) (xs : List B) → All (λ x. P (f x)) xs → AllByRecursion P (map f xs)
@@ -20,16 +18,12 @@ places P f [] all k d below = absurd (omega arith)
 places P f (x ∷ xs) all zero d below = all.0
 places P f (x ∷ xs) all (suc k) d below = places P f xs all.1 k d (omega arith)
 
--- if each call of the closure tests P of an element's image, `all` tests whether P holds of all images
-pub all_by_test : {S A B C F : Type 0} {steps : S → Option A → S → Type 0} {v : A → B} {g : Mut F (A × Unit {0}) Bool} {s : S} {all : List B}
+-- if each call of the closure tests P of an element's image, `all` tests whether P holds of all images, one after another
+pub each_by_test : {S A B C F : Type 0} {steps : S → Option A → S → Type 0} {v : A → B} {g : Mut F (A × Unit {0}) Bool} {s : S} {all : List B}
     (P : C → Type 0) (h : B → C) (u : S) (f : F) (r : Bool)
     → (xs : List A) × (o : Option A) × (j : F) × YieldsThen steps s xs o u × FoldsTo (λ p x q. Called g p (x, tt) true q) f xs j
     × MatchOption o (r ≡ true) (λ x. (r ≡ false) × ((e : F) × Called g j (x, tt) false e))
     → YieldsList steps v s all → ((x : A) (b : Bool) (q : F) → Called g f (x, tt) b q → (q ≡ f) × (IsTrue b ↔ P (h (v x)))) → IsTrue r ↔ AllByRecursion P (map h all)
-all_by_test {B = B} {all = all} P h u f r ran yields test =
-    let Q : B → Type 0 = λ x. P (h x) in
-    let cases = cases_from_all u f r Q (λ y. ¬ (Q y)) ran yields (λ x q call. let t = test x true q call in (t.0, t.1.0 refl))
-    (λ x q call holds. absurd (false≢true ((test x false q call).1.1 holds))) in (
-      (λ passed. images P h all (All-from_all_within Q all (MatchBool-at_true _ _ passed cases))),
-      (λ holds. true_from_All Q (λ y. ¬ (Q y)) r all (λ x p no. absurd (no p)) cases (places P h all holds)),
-    )
+each_by_test {all = all} P h u f r ran yields test =
+    let tested = all_by_test (λ x. P (h x)) u f r ran yields test in
+    (λ passed. images P h all (tested.0 passed), λ holds. tested.1 (places P h all holds))

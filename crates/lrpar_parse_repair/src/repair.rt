@@ -55,17 +55,17 @@ impl<'a, StorageT: StorageIndex, LexemeT: Lexeme<StorageT>> Model
 impl<'a, StorageT: StorageIndex, LexemeT: Lexeme<StorageT>> RecoveryPoint<'a, StorageT, LexemeT> {
     /// Makes the error point of these. The state on top must have no action at the token of the place. Takes no memory.
     pub fn new(
-        data: &'a ParserData<StorageT>,
+        checked: &'a ParserData<StorageT>,
         shifts: usize,
         lexemes: &'a [LexemeT],
         place: usize,
         stack: &'a [StIdx<StorageT>],
     ) -> Self
-        requires stop { StopsAt StorageT.index LexemeT.parts data.now shifts lexemes.now place stack.now }
-        ensures { result ≡ asked_of StorageT.index data.now shifts lexemes.now place stack.now }
+        requires stop { StopsAt StorageT.index LexemeT.parts checked.now shifts lexemes.now place stack.now }
+        ensures { result ≡ asked_of StorageT.index checked.now shifts lexemes.now place stack.now }
     {
         RecoveryPoint {
-            data,
+            data: checked,
             shifts,
             lexemes,
             place,

@@ -51,6 +51,7 @@ pub fn parser_data<StorageT: StorageIndex>(
     ensures built { IfOk result (IsParserDataOf grm max_states cap) }
     ensures refused { IfErr result (IsUnbuilt StorageT.limit grm max_states cap) }
 {
+    // The proof needs that the grammar is well-formed.
     let _start = grm.start_prod();
     let precedences = Precedences::none(alloc);
     parser_data_by(

@@ -1,4 +1,4 @@
-pub mod AllTests
+pub mod Reworded
 pub mod FirstTokenLemmas
 pub mod ItemwiseLemmas
 pub mod CoreLemmas
