@@ -5,8 +5,12 @@ use Rattle.std.specs.Ordering.{nat_cmp}
 use Rattle.std.specs.Hash as fed
 use Rattle.std.specs.declared.cmp.PartialEq as equality
 use Rattle.lrpar_grammar_places.specs.Span.{Extent}
+use Rattle.lrpar_grammar_places.specs.declared.span.PIdx.{PIdx}
+use Rattle.lrpar_grammar_places.specs.declared.span.RIdx.{RIdx}
+use Rattle.lrpar_grammar_places.specs.declared.span.StIdx.{StIdx}
 use Rattle.lrpar_grammar_places.specs.declared.span.Symbol.{Symbol}
 use Rattle.lrpar_grammar_places.specs.declared.span.Symbol.TheVariants.{Rule, Token}
+use Rattle.lrpar_grammar_places.specs.declared.span.TIdx.{TIdx}
 use Rattle.lrpar_grammar_places.specs.declared.text_range.TextRange.{TextRange}
 
 -- values are equal and ordered as their numbers are
@@ -57,8 +61,24 @@ abbrev pub Hashing : Type 0 → Type 0
 Hashing X = record { eq : X → X → Bool; hash_input : X → List (List ℕ) }
 
 -- for a value that holds a number, a hasher is fed what it is fed for the number
-abbrev pub HashesByNumber : {X S : Type 0} → (S → List (List ℕ)) → equality.Ghosts X → Hashing X → (X → S) → Type 0
-HashesByNumber input e h number = HashesAs (λ x. input (number x)) e.eq h.hash_input
+abbrev pub HashesByNumber : {X S : Type 0} → (X → S) → (S → List (List ℕ)) → equality.Ghosts X → Hashing X → Type 0
+HashesByNumber number input e h = HashesAs (λ x. input (number x)) e.eq h.hash_input
+
+-- the same of the numbers of rules
+abbrev pub RulesHashBy : {S : Type 0} → (S → List (List ℕ)) → equality.Ghosts (RIdx S) → Hashing (RIdx S) → Type 0
+RulesHashBy = HashesByNumber (λ rule. rule.0)
+
+-- the same of the numbers of productions
+abbrev pub ProdsHashBy : {S : Type 0} → (S → List (List ℕ)) → equality.Ghosts (PIdx S) → Hashing (PIdx S) → Type 0
+ProdsHashBy = HashesByNumber (λ prod. prod.0)
+
+-- the same of the numbers of tokens
+abbrev pub TokensHashBy : {S : Type 0} → (S → List (List ℕ)) → equality.Ghosts (TIdx S) → Hashing (TIdx S) → Type 0
+TokensHashBy = HashesByNumber (λ token. token.0)
+
+-- the same of the numbers of states
+abbrev pub StatesHashBy : {S : Type 0} → (S → List (List ℕ)) → equality.Ghosts (StIdx S) → Hashing (StIdx S) → Type 0
+StatesHashBy = HashesByNumber (λ state. state.0)
 
 -- for a symbol a hasher is fed which of the two it is, and then what it is fed for the storage number
 abbrev pub SymbolsHashBy : {S : Type 0} → (S → List (List ℕ)) → equality.Ghosts (Symbol S) → Hashing (Symbol S) → Type 0

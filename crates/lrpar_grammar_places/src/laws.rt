@@ -1,5 +1,5 @@
 //! Laws of spans, numbers and symbols. Each function does nothing: its clauses are the law.
-ghost use Rattle.lrpar_grammar_places.specs.Comparisons.{AreSameRange, AreSameSpan, ComparesByNumber, HashesAs, HashesByNumber, IsEquality, IsSameSymbol, SymbolsHashBy, range_input, span_input};
+ghost use Rattle.lrpar_grammar_places.specs.Comparisons.{AreSameRange, AreSameSpan, ComparesByNumber, HashesAs, IsEquality, IsSameSymbol, ProdsHashBy, RulesHashBy, StatesHashBy, SymbolsHashBy, TokensHashBy, range_input, span_input};
 
 use crate::span::{PIdx, RIdx, Span, StIdx, StorageIndex, Symbol, TIdx};
 use crate::text_range::TextRange;
@@ -25,10 +25,10 @@ pub fn numbers_compare_by_value<StorageT: StorageIndex>()
     ensures prods { ComparesByNumber (λ x. StorageT.index x.0) ⟦<PIdx<StorageT> as PartialEq>⟧.eq ⟦<PIdx<StorageT> as PartialOrd>⟧.partial_cmp ⟦<PIdx<StorageT> as Ord>⟧.cmp }
     ensures tokens { ComparesByNumber (λ x. StorageT.index x.0) ⟦<TIdx<StorageT> as PartialEq>⟧.eq ⟦<TIdx<StorageT> as PartialOrd>⟧.partial_cmp ⟦<TIdx<StorageT> as Ord>⟧.cmp }
     ensures states { ComparesByNumber (λ x. StorageT.index x.0) ⟦<StIdx<StorageT> as PartialEq>⟧.eq ⟦<StIdx<StorageT> as PartialOrd>⟧.partial_cmp ⟦<StIdx<StorageT> as Ord>⟧.cmp }
-    ensures rules_hash { HashesByNumber StorageT.hash_input ⟦<RIdx<StorageT> as PartialEq>⟧ ⟦<RIdx<StorageT> as Hash>⟧ (λ x. x.0) }
-    ensures prods_hash { HashesByNumber StorageT.hash_input ⟦<PIdx<StorageT> as PartialEq>⟧ ⟦<PIdx<StorageT> as Hash>⟧ (λ x. x.0) }
-    ensures tokens_hash { HashesByNumber StorageT.hash_input ⟦<TIdx<StorageT> as PartialEq>⟧ ⟦<TIdx<StorageT> as Hash>⟧ (λ x. x.0) }
-    ensures states_hash { HashesByNumber StorageT.hash_input ⟦<StIdx<StorageT> as PartialEq>⟧ ⟦<StIdx<StorageT> as Hash>⟧ (λ x. x.0) }
+    ensures rules_hash { RulesHashBy StorageT.hash_input ⟦<RIdx<StorageT> as PartialEq>⟧ ⟦<RIdx<StorageT> as Hash>⟧ }
+    ensures prods_hash { ProdsHashBy StorageT.hash_input ⟦<PIdx<StorageT> as PartialEq>⟧ ⟦<PIdx<StorageT> as Hash>⟧ }
+    ensures tokens_hash { TokensHashBy StorageT.hash_input ⟦<TIdx<StorageT> as PartialEq>⟧ ⟦<TIdx<StorageT> as Hash>⟧ }
+    ensures states_hash { StatesHashBy StorageT.hash_input ⟦<StIdx<StorageT> as PartialEq>⟧ ⟦<StIdx<StorageT> as Hash>⟧ }
 {}
 
 /// Symbols are equal if and only if both are rules or both are tokens, with the same number. A hasher is fed which of the two it
