@@ -51,6 +51,8 @@ def rows(lines):
             above.append(code)
         elif is_outer and BLOCK.match(code):
             blocks.append(indent)
+            # A comment above `module` is about all that follows in it.
+            above = above if code.endswith("mutual") else []
         elif is_outer and (match := DEFINITION.match(code)):
             if above or not found:
                 found.append(([], comment_of(above)))

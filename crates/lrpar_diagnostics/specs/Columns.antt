@@ -1,12 +1,8 @@
 -- Lines of a text as they are printed, and the columns of its parts.
-use Rattle.std.specs.Prelude.{◌≡◌, ℕ, ◌-◌, ◌==◌, ◌&&◌, nat_lt, Bool, false, List, [], ◌∷◌, ◌++◌, String, length, slice_index, slice_range, string_bytes, replicate, codes, chars, encode_utf8_all, if◌then◌else◌}
+use Rattle.std.specs.Prelude.{ℕ, ◌-◌, ◌==◌, ◌&&◌, nat_lt, Bool, false, List, [], ◌∷◌, ◌++◌, length, slice_index, slice_range, replicate, codes, chars, encode_utf8_all, if◌then◌else◌}
 use Rattle.std.specs.Fmt.{decimal}
 use Rattle.unicode_width.specs.Width.{str_width}
 use Rattle.lrpar_grammar_places.specs.Lines.{line_of, line_end}
-
--- this is the text
-abbrev pub IsText : {A : Type 0} → List ℕ → String A → Type 0
-IsText bytes = λ text. string_bytes text ≡ bytes
 
 -- how many columns the bytes from i up to j take
 abbrev pub columns : List ℕ → ℕ → ℕ → ℕ

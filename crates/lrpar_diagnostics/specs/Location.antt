@@ -7,8 +7,8 @@ use Rattle.lrpar_grammar_places.specs.Span.{Extent}
 use Rattle.lrpar_diagnostics.specs.Subject.{Subject}
 
 -- messages are about this text, and they name it by this path
-abbrev pub HasText : List ℕ → Subject → Type 0
-HasText text = λ f. f.text ≡ text
+abbrev pub HasSource : List ℕ → Subject → Type 0
+HasSource text = λ f. f.text ≡ text
 
 abbrev pub HasPath : List ℕ → Subject → Type 0
 HasPath path = λ f. f.path ≡ path

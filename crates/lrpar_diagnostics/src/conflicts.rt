@@ -1,11 +1,10 @@
 //! Texts of conflicts.
 ghost use Rattle.std.specs.Prelude.{◌≡◌, ◌<◌, ◌≤◌, List, ℕ, IfOk, IfSome, OnOk, length};
+ghost use Rattle.lrpar_grammar_places.specs.Strings.{Appends, HasText};
 ghost use Rattle.lrpar_grammar.specs.Grammar.{end_token, prods_len, rules_len, tokens_len};
 ghost use Rattle.lrpar_grammar.specs.SpansFit.{IsPartOf, NamesFit, SpansFit};
 ghost use Rattle.lrpar_table_rows.specs.ConflictsFit.{ConflictsFit, ReductionsFit, ShiftFits};
 ghost use Rattle.lrpar_table_rows.specs.PlainConflicts.{reduce_reduce_of, shift_reduce_of};
-ghost use Rattle.lrpar_grammar_places.specs.Strings.{Appends};
-ghost use Rattle.lrpar_diagnostics.specs.Columns.{IsText};
 ghost use Rattle.lrpar_diagnostics.specs.ConflictText.{by_line, conflicts_text, dollar_span, group_label, labelled, shift_or_reduction, shown_name, shown_span, shown_spans, two_reductions};
 ghost use Rattle.lrpar_diagnostics.specs.StoredConflicts.{AllReductionsFit, AllShiftsFit, IsDollarSpan, IsFirstGroup, PlacesRule, labelled_rule, labelled_token, lines_text, reductions_text, reductions_texts, shift_or_reduce_text, shifts_texts, symbols_text, token_as_lookahead, token_or_rule_line, token_or_rule_text, two_rules_line, two_rules_text};
 ghost use Rattle.lrpar_diagnostics.specs.Underline.{FollowInOrder};
@@ -48,7 +47,7 @@ impl<'a> SpannedDiagnosticFormatter<'a> {
     ) -> Result<String, AllocError>
         requires spans { SpansFit grm.now (self.now).text }
         requires conflicts { ConflictsFit grm.now c.now }
-        ensures { IfOk result (IsText (conflicts_text self.now grm.now c.now)) }
+        ensures { IfOk result (HasText (conflicts_text self.now grm.now c.now)) }
     {
         let mut out = String::new(alloc);
         self.push_reduce_reduce(&mut out, grm, c.rr_conflicts())?;

@@ -2,10 +2,9 @@
 ghost use Rattle.std.specs.Prelude.{◌≡◌, ◌%◌, ◌≤◌, ◌++◌, ◌↔◌, [], if◌then◌else◌, IfOk, IsTrue, OnOk, codes, length};
 ghost use Rattle.std.specs.String.{string_bytes};
 ghost use Rattle.lrpar_grammar_places.specs.Lines.{line_table};
+ghost use Rattle.lrpar_grammar_places.specs.Strings.{Appends, HasText};
 ghost use Rattle.lrpar_grammar.specs.SpansFit.{IsPartOf};
-ghost use Rattle.lrpar_grammar_places.specs.Strings.{Appends};
-ghost use Rattle.lrpar_diagnostics.specs.Columns.{IsText};
-ghost use Rattle.lrpar_diagnostics.specs.Location.{HasPath, HasText, IsLocationText, IsPlaceText, is_teen, ordinal_text, suffix_of_digit};
+ghost use Rattle.lrpar_diagnostics.specs.Location.{HasPath, HasSource, IsLocationText, IsPlaceText, is_teen, ordinal_text, suffix_of_digit};
 ghost use Rattle.lrpar_diagnostics.specs.Underline.{FollowInOrder, SpansFollow, shown_block, shown_on_line};
 
 use crate::source::Source;
@@ -38,7 +37,7 @@ impl<'a> Model for SpannedDiagnosticFormatter<'a> {
 impl<'a> SpannedDiagnosticFormatter<'a> {
     /// The formatter of a text and its path. Takes time linear in the text, and memory for each of its lines.
     pub fn new(alloc: Global, src: &'a str, path: &'a str) -> Result<Self, AllocError>
-        ensures text { IfOk result (HasText src.now) }
+        ensures text { IfOk result (HasSource src.now) }
         ensures path { IfOk result (HasPath path.now) }
     {
         let source = Source::new(alloc, src)?;
@@ -54,7 +53,7 @@ impl<'a> SpannedDiagnosticFormatter<'a> {
 
     /// The number as an ordinal: `1st`, `2nd`, `3rd`, `4th`, and so on by the last digit, but `th` if it ends in 11, 12 or 13.
     pub fn ordinal(alloc: Global, v: usize) -> Result<String, AllocError>
-        ensures { IfOk result (IsText (ordinal_text v)) }
+        ensures { IfOk result (HasText (ordinal_text v)) }
     {
         let suffix = ordinal_suffix(v);
         format!(in alloc; "{v}{suffix}")
@@ -90,7 +89,7 @@ impl<'a> SpannedDiagnosticFormatter<'a> {
         underline_c: char,
     ) -> Result<String, AllocError>
         requires { IsPartOf (self.now).text span }
-        ensures { IfOk result (IsText (shown_block self.now [] span s underline_c)) }
+        ensures { IfOk result (HasText (shown_block self.now [] span s underline_c)) }
     {
         self.prefixed_underline_span_with_text(alloc, "", span, s, underline_c)
     }
@@ -106,7 +105,7 @@ impl<'a> SpannedDiagnosticFormatter<'a> {
     ) -> Result<String, AllocError>
         requires span { IsPartOf (self.now).text span }
         requires prefix { length prefix.now ≤ 3 }
-        ensures { IfOk result (IsText (shown_block self.now prefix.now span s underline_c)) }
+        ensures { IfOk result (HasText (shown_block self.now prefix.now span s underline_c)) }
     {
         let mut out = String::new(alloc);
         self.source
@@ -134,7 +133,7 @@ impl<'a> SpannedDiagnosticFormatter<'a> {
         underline_c: char,
     ) -> Result<String, AllocError>
         requires { FollowInOrder (self.now).text 0 spans.now }
-        ensures { IfOk result (IsText (shown_on_line self.now spans.now msg underline_c)) }
+        ensures { IfOk result (HasText (shown_on_line self.now spans.now msg underline_c)) }
     {
         let mut out = String::new(alloc);
         self.source

@@ -3,11 +3,10 @@ ghost use Rattle.std.specs.Prelude.{◌≡◌, ◌-◌, ◌↔◌, List, ℕ, If
 ghost use Rattle.std.specs.List.{AllByRecursion};
 ghost use Rattle.lrpar_grammar_places.specs.Lines.{line_of};
 ghost use Rattle.lrpar_grammar_places.specs.Span.{Extent};
+ghost use Rattle.lrpar_grammar_places.specs.Strings.{Appends, HasText};
 ghost use Rattle.lrpar_grammar_places.specs.declared.span.SpansKind.{SpansKind};
 ghost use Rattle.lrpar_grammar.specs.SpansFit.{IsPartOf};
 ghost use Rattle.lrpar_diagnostics.specs.Blocks.{HasSeveralSpans, IsShown, ShowsThing, blocks_after, dots, label, next_block, spanned_text};
-ghost use Rattle.lrpar_grammar_places.specs.Strings.{Appends};
-ghost use Rattle.lrpar_diagnostics.specs.Columns.{IsText};
 ghost use Rattle.lrpar_diagnostics.specs.declared.fault.DiagnosticFault.TheVariants.{SeveralSpans};
 
 use crate::fault::{DiagnosticError, DiagnosticFault};
@@ -99,7 +98,7 @@ impl<'a> Source<'a> {
         message: &str,
     ) -> Result<String, AllocError>
         requires { AllByRecursion (IsPartOf self.now.src.now) spans.now }
-        ensures { IfOk result (IsText (spanned_text self.now.src.now kind spans.now message.now)) }
+        ensures { IfOk result (HasText (spanned_text self.now.src.now kind spans.now message.now)) }
     {
         let mut out = String::new(alloc);
         let Some((first, others)) = spans.split_first() else {
@@ -174,7 +173,7 @@ impl<'a> Source<'a> {
 
 // The label of the place of this number, which isn't the first.
 fn label(alloc: Global, kind: SpansKind, number: usize) -> Result<String, AllocError>
-    ensures { IfOk result (IsText (label kind number)) }
+    ensures { IfOk result (HasText (label kind number)) }
 {
     match kind {
         SpansKind::DuplicationError => {

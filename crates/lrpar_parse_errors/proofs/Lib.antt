@@ -2,7 +2,6 @@ pub mod SequenceTextLemmas
 pub mod FailureLemmas
 pub mod ErrorTextLemmas
 pub mod LexParseTextLemmas
-pub mod MessageLemmas
 pub mod ActedOnLemmas
 pub mod SpacesLemmas
 pub mod TestLemmas

@@ -1,7 +1,7 @@
 //! The text of an error of any input, with the names that a grammar prints.
 ghost use Rattle.std.specs.Prelude.{IfOk};
+ghost use Rattle.lrpar_grammar_places.specs.Strings.{HasText};
 ghost use Rattle.lrpar_parse_errors.specs.ErrorText.{byte_text};
-ghost use Rattle.lrpar_parse_errors.specs.Strings.{HasText};
 
 use crate::errors::{LexParseError, PpFault};
 use lrpar_grammar::grammar::YaccGrammar;

@@ -1,9 +1,9 @@
 -- Whether some sequence of an answer works, one sequence after the other; and recoverers that always repair.
-use Rattle.std.proofs.Common.{◌≡◌, ◌<◌, ◌≤◌, ◌+◌, ◌∙◌, ◌↔◌, inl, inr, ℕ, List, [], ◌∷◌, ◌++◌, Bool, true, false, All, Contains, Vec, ap, arith, get_or, length, map, refl, subst, sym, take, drop}
+use Rattle.std.proofs.Common.{◌≡◌, ◌<◌, ◌≤◌, ◌+◌, ◌∙◌, ◌↔◌, inl, inr, ℕ, List, [], ◌∷◌, ◌++◌, Bool, false, All, Contains, Vec, ap, arith, get_or, length, map, subst, sym, take, drop}
 use Rattle.std.specs.Prelude.{IsTrue}
 use Rattle.std.specs.List.{sum_by}
-use Rattle.std.proofs.lemmas.List.{get_or-map, length-map, map-append, take-append-drop, take_all, take_more}
-use Rattle.std.proofs.lemmas.List.Elements.{All-contains, All-push, Contains-get_or}
+use Rattle.std.proofs.lemmas.List.{map-append, take-append-drop, take_all, take_more}
+use Rattle.std.proofs.lemmas.List.Elements.{All-contains, All-push}
 use Rattle.std.proofs.lemmas.List.Sums.{sum_by-append}
 use Rattle.lrpar_grammar.specs.Grammar.{Grammar}
 use Rattle.lrpar_table_rows.specs.Table.{Table}
@@ -34,13 +34,6 @@ module _ {A B : Type 0} (f : A → B) (P : B → Type 0) where
       let both : map f (take (i + 1) xs) ≡ map f (take i xs) ++ f x ∷ [] = ap (map f) next ∙ map-append f (take i xs) (x ∷ []) in
       subst (All (λ y. ¬ (P y))) (sym both) (All-push (λ y. ¬ (P y)) (map f (take i xs)) (f x) none fails)
 
-  -- the image of a member has P
-  some_has : (xs : List A) (i : ℕ) (x : A) → i < length xs → x ≡ get_or xs i x → P (f x) → SomeHas xs
-  some_has xs i x below is p =
-      let same : get_or (map f xs) i (f x) ≡ f x = get_or-map f xs i x (f x) below ∙ ap f (sym is) in
-      let there : Contains (map f xs) (get_or (map f xs) i (f x)) = Contains-get_or (map f xs) i (f x) (rw length-map below) in
-      (f x, subst (Contains (map f xs)) same there, p)
-
   -- no image of all members has P
   none_has : (xs : List A) (i : ℕ) → length xs ≤ i → NoneBefore xs i → ¬ (SomeHas xs)
   none_has xs i past none some =
@@ -56,17 +49,7 @@ module _ {X : Type 0} (token : X → ℕ) (g : Grammar) (table : Table) (lexemes
   abbrev pub plain_of : Vec (RepairStep S) A → List PlainStep
   plain_of v = plain_steps index v.items
 
-  -- the sequence at place n was tested, and works
-  pub some_works : (n : ℕ) (x : Vec (RepairStep S) A) (steps : List (RepairStep S)) (from : List ℕ) (works : Bool)
-      → n < length answer → x ≡ get_or answer n x → from ≡ st → steps ≡ x.items
-      → IsTrue works ↔ Works token g table lexemes k from i (plain_steps index steps) → works ≡ true → SomeHas plain_of WorksHere answer
-  some_works n x steps from works below is same items tested e =
-      let yes : IsTrue works = subst (λ (b : Bool). IsTrue b) (sym e) refl in
-      let here = subst (λ (l : List (RepairStep S)). Works token g table lexemes k from i (plain_steps index l)) items (tested.0 yes) in
-      let there = subst (λ (l : List ℕ). Works token g table lexemes k l i (plain_steps index x.items)) same here in
-      some_has plain_of WorksHere answer n x below is there
-
-  -- or it doesn't work, like those before it
+  -- the sequence at place n was tested and doesn't work, like those before it
   pub none_works : (n : ℕ) (x : Vec (RepairStep S) A) (steps : List (RepairStep S)) (from : List ℕ) (works : Bool)
       → n < length answer → x ≡ get_or answer n x → from ≡ st → steps ≡ x.items
       → IsTrue works ↔ Works token g table lexemes k from i (plain_steps index steps) → works ≡ false

@@ -34,6 +34,7 @@ pub fn from_yacc<StorageT: StorageIndex>(
     // `TooManyStates` and `StorageTooSmall`: there are too many item sets; `AcceptReduceConflict`: one calls for accept and a reduction.
     ensures refused { IfErr result (IsBuildRefusal grm.now max_states StorageT.limit) }
 {
+    // The proof needs that the grammar is well-formed.
     let _start = grm.start_prod();
     from_yacc_with(alloc, grm, &Precedences::none(alloc), max_states)
 }
@@ -63,6 +64,7 @@ pub fn from_yacc_with<StorageT: StorageIndex>(
     // As for `from_yacc`.
     ensures refused { IfErr result (IsBuildRefusal grm.now max_states StorageT.limit) }
 {
+    // The proof needs that the grammar is well-formed.
     let _start = grm.start_prod();
     let states = states(alloc, grm, max_states)?;
     tables(alloc, grm, precedences, states)

@@ -44,6 +44,7 @@ pub(crate) fn tables<StorageT: StorageIndex>(
     ensures len { IfOk result (HaveStates (length states.items)) }
     ensures refused { IfErr result (IsFaultOf StorageT.index grm.now states.items) }
 {
+    // The proof needs that the grammar is well-formed.
     let _start = grm.start_prod();
     graph_and_table(alloc, grm, precedences, states)
 }

@@ -41,11 +41,6 @@ all_more P xs i x so_far below is here = All-more P xs i x below so_far (subst P
 pub all_tested : {X : Type 0} (P : X → Type 0) (xs : List X) (i : ℕ) → All P (take i xs) → length xs ≤ i → IsTrue true ↔ All P xs
 all_tested P xs i so_far end = (λ h. subst (All P) (take_all i xs end) so_far, λ all. refl)
 
--- if it fails of one, it doesn't hold of all
-pub all_refused : {X : Type 0} (P : X → Type 0) (xs : List X) (i : ℕ) (x : X) → i < length xs → x ≡ slice_index_or xs i x → ¬ (P x)
-    → IsTrue false ↔ All P xs
-all_refused P xs i x below is fails = (λ h. absurd cc, λ all. absurd (fails (subst P (sym is) (all i x below))))
-
 -- if each call of the closure tests P, `all` tests whether P holds of all elements, or of all images
 module _ {S A B F : Type 0} {steps : S → Option A → S → Type 0} {v : A → B} {g : Mut F (A × Unit {0}) Bool} {s : S} {all : List B} where
   pub all_by_test : (P : B → Type 0) (u : S) (f : F) (r : Bool)

@@ -141,6 +141,7 @@ fn mark_after<StorageT: StorageIndex>(
     ensures same { OnFalse result (marks.new ≡ marks.old) }
     ensures closed { OnFalse result (MarksOn grm.now marks.new (StorageT.index pidx.0)) }
 {
+    // The proof needs that the grammar is well-formed.
     let _start = grm.start_prod();
     let rule = grm.prod_to_rule(pidx);
     if !marks[usize::from(rule)] {

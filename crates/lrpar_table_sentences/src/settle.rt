@@ -24,6 +24,7 @@ pub(crate) fn settled<StorageT: StorageIndex>(
 ) -> Result<Vec<Option<Choice<StorageT>>>, AllocError>
     ensures { IfOk result (λ choices. AreSettled StorageT.index grm.now choices.items) }
 {
+    // The proof needs that the grammar is well-formed.
     let _start = grm.start_prod();
     let mut choices = nothing_kept(alloc, grm.rules_len())?;
     'levels: while let Some(len) = least_open(grm, &choices) {

@@ -28,6 +28,7 @@ pub(crate) fn settled_accesses<StorageT: StorageIndex>(
     requires shortest { AreShortest grm.now usize.MAX shortest.now }
     ensures { IfOk result (λ accesses. AreAccesses StorageT.index grm.now sgraph.now stable.now accesses.items) }
 {
+    // The proof needs that the grammar is well-formed and that the table is closed.
     let _start = grm.start_prod();
     let _states = stable.states_len();
     let edges = edges(alloc, stable, shortest)?;
