@@ -76,9 +76,9 @@ pub record AreExamplesFor (g : Grammar) (graph : Graph) (table : Table) (most : 
   pub each : EachReachableHasTree g
 
 -- a refusal names the first rule that is reachable and not productive
-abbrev pub IsExampleFault : {S : Type 0} → (S → ℕ) → Grammar → ExampleFault S → Type 0
-IsExampleFault index g (Unproductive r) = IsFirstUnproductive g (index r.0)
-IsExampleFault index g Memory = Unit {0}
+abbrev pub IsFault : {S : Type 0} → (S → ℕ) → Grammar → ExampleFault S → Type 0
+IsFault index g (Unproductive r) = IsFirstUnproductive g (index r.0)
+IsFault index g Memory = Unit {0}
 
 -- the steps of an access path of state s, and moves of trees of its symbols
 pub record IsFront (g : Grammar) (graph : Graph) (s : ℕ) (steps : List StepOf) (moves : List MoveOf) : Type 0 where

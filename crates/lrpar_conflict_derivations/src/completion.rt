@@ -1,5 +1,5 @@
 //! How a derivation is completed from an item: up to the item that waits for its rule, and so on up to the start.
-ghost use Rattle.std.specs.Prelude.{◌≡◌, ◌≢◌, ◌<◌, IfOk, OnOk};
+ghost use Rattle.std.specs.Prelude.{◌≢◌, ◌<◌, IfOk, OnOk};
 ghost use Rattle.lrpar_grammar.specs.Grammar.{IsWellFormed, prods_len, start_prod};
 ghost use Rattle.lrpar_table_first.specs.FirstRows.{rows_of};
 ghost use Rattle.lrpar_table_sentences.specs.Choices.{AreShortest};

@@ -8,7 +8,7 @@ ghost use Rattle.lrpar_table_sentences.specs.Choices.{AreShortest};
 ghost use Rattle.lrpar_table_sentences.specs.Reachable.{EachReachableHasTree};
 ghost use Rattle.lrpar_conflict_derivations.specs.Completion.{CanComplete};
 ghost use Rattle.lrpar_conflict_derivations.specs.Conflict.{IsConflict, IsExampleOf, IsReduceReduceExample, IsShiftReduceExample, conflict_of};
-ghost use Rattle.lrpar_conflict_derivations.specs.Example.{AreExamplesFor, IsExampleFault};
+ghost use Rattle.lrpar_conflict_derivations.specs.Example.{AreExamplesFor, IsFault};
 ghost use Rattle.lrpar_conflict_derivations.specs.Stored.{FindsExampleOf, GoesOnBy, IsCalledFor, IsFrontTo, IsStateOf};
 
 use crate::context::Context;
@@ -87,7 +87,7 @@ impl<StorageT: StorageIndex> Examples<StorageT> {
     ) -> Result<Self, ExampleFault<StorageT>>
         requires built { IsBuilt grm.now sgraph.now stable.now }
         ensures made { IfOk result (AreExamplesFor grm.now sgraph.now stable.now usize.MAX) }
-        ensures refused { IfErr result (IsExampleFault StorageT.index grm.now) }
+        ensures refused { IfErr result (IsFault StorageT.index grm.now) }
     {
         let firsts = first_sets(alloc, grm)?;
         let shortest = productive(alloc, grm)?;
@@ -313,7 +313,7 @@ fn productive<StorageT: StorageIndex>(
 ) -> Result<Shortest<StorageT>, ExampleFault<StorageT>>
     ensures shortest { IfOk result (AreShortest grm.now usize.MAX) }
     ensures each { IfOk result (λ _. EachReachableHasTree grm.now) }
-    ensures refused { IfErr result (IsExampleFault StorageT.index grm.now) }
+    ensures refused { IfErr result (IsFault StorageT.index grm.now) }
 {
     let shortest = Shortest::new(alloc, grm)?;
     match shortest.unproductive(alloc, grm)? {

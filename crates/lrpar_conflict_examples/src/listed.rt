@@ -1,7 +1,7 @@
 //! Counterexamples of all conflicts of a table.
 ghost use Rattle.std.specs.Prelude.{IfErr, IfOk};
 ghost use Rattle.lrpar_table_build.specs.Built.{IsBuilt};
-ghost use Rattle.lrpar_conflict_derivations.specs.Example.{IsExampleFault};
+ghost use Rattle.lrpar_conflict_derivations.specs.Example.{IsFault};
 ghost use Rattle.lrpar_conflict_examples.specs.Conflicts.{AreAllListed, HasExamples, HasExamplesOf, IsCounterexample, IsReady, Lists, ListsOne, unmet_of};
 ghost use Rattle.lrpar_conflict_examples.specs.ExamplesFit.{AllFit};
 
@@ -31,7 +31,7 @@ pub fn conflict_examples<StorageT: StorageIndex>(
     requires built { IsBuilt grm.now sgraph.now stable.now }
     ensures examples { IfOk result (HasExamplesOf grm.now sgraph.now stable.now bound) }
     ensures fit { IfOk result (AllFit grm.now) }
-    ensures refused { IfErr result (IsExampleFault StorageT.index grm.now) }
+    ensures refused { IfErr result (IsFault StorageT.index grm.now) }
 {
     let Some(_) = stable.conflicts() else {
         return Ok(Vec::new(alloc));
@@ -85,7 +85,7 @@ pub(crate) fn examples_of<StorageT: StorageIndex>(
     requires listed { Lists StorageT.index stable.now conflicts.now }
     ensures examples { IfOk result (HasExamples StorageT.index grm.now sgraph.now bound conflicts.now) }
     ensures fit { IfOk result (AllFit grm.now) }
-    ensures refused { IfErr result (IsExampleFault StorageT.index grm.now) }
+    ensures refused { IfErr result (IsFault StorageT.index grm.now) }
 {
     let shared = Examples::new(alloc, grm, sgraph, stable)?;
     let examples = each_example(alloc, grm, sgraph, stable, &shared, conflicts, bound)?;

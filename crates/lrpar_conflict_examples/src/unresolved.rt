@@ -2,7 +2,7 @@
 ghost use Rattle.std.specs.Prelude.{◌≡◌, IfErr, IfOk};
 ghost use Rattle.lrpar_table_build.specs.Built.{IsBuilt};
 ghost use Rattle.lrpar_table_sentences.specs.Reachable.{is_marked};
-ghost use Rattle.lrpar_conflict_derivations.specs.Example.{IsExampleFault};
+ghost use Rattle.lrpar_conflict_derivations.specs.Example.{IsFault};
 ghost use Rattle.lrpar_conflict_examples.specs.Conflicts.{unmet_of};
 ghost use Rattle.lrpar_conflict_examples.specs.ExamplesFit.{LeftFit};
 ghost use Rattle.lrpar_conflict_examples.specs.Met.{AreConflictsLeft, ArePartedBy, is_left};
@@ -69,7 +69,7 @@ pub fn conflict_examples_with<StorageT: StorageIndex>(
     requires built { IsBuilt grm.now sgraph.now stable.now }
     ensures left { IfOk result (AreConflictsLeft StorageT.index grm.now precedences.now sgraph.now stable.now bound) }
     ensures fit { IfOk result (LeftFit grm.now) }
-    ensures refused { IfErr result (IsExampleFault StorageT.index grm.now) }
+    ensures refused { IfErr result (IsFault StorageT.index grm.now) }
 {
     let marks = met_states(alloc, precedences, stable)?;
     let (met, unmet) = parted(alloc, precedences, stable, &marks)?;

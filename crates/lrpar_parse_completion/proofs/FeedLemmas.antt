@@ -4,7 +4,7 @@ use Rattle.std.proofs.Common.{◌≡◌, ◌<◌, ◌≤◌, ◌+◌, ◌-◌, �
 use Rattle.std.specs.Prelude.{map, replicate}
 use Rattle.std.specs.Option.{option_map, option_map_or}
 use Rattle.std.proofs.lemmas.List.Elements.{All-get_or}
-use Rattle.std.proofs.lemmas.List.{drop_more, drop_all, map-append, take_all}
+use Rattle.std.proofs.lemmas.List.{drop_more, drop_all, length-map, map-append, take_all}
 use Rattle.std.proofs.lemmas.Option.{get_or_from_slice_get, slice_get-get_or, slice_get-map, slice_get_within}
 use Rattle.lrpar_grammar_places.specs.declared.span.StIdx.{StIdx}
 use Rattle.lrpar_grammar_places.specs.declared.span.TIdx.{TIdx}
@@ -152,6 +152,16 @@ pub stacks_pushed : {S A : Type 0} (index : S → ℕ) (stacks after : List (Vec
 stacks_pushed {S} {A} index stacks after stack states is same =
     ap (stacks_of index) is ∙ map-append (λ (v : Vec (StIdx S) A). states_of index v.items) stacks (stack ∷ [])
     ∙ ap (λ (st : List ℕ). stacks_of index stacks ++ st ∷ []) same
+
+-- the token in its place was fed, or couldn't be, as was tested
+pub fed_at : {S : Type 0} {answer fed : Bool} (index : S → ℕ) (g : Grammar) (table : Table) (tokens : List (TIdx S)) (i : ℕ) (token : TIdx S)
+    (now next : List ℕ) → (i < length tokens) × (get_or (tokens_of index tokens) i 0 ≡ index token.0) → IsInserted g table (index token.0) now next answer
+    → answer ≡ fed → (i < length (tokens_of index tokens)) × IsInserted g table (get_or (tokens_of index tokens) i 0) now next fed
+fed_at {S} {answer} {fed} index g table tokens i token now next there inserted is =
+    let here = subst (λ (t : ℕ). IsInserted g table t now next answer) (sym there.1) inserted in (
+      omega (arith, there.0, length-map tokens (λ (t : TIdx S). index t.0)),
+      subst (IsInserted g table (get_or (tokens_of index tokens) i 0) now next) is here,
+    )
 
 -- a token of the code in its place among the first ones
 pub token_front : {S : Type 0} (index : S → ℕ) (tokens tried : List (TIdx S)) (n i : ℕ) (token : TIdx S) → tried ≡ take n tokens → i < length tried

@@ -1,7 +1,7 @@
 -- The search for the nearest place: the stacks after the first tokens, the places that were tried, and the steps of a repair.
-use Rattle.std.proofs.Common.{◌≡◌, ◌<◌, ◌≤◌, ◌+◌, ◌∙◌, ◌⊎◌, inl, inr, refl, sym, ap, subst, arith, ℕ, zero, suc, true, false, List, [], ◌∷◌, ◌++◌, All, length, drop, take, get_or, slice_get, Option, Some, None, length-append}
-use Rattle.std.specs.Prelude.{map, replicate}
-use Rattle.std.proofs.lemmas.Bool.{cases_eq, cases_lt}
+use Rattle.std.proofs.Common.{◌≡◌, ◌<◌, ◌≤◌, ◌+◌, ◌∙◌, ◌⊎◌, ◌↔◌, inl, inr, refl, sym, ap, subst, arith, ℕ, zero, suc, Bool, true, false, List, [], ◌∷◌, ◌++◌, All, length, drop, take, get_or, slice_get, Option, Some, None, length-append}
+use Rattle.std.specs.Prelude.{IsTrue, map, replicate}
+use Rattle.std.proofs.lemmas.Bool.{cases_eq, cases_lt, false≢true}
 use Rattle.std.proofs.lemmas.List.{append-nil, append_assoc, map-append, take_more}
 use Rattle.std.proofs.lemmas.List.Elements.{All-append, All-cons, All-get_or, All-nil}
 use Rattle.std.proofs.lemmas.Option.{get_or_from_slice_get, slice_get_within}
@@ -93,10 +93,11 @@ module _ (g : Grammar) (table : Table) (st tokens : List ℕ) where
       now_stack = stack;
     }
 
-    -- it can't be fed
-    pub trying_stops : (most : ℕ) (next : List ℕ) → i < length tokens → i ≤ most → IsInserted g table (get_or tokens i 0) now next false
+    -- these are the stacks, if no more tokens that are tried can be fed
+    tried_here : (most : ℕ) → i ≤ most → i ≤ length tokens
+        → ((m : ℕ) (after : List ℕ) → m ≤ length tokens → m ≤ most → FeedsAll g table st (take m tokens) after → m ≤ i)
         → AreTried g table st most tokens (stacks ++ now ∷ [])
-    trying_stops most next inside low none =
+    tried_here most low inside none =
         let many = trying.many in
         let count : length (stacks ++ now ∷ []) ≡ i + 1 = omega (arith, many, length-append stacks (now ∷ [])) in
         record {
@@ -104,30 +105,28 @@ module _ (g : Grammar) (table : Table) (st tokens : List ℕ) where
           few = omega (arith, count, low);
           some = omega (arith, count, inside);
           fed = all_fed;
-          all = λ m after some few fed.
-              elim (cases_lt i m) as (λ _. m < length (stacks ++ now ∷ [])) [
-                | inl past ↦ absurd (not_fed_past i now next inside trying.now_fed none m after past fed)
-                | inr within ↦ omega (arith, count, within)
-              ];
+          all = λ m after some few fed. let within = none m after some few fed in omega (arith, count, within);
         }
+
+    -- the next token can't be fed
+    pub trying_stops : (most : ℕ) (next : List ℕ) → i < length tokens → i ≤ most → IsInserted g table (get_or tokens i 0) now next false
+        → AreTried g table st most tokens (stacks ++ now ∷ [])
+    trying_stops most next inside low none =
+        tried_here most low (omega (arith, inside)) (λ m after some few fed.
+        elim (cases_lt i m) as (λ _. m ≤ i) [
+          | inl past ↦ absurd (not_fed_past i now next inside trying.now_fed none m after past fed)
+          | inr within ↦ within
+        ])
 
     -- all tokens that are tried were fed
     pub trying_ends : (most : ℕ) → i ≤ most → i ≤ length tokens → (most ≤ i) ⊎ (length tokens ≤ i)
         → AreTried g table st most tokens (stacks ++ now ∷ [])
     trying_ends most low inside end =
-        let many = trying.many in
-        let count : length (stacks ++ now ∷ []) ≡ i + 1 = omega (arith, many, length-append stacks (now ∷ [])) in
-        record {
-          are = all_stacks;
-          few = omega (arith, count, low);
-          some = omega (arith, count, inside);
-          fed = all_fed;
-          all = λ m after some few fed.
-              elim end as (λ _. m < length (stacks ++ now ∷ [])) [
-                | inl top ↦ omega (arith, count, few, top)
-                | inr last ↦ omega (arith, count, some, last)
-              ];
-        }
+        tried_here most low inside (λ m after some few fed.
+        elim end as (λ _. m ≤ i) [
+          | inl top ↦ omega (arith, few, top)
+          | inr last ↦ omega (arith, some, last)
+        ])
 
 module _ {X : Type 0} (token : X → ℕ) (at : Asked X) (tokens : List ℕ) where
   abbrev g : Grammar
@@ -149,7 +148,7 @@ module _ {X : Type 0} (token : X → ℕ) (at : Asked X) (tokens : List ℕ) whe
   pub goes_by_stack : (j m : ℕ) (after : List ℕ) → Fed m after → CanFrom after j → Goes j m
   goes_by_stack j m after fed can = (after, fed, can)
 
-  pub goes_not_by_stack : (j m : ℕ) (after : List ℕ) → Fed m after → ¬ (CanFrom after j) → ¬ (Goes j m)
+  goes_not_by_stack : (j m : ℕ) (after : List ℕ) → Fed m after → ¬ (CanFrom after j) → ¬ (Goes j m)
   goes_not_by_stack j m after fed can_not on =
       can_not (subst (λ (l : List ℕ). CanFrom l j) (feeds_all_one_way g table at.stack (take m tokens) on.0 after on.1 fed) on.2)
 
@@ -157,12 +156,18 @@ module _ {X : Type 0} (token : X → ℕ) (at : Asked X) (tokens : List ℕ) whe
   abbrev pub NotBefore : ℕ → ℕ → Type 0
   NotBefore j i = (n : ℕ) → n < i → ¬ (Goes j n)
 
-  pub not_before_more : (j i : ℕ) → NotBefore j i → ¬ (Goes j i) → NotBefore j (i + 1)
+  not_before_more : (j i : ℕ) → NotBefore j i → ¬ (Goes j i) → NotBefore j (i + 1)
   not_before_more j i before here n low on =
       elim (cases_eq n i) [
         | inl same ↦ here (subst (λ (k : ℕ). Goes j k) same on)
         | inr other ↦ before n (omega (arith, low, other)) on
       ]
+
+  -- nor can it after i, as was tested
+  pub not_here_more : {answer : Bool} (j i : ℕ) (after : List ℕ) → Fed i after → IsTrue answer ↔ CanFrom after j → answer ≡ false → NotBefore j i
+      → NotBefore j (i + 1)
+  not_here_more j i after fed tested is before =
+      not_before_more j i before (goes_not_by_stack j i after fed (λ can. absurd (false≢true (sym is ∙ tested.1 can))))
 
   -- it can after i
   pub fewest_here : (j i : ℕ) (after : List ℕ) → i ≤ length tokens → Fed i after → CanFrom after j → NotBefore j i → IsFewest token at tokens j i

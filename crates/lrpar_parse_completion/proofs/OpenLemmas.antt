@@ -25,8 +25,9 @@ use Rattle.lrpar_table_sentences.specs.Texts.{AreShortestTrees, HaveTrees}
 use Rattle.lrpar_table_sentences.proofs.AfterLemmas.{have_trees, prod_reached}
 use Rattle.lrpar_table_stacks.specs.Stack.{IsStack, states_of}
 use Rattle.lrpar_parse_completion.specs.Completing.{IsCompletion, IsTail, IsTailOfRule, Opened}
-use Rattle.lrpar_parse_completion.specs.Opening.{ArePushed, CanComplete, IsKernelCore, IsOpenedBy, IsWalkedTo}
+use Rattle.lrpar_parse_completion.specs.Opening.{ArePushed, CanComplete, IsBegun, IsKernelCore, IsOpenedBy, IsWalkedTo}
 use Rattle.lrpar_parse_completion.specs.Waiting.{AreLinks, AreWaiting, IsOwnCore, LinkOf, rules_in}
+use Rattle.lrpar_parse_completion.proofs.CompletesLemmas.{length_at}
 use Rattle.lrpar_parse_completion.proofs.DownLemmas.{Down, down, low_in, start_tail, walked_to}
 use Rattle.lrpar_parse_completion.proofs.WaitingLemmas.{core_reached, kernel_or_start, links_have_trees, take_get, waited_for}
 
@@ -61,7 +62,7 @@ module _ (g : Grammar) (well : IsWellFormed g) (own : ℕ → ℕ → Type 0) (l
 
   module _ (n : ℕ) (x : LinkOf) (at : slice_get links n ≡ Some x) where
     -- an item with a symbol before its dot, or of the start production, is the state's own
-    pub own_link : (0 < x.dot) ⊎ (x.prod ≡ start_prod g) → own x.prod x.dot
+    own_link : (0 < x.dot) ⊎ (x.prod ≡ start_prod g) → own x.prod x.dot
     own_link begun =
         elim (are n x at).from as (λ _. own x.prod x.dot) [
           | inl mine ↦ mine
@@ -73,7 +74,7 @@ module _ (g : Grammar) (well : IsWellFormed g) (own : ℕ → ℕ → Type 0) (l
         ]
 
     -- another one begins a production of an earlier rule
-    pub later_link : ((p k : ℕ) → own p k → (0 < k) ⊎ (p ≡ start_prod g)) → (((0 < x.dot) ⊎ (x.prod ≡ start_prod g)) → ⊥)
+    later_link : ((p k : ℕ) → own p k → (0 < k) ⊎ (p ≡ start_prod g)) → (((0 < x.dot) ⊎ (x.prod ≡ start_prod g)) → ⊥)
         → (x.dot ≡ 0) × Contains (rules_in (take n links)) (rule_of g x.prod)
     later_link begun other =
         elim (are n x at).from as (λ _. (x.dot ≡ 0) × Contains (rules_in (take n links)) (rule_of g x.prod)) [
@@ -82,7 +83,7 @@ module _ (g : Grammar) (well : IsWellFormed g) (own : ℕ → ℕ → Type 0) (l
         ]
 
 -- a core of the state's own has a symbol before its dot, or is of the start production
-pub own_begun : (g : Grammar) (graph : Graph) (table : Table) (s p k : ℕ) → IsOwnCore g graph table s p k → (0 < k) ⊎ (p ≡ start_prod g)
+own_begun : (g : Grammar) (graph : Graph) (table : Table) (s p k : ℕ) → IsOwnCore g graph table s p k → (0 < k) ⊎ (p ≡ start_prod g)
 own_begun g graph table s p k own = elim own as (λ _. (0 < k) ⊎ (p ≡ start_prod g)) [ inl kernel ↦ inl kernel.1 | inr start ↦ inr start.1 ]
 
 -- the rest of symbols of the code
@@ -97,6 +98,11 @@ pub state_at : {S : Type 0} (index : S → ℕ) (stack : List (StIdx S)) (i : �
 state_at {S} index stack i s low is =
     slice_get-map (λ (x : StIdx S). index x.0) stack i
     ∙ ap (option_map (λ (x : StIdx S). index x.0)) (slice_get-get_or stack i s low ∙ ap (λ (x : StIdx S). Some x) (sym is))
+
+-- the one below some symbols
+pub base_at : {S : Type 0} (index : S → ℕ) (stack : List (StIdx S)) (place dot : ℕ) (s : StIdx S) → place < length (states_of index stack)
+    → s ≡ get_or stack (place - dot) s → slice_get (states_of index stack) (place - dot) ≡ Some (index s.0)
+base_at index stack place dot s low is = state_at index stack (place - dot) s (omega (arith, low, length-map stack (λ x. index x.0))) is
 
 -- a core that `begun_cores` returns is that of a kernel item
 pub begun_is : {S : Type 0} (index : S → ℕ) (graph : Graph) (s : ℕ) (cores : List (PIdx S × ℕ)) (i : ℕ) (core : PIdx S × ℕ)
@@ -138,7 +144,7 @@ module _ (g : Grammar) (graph : Graph) (table : Table) where
         (record { prod = q; dot = j; more = w; trees = pushed.0; tail = rest; waits = waits; rest = shortest; after = after; all = refl }))
 
     -- it is one of the state's own
-    pub climbs_out : (state : ℕ) → q < prods_len g → j ≤ prod_len g q → IsOwnCore g graph table state q j
+    climbs_out : (state : ℕ) → q < prods_len g → j ≤ prod_len g q → IsOwnCore g graph table state q j
         → IsOpenedBy g graph table state r old new q j
     climbs_out state known dot own = record {
       own = own;
@@ -150,7 +156,7 @@ module _ (g : Grammar) (graph : Graph) (table : Table) where
     }
 
     -- or it is opened itself
-    pub climbs_on : q < prods_len g → j ≡ 0 → Climbs r (rule_of g q) old new
+    climbs_on : q < prods_len g → j ≡ 0 → Climbs r (rule_of g q) old new
     climbs_on known first = record {
       pushed = climbs.pushed ++ forest_leaves pushed.0;
       more = all_pushed;
@@ -159,6 +165,32 @@ module _ (g : Grammar) (graph : Graph) (table : Table) where
           let whole = subst (λ (ts : List ℕ). IsTail g table st q 0 ts) (sym h.all) opened in
           waiting_tail st rest (subst (λ (n : ℕ). IsTail g table st q n rest) (sym first) whole);
     }
+
+-- at a link of state s whose rule is the wanted one, on the way from rule r; what comes after its rule was appended
+module _ (d : Checked) (checked : IsChecked d) (s r wanted : ℕ) (links : List LinkOf) (are : AreLinks d.grammar (IsOwnCore d.grammar d.graph d.table s) links)
+    (n : ℕ) (x : LinkOf) (at : slice_get links n ≡ Some x) (is : x.rule ≡ wanted) (old mid new : List ℕ)
+    (climbs : Climbs d.grammar d.graph d.table r wanted old mid) (pushed : ArePushed d.grammar (drop (x.dot + 1) (symbols_of d.grammar x.prod)) mid new) where
+  climbs_here : Climbs d.grammar d.graph d.table r x.rule old mid
+  climbs_here = subst (λ (t : ℕ). Climbs d.grammar d.graph d.table r t old mid) (sym is) climbs
+
+  -- its item is one of the state's own
+  pub opens_here : IsBegun d.grammar x.prod x.dot → IsOpenedBy d.grammar d.graph d.table s r old new x.prod x.dot
+  opens_here begun =
+      let link = are n x at in
+      let long = length_at (symbols_of d.grammar x.prod) x.dot (Nonterminal x.rule) link.rest link.waits in
+      climbs_out d.grammar d.graph d.table r x.rule x.prod x.dot link.rest old mid new link.waits climbs_here pushed s link.known (omega (arith, long))
+      (own_link d.grammar checked.well_formed (IsOwnCore d.grammar d.graph d.table s) links are n x at begun)
+
+  -- or the item's production is opened itself, by an earlier link
+  pub climbs_past : (IsBegun d.grammar x.prod x.dot → ⊥)
+      → Climbs d.grammar d.graph d.table r (rule_of d.grammar x.prod) old new × Contains (rules_in (take n links)) (rule_of d.grammar x.prod)
+  climbs_past other =
+      let link = are n x at in
+      let later =
+      later_link d.grammar checked.well_formed (IsOwnCore d.grammar d.graph d.table s) links are n x at (own_begun d.grammar d.graph d.table s) other in (
+        climbs_on d.grammar d.graph d.table r x.rule x.prod x.dot link.rest old mid new link.waits climbs_here pushed link.known later.0,
+        later.1,
+      )
 
 -- no stack is empty
 pub no_stack : (table : Table) (st : List ℕ) → length st ≡ 0 → IsStack table st → ⊥

@@ -28,8 +28,7 @@ pub(crate) fn push_states(
         if let Ok(storaget) = u32::try_from(number) {
             write!(out, "{number}:")?;
             push_kernel(out, grm, sgraph, StIdx(storaget))?;
-            push_gotos(out, grm, stable, StIdx(storaget))?;
-            push_shifts(out, grm, stable, StIdx(storaget))?;
+            push_targets(out, grm, stable, StIdx(storaget))?;
         }
     }
     Ok(())
@@ -125,8 +124,8 @@ fn push_token(
     push_quoted(out, grm.token_name(token).unwrap_or("$"))
 }
 
-// Adds the gotos of a state.
-fn push_gotos(
+// Adds the states to which the gotos of a state lead, and then those to which its shifts do.
+fn push_targets(
     out: &mut String,
     grm: &YaccGrammar<u32>,
     stable: &StateTable<u32>,
@@ -136,35 +135,26 @@ fn push_gotos(
 {
     let (rules, states) = stable.gotos_of(state);
     for (rule, next) in rules.iter().zip(states) {
-        out.push_str("    ")?;
-        push_rule(out, grm, *rule)?;
-        push_next(out, *next)?;
+        push_target(out, grm, Symbol::Rule(*rule), *next)?;
     }
-    Ok(())
-}
-
-// Adds the shifts of a state.
-fn push_shifts(
-    out: &mut String,
-    grm: &YaccGrammar<u32>,
-    stable: &StateTable<u32>,
-    state: StIdx<u32>,
-) -> Result<(), AllocError>
-    requires { state.0 < states_len stable.now }
-{
     let (tokens, actions) = stable.actions_of(state);
     for (token, action) in tokens.iter().zip(actions) {
         if let Action::Shift(next) = action {
-            out.push_str("    ")?;
-            push_token(out, grm, *token)?;
-            push_next(out, *next)?;
+            push_target(out, grm, Symbol::Token(*token), *next)?;
         }
     }
     Ok(())
 }
 
-// Adds the state to which a goto or a shift leads.
-fn push_next(out: &mut String, next: StIdx<u32>) -> Result<(), AllocError> {
+// Adds the line of a goto or a shift: its symbol, and the state to which it leads.
+fn push_target(
+    out: &mut String,
+    grm: &YaccGrammar<u32>,
+    symbol: Symbol<u32>,
+    next: StIdx<u32>,
+) -> Result<(), AllocError> {
+    out.push_str("    ")?;
+    push_symbol(out, grm, symbol)?;
     let number = usize::from(next);
     writeln!(out, " -> {number}")
 }

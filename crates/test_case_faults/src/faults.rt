@@ -1,13 +1,16 @@
 //! Cases of faults that are shown where they are in a text.
+ghost use Rattle.lrpar_grammar.specs.SpansFit.{IsPartOf};
+
 use lrpar::build::parser_data;
 use lrpar::diagnostics::{
     DiagnosticError, DiagnosticFault, DiagnosticFormatter, SpannedDiagnosticFormatter,
 };
-use lrpar::grammar::{GrammarFault, YaccGrammar};
-use lrpar::{LexParseError, ParserData, RTParserBuilder};
-use lrpar_lexer::{LexRule, RuleLexer, RulesFault, TokenTypes, rules_of};
-use lrpar_report::{placed_error, placed_grammar_fault, placed_rules_fault};
+use lrpar::grammar::YaccGrammar;
+use lrpar::{ParserData, RTParserBuilder};
+use lrpar_lexer::{LexRule, RuleLexer, rules_of};
+use lrpar_report::{PlacedFault, placed_error, placed_grammar_fault, placed_rules_fault};
 use std::alloc::Global;
+use std::error::Error;
 use test_case_lines::cases::Case;
 use test_case_lines::fault::Fault;
 use test_case_lines::printed::Printed;
@@ -20,7 +23,10 @@ pub fn outcome(out: &mut Printed, alloc: Global, case: Case<'_, '_>) -> Result<(
     let text = case.text(alloc, "grammar")?;
     match YaccGrammar::<u32>::new_with_storaget(alloc, text.as_str()) {
         Ok(grm) => by_rules(out, alloc, case, grm),
-        Err(fault) => push_grammar_fault(out, alloc, case, text.as_str(), fault),
+        Err(fault) => {
+            let text = over(case, text.as_str());
+            push_placed(out, alloc, text, placed_grammar_fault(alloc, text, fault)?)
+        }
     }
 }
 
@@ -34,7 +40,15 @@ fn by_rules(
     let text = case.text(alloc, "rules")?;
     match rules_of(alloc, &grm, text.as_str()) {
         Ok(rules) => by_input(out, alloc, case, grm, &rules),
-        Err(fault) => push_rules_fault(out, alloc, case, &grm, text.as_str(), fault),
+        Err(fault) => {
+            let text = over(case, text.as_str());
+            push_placed(
+                out,
+                alloc,
+                text,
+                placed_rules_fault(alloc, &grm, text, fault)?,
+            )
+        }
     }
 }
 
@@ -66,8 +80,9 @@ fn push_errors(
     let Ok(errors) = RTParserBuilder::new(data).parse_noaction(alloc, &lexer) else {
         return Err(Fault::Line(case.number, "a parse is wanted"));
     };
+    let text = over(case, text);
     for error in errors {
-        push_error(out, alloc, case, data, text, error)?;
+        push_placed(out, alloc, text, placed_error(alloc, data, text, error)?)?;
     }
     Ok(())
 }
@@ -80,48 +95,15 @@ fn over<'a>(case: Case<'_, 'a>, own: &'a str) -> &'a str {
     }
 }
 
-// Adds the fault of a grammar.
-fn push_grammar_fault(
+// Adds a fault at its place in the text.
+fn push_placed<E: Error>(
     out: &mut Printed,
     alloc: Global,
-    case: Case<'_, '_>,
-    own: &str,
-    fault: GrammarFault,
-) -> Result<(), Fault> {
-    let text = over(case, own);
-    let placed = placed_grammar_fault(alloc, text, fault)?;
-    let formatter = SpannedDiagnosticFormatter::new(alloc, text, "")?;
-    push_shown(out, &formatter.format_error(alloc, placed));
-    Ok(())
-}
-
-// Adds the fault of the rules of a lexer.
-fn push_rules_fault(
-    out: &mut Printed,
-    alloc: Global,
-    case: Case<'_, '_>,
-    grm: &YaccGrammar<u32>,
-    own: &str,
-    fault: RulesFault,
-) -> Result<(), Fault> {
-    let text = over(case, own);
-    let placed = placed_rules_fault(alloc, grm, text, fault)?;
-    let formatter = SpannedDiagnosticFormatter::new(alloc, text, "")?;
-    push_shown(out, &formatter.format_error(alloc, placed));
-    Ok(())
-}
-
-// Adds an error of an input.
-fn push_error(
-    out: &mut Printed,
-    alloc: Global,
-    case: Case<'_, '_>,
-    data: &ParserData<u32>,
-    own: &str,
-    error: LexParseError<u32, TokenTypes>,
-) -> Result<(), Fault> {
-    let text = over(case, own);
-    let placed = placed_error(alloc, data, text, error)?;
+    text: &str,
+    placed: PlacedFault<E>,
+) -> Result<(), Fault>
+    requires { IsPartOf text.now placed.place }
+{
     let formatter = SpannedDiagnosticFormatter::new(alloc, text, "")?;
     push_shown(out, &formatter.format_error(alloc, placed));
     Ok(())

@@ -60,7 +60,15 @@ pub fn outcome(out: &mut Printed, alloc: Global, case: Case<'_, '_>) -> Result<(
     let text = case.text(alloc, "text")?;
     let spans = spans_of(alloc, case)?;
     match SpannedDiagnosticFormatter::new(alloc, text.as_str(), case.value_or_nothing("path")) {
-        Ok(formatter) => push_shown(out, alloc, case, text.as_str(), &formatter, &spans),
+        Ok(formatter) => {
+            let places = Places {
+                case,
+                text: text.as_str(),
+                formatter: &formatter,
+                spans: &spans,
+            };
+            places.push_shown(out, alloc)
+        }
         Err(_) => Err(Fault::Memory),
     }
 }
@@ -76,38 +84,152 @@ fn spans_of(alloc: Global, case: Case<'_, '_>) -> Result<Vec<Span>, Fault> {
     Ok(spans)
 }
 
-// The same, by what it asks.
-fn push_shown(
-    out: &mut Printed,
-    alloc: Global,
-    case: Case<'_, '_>,
-    text: &str,
-    formatter: &SpannedDiagnosticFormatter<'_>,
-    spans: &[Span],
-) -> Result<(), Fault>
-    requires { (formatter.now).text ≡ text.now }
-{
-    match case.value_or_nothing("show") {
-        "ordinal" => push_ordinal(out, alloc, case),
-        "lines" => {
-            push_lines(out, text, formatter);
-            Ok(())
+/// The places of a case in its text, and the formatter over that text.
+#[derive(Clone, Copy)]
+struct Places<'a, 'k, 'c, 'f> {
+    case: Case<'k, 'c>,
+    text: &'a str,
+    formatter: &'a SpannedDiagnosticFormatter<'f>,
+    spans: &'a [Span],
+}
+
+impl<'a, 'k, 'c, 'f> Places<'a, 'k, 'c, 'f> {
+    // What the case asks for.
+    fn push_shown(&self, out: &mut Printed, alloc: Global) -> Result<(), Fault>
+        requires { (self.now.formatter.now).text ≡ self.now.text.now }
+    {
+        match self.case.value_or_nothing("show") {
+            "ordinal" => push_ordinal(out, alloc, self.case),
+            "lines" => {
+                self.push_lines(out);
+                Ok(())
+            }
+            "location" => self.push_location(out, alloc),
+            "block" => self.push_block(out, alloc),
+            "row" => self.push_row(out, alloc),
+            "follow" => {
+                let follow = self.formatter.spans_follow(self.spans);
+                out.field("follow", if follow { "yes" } else { "no" });
+                Ok(())
+            }
+            "error" => self.push_error(out, alloc),
+            "warning" => self.push_warning(out, alloc),
+            "memory" => {
+                out.line("fault ", &DiagnosticFault::Memory);
+                Ok(())
+            }
+            _ => Err(self.fault("what is shown isn't known")),
         }
-        "location" => push_location(out, alloc, case, formatter, spans),
-        "block" => push_block(out, alloc, case, text, formatter, spans),
-        "row" => push_row(out, alloc, case, formatter, spans),
-        "follow" => {
-            let follow = formatter.spans_follow(spans);
-            out.field("follow", if follow { "yes" } else { "no" });
-            Ok(())
+    }
+
+    // The fault of the case's line.
+    fn fault(&self, wanted: &'static str) -> Fault {
+        Fault::Line(self.case.number, wanted)
+    }
+
+    // The number of the last line.
+    fn push_lines(&self, out: &mut Printed) {
+        if let Some(line) = self.formatter.nlc().byte_to_line_num(self.text.len()) {
+            out.line("lines ", &line);
         }
-        "error" => push_error(out, alloc, case, text, formatter, spans),
-        "warning" => push_warning(out, alloc, case, text, formatter, spans),
-        "memory" => {
-            out.line("fault ", &DiagnosticFault::Memory);
-            Ok(())
+    }
+
+    // The line and the column of the first place.
+    fn push_location(&self, out: &mut Printed, alloc: Global) -> Result<(), Fault> {
+        let message = self.case.value_or_nothing("message");
+        let first = self.spans.first().copied();
+        let location = self.formatter.file_location_msg(alloc, message, first)?;
+        out.field("location", location.as_str());
+        Ok(())
+    }
+
+    // The first place, underlined.
+    fn push_block(&self, out: &mut Printed, alloc: Global) -> Result<(), Fault>
+        requires { (self.now.formatter.now).text ≡ self.now.text.now }
+    {
+        let message = self.case.text(alloc, "message")?;
+        let prefix = self.case.value_or_nothing("prefix");
+        let sign = self.sign();
+        match self.spans.first() {
+            Some(span) if is_part(self.text, *span) => {
+                let block = if prefix.is_empty() || prefix.len() > 3 {
+                    self.formatter
+                        .underline_span_with_text(alloc, *span, message, sign)?
+                } else {
+                    self.formatter
+                        .prefixed_underline_span_with_text(alloc, prefix, *span, message, sign)?
+                };
+                out.field("block", block.as_str());
+                Ok(())
+            }
+            _ => Err(self.fault("a place in the text is wanted")),
         }
-        _ => Err(Fault::Line(case.number, "what is shown isn't known")),
+    }
+
+    // All places on one line, underlined.
+    fn push_row(&self, out: &mut Printed, alloc: Global) -> Result<(), Fault> {
+        if !self.formatter.spans_follow(self.spans) {
+            return Err(self.fault("places in order are wanted"));
+        }
+        let message = self.case.text(alloc, "message")?;
+        let row = self
+            .formatter
+            .underline_spans_on_line_with_text(alloc, self.spans, message, self.sign())?;
+        out.field("row", row.as_str());
+        Ok(())
+    }
+
+    // The places as those of an error.
+    fn push_error(&self, out: &mut Printed, alloc: Global) -> Result<(), Fault>
+        requires { (self.now.formatter.now).text ≡ self.now.text.now }
+    {
+        if !are_parts(self.text, self.spans) {
+            return Err(self.fault("places in the text are wanted"));
+        }
+        match self.formatter.format_error(alloc, self.notice(alloc)?) {
+            Ok(error) => push_error_text(out, alloc, &error),
+            Err(fault) => push_fault(out, fault),
+        }
+        Ok(())
+    }
+
+    // The places as those of a warning.
+    fn push_warning(&self, out: &mut Printed, alloc: Global) -> Result<(), Fault>
+        requires { (self.now.formatter.now).text ≡ self.now.text.now }
+    {
+        if !are_parts(self.text, self.spans) {
+            return Err(self.fault("places in the text are wanted"));
+        }
+        match self.formatter.format_warning(alloc, self.notice(alloc)?) {
+            Ok(warning) => out.field("warning", warning.as_str()),
+            Err(fault) => push_fault(out, fault),
+        }
+        Ok(())
+    }
+
+    // The message about the places, of the kind that the case names.
+    fn notice(&self, alloc: Global) -> Result<Notice<'c>, Fault>
+        ensures { IfOk result (λ notice. notice.spans.items ≡ self.now.spans.now) }
+    {
+        let kind = match self.case.value_or_nothing("kind") {
+            "error" => SpansKind::Error,
+            "duplicates" => SpansKind::DuplicationError,
+            _ => SpansKind::Other,
+        };
+        Ok(Notice {
+            spans: Vec::from_slice(alloc, self.spans)?,
+            kind,
+            message: self.case.value_or_nothing("message"),
+        })
+    }
+
+    // The character that underlines.
+    fn sign(&self) -> char {
+        self.case
+            .value_or_nothing("sign")
+            .chars()
+            .next()
+            .unwrap_or('^')
     }
 }
 
@@ -115,98 +237,6 @@ fn push_shown(
 fn push_ordinal(out: &mut Printed, alloc: Global, case: Case<'_, '_>) -> Result<(), Fault> {
     let ordinal = SpannedDiagnosticFormatter::ordinal(alloc, number_at(case, "number", 0)?)?;
     out.field("ordinal", ordinal.as_str());
-    Ok(())
-}
-
-// The number of the last line.
-fn push_lines(out: &mut Printed, text: &str, formatter: &SpannedDiagnosticFormatter<'_>) {
-    if let Some(line) = formatter.nlc().byte_to_line_num(text.len()) {
-        out.line("lines ", &line);
-    }
-}
-
-// The line and the column of the first place.
-fn push_location(
-    out: &mut Printed,
-    alloc: Global,
-    case: Case<'_, '_>,
-    formatter: &SpannedDiagnosticFormatter<'_>,
-    spans: &[Span],
-) -> Result<(), Fault> {
-    let message = case.value_or_nothing("message");
-    let location = formatter.file_location_msg(alloc, message, spans.first().copied())?;
-    out.field("location", location.as_str());
-    Ok(())
-}
-
-// The first place, underlined.
-fn push_block(
-    out: &mut Printed,
-    alloc: Global,
-    case: Case<'_, '_>,
-    text: &str,
-    formatter: &SpannedDiagnosticFormatter<'_>,
-    spans: &[Span],
-) -> Result<(), Fault>
-    requires { (formatter.now).text ≡ text.now }
-{
-    let message = case.text(alloc, "message")?;
-    let prefix = case.value_or_nothing("prefix");
-    match spans.first() {
-        Some(span) if is_part(text, *span) => {
-            let block = if prefix.is_empty() || prefix.len() > 3 {
-                formatter.underline_span_with_text(alloc, *span, message, sign_of(case))?
-            } else {
-                formatter.prefixed_underline_span_with_text(
-                    alloc,
-                    prefix,
-                    *span,
-                    message,
-                    sign_of(case),
-                )?
-            };
-            out.field("block", block.as_str());
-            Ok(())
-        }
-        _ => Err(Fault::Line(case.number, "a place in the text is wanted")),
-    }
-}
-
-// All places on one line, underlined.
-fn push_row(
-    out: &mut Printed,
-    alloc: Global,
-    case: Case<'_, '_>,
-    formatter: &SpannedDiagnosticFormatter<'_>,
-    spans: &[Span],
-) -> Result<(), Fault> {
-    if !formatter.spans_follow(spans) {
-        return Err(Fault::Line(case.number, "places in order are wanted"));
-    }
-    let message = case.text(alloc, "message")?;
-    let row = formatter.underline_spans_on_line_with_text(alloc, spans, message, sign_of(case))?;
-    out.field("row", row.as_str());
-    Ok(())
-}
-
-// The places as those of an error.
-fn push_error(
-    out: &mut Printed,
-    alloc: Global,
-    case: Case<'_, '_>,
-    text: &str,
-    formatter: &SpannedDiagnosticFormatter<'_>,
-    spans: &[Span],
-) -> Result<(), Fault>
-    requires { (formatter.now).text ≡ text.now }
-{
-    if !are_parts(text, spans) {
-        return Err(Fault::Line(case.number, "places in the text are wanted"));
-    }
-    match formatter.format_error(alloc, notice_of(alloc, case, spans)?) {
-        Ok(error) => push_error_text(out, alloc, &error),
-        Err(fault) => push_fault(out, fault),
-    }
     Ok(())
 }
 
@@ -221,54 +251,12 @@ fn push_error_text(out: &mut Printed, alloc: Global, error: &DiagnosticError) {
     }
 }
 
-// The places as those of a warning.
-fn push_warning(
-    out: &mut Printed,
-    alloc: Global,
-    case: Case<'_, '_>,
-    text: &str,
-    formatter: &SpannedDiagnosticFormatter<'_>,
-    spans: &[Span],
-) -> Result<(), Fault>
-    requires { (formatter.now).text ≡ text.now }
-{
-    if !are_parts(text, spans) {
-        return Err(Fault::Line(case.number, "places in the text are wanted"));
-    }
-    match formatter.format_warning(alloc, notice_of(alloc, case, spans)?) {
-        Ok(warning) => out.field("warning", warning.as_str()),
-        Err(fault) => push_fault(out, fault),
-    }
-    Ok(())
-}
-
 // The fault.
 fn push_fault(out: &mut Printed, fault: DiagnosticFault) {
     match fault {
         DiagnosticFault::SeveralSpans => out.line("fault ", &fault),
         DiagnosticFault::Memory => out.lack_memory(),
     }
-}
-
-// The message about the places, of the kind that the case names.
-fn notice_of<'a>(alloc: Global, case: Case<'_, 'a>, spans: &[Span]) -> Result<Notice<'a>, Fault>
-    ensures { IfOk result (λ notice. notice.spans.items ≡ spans.now) }
-{
-    let kind = match case.value_or_nothing("kind") {
-        "error" => SpansKind::Error,
-        "duplicates" => SpansKind::DuplicationError,
-        _ => SpansKind::Other,
-    };
-    Ok(Notice {
-        spans: Vec::from_slice(alloc, spans)?,
-        kind,
-        message: case.value_or_nothing("message"),
-    })
-}
-
-// The character that underlines.
-fn sign_of(case: Case<'_, '_>) -> char {
-    case.value_or_nothing("sign").chars().next().unwrap_or('^')
 }
 
 // Whether the place starts and ends between two characters of the text.

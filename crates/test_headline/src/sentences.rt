@@ -1,5 +1,5 @@
 //! Over a complete table every sentence has one tree only, and a parse returns it.
-ghost use Rattle.std.specs.Prelude.{◌≡◌, ◌↔◌, ℕ, IfOk, IsTrue, OnOk};
+ghost use Rattle.std.specs.Prelude.{◌↔◌, ℕ, IfOk, IsTrue, OnOk};
 ghost use Rattle.lrpar_parse_run.specs.Folds.{Folds};
 ghost use Rattle.lrpar_parse_run.specs.Nodes.{IsNonterm, IsTerm};
 ghost use Rattle.lrpar_parse_lexemes.specs.Views.{token_by};

@@ -1,5 +1,5 @@
 -- Differences, over `Expr: Expr '-' Term | Term; Term: 'INT';`.
-use Rattle.std.specs.Prelude.{◌≡◌, ◌+◌, ℕ, List, [], ◌∷◌}
+use Rattle.std.specs.Prelude.{◌≡◌, ◌+◌, ℕ, List, ◌∷◌}
 use Rattle.lrpar_parse_run.specs.declared.values.AStackType.{AStackType}
 use Rattle.lrpar_parse_run.specs.declared.values.AStackType.TheVariants.{ActionType, Lexeme}
 

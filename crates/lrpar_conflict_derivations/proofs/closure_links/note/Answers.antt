@@ -1,4 +1,4 @@
-use Rattle.std.proofs.Common.{false, length, map}
+use Rattle.std.proofs.Common.{length, map}
 use Rattle.lrpar_grammar.specs.Grammar.{rules_len, tokens_len}
 use Rattle.lrpar_grammar.specs.Symbols.{symbol_of}
 use Rattle.lrpar_table_first.specs.FirstRows.{rows_of}

@@ -7,7 +7,7 @@ use Rattle.lrpar_table_stacks.specs.Expected.{tokens_of}
 use Rattle.lrpar_table_sentences.specs.Texts.{HaveTrees}
 use Rattle.lrpar_table_stacks.specs.Stack.{states_of}
 use Rattle.lrpar_parse_completion.specs.Opening.{ArePushed}
-use Rattle.lrpar_parse_completion.proofs.OpenLemmas.{completing_base, completing_deep, completing_done, completing_first, completing_next, core_trees, no_stack, rest_of, stack_walked, state_at, state_known}
+use Rattle.lrpar_parse_completion.proofs.OpenLemmas.{base_at, completing_base, completing_deep, completing_done, completing_first, completing_next, core_trees, no_stack, rest_of, stack_walked, state_at, state_known}
 use Rattle.lrpar_parse_completion.proofs.completer.Completer.completion.Goals as goal
 
 pub returns-then-is_empty : goal.returns-then-is_empty
@@ -105,33 +105,27 @@ pub returns-then-not-has_state-2 : goal.returns-then-not-has_state-2
 returns-then-not-has_state-2 g c =
     let index = g.StorageT.StorageIndex.index in
     let d = c.args.self.now.data.now in
-    let stack = c.args.stack.now in
-    let st = states_of index stack in
     let l = c.items in
     let base = c.index-stack-place-in-items.result in
-    let inside = l.invariant.within in
-    let n = l.place - l.dot in
-    let at = state_at index stack n base (omega (arith, inside, length-map stack (λ x. index x.0))) c.index-stack-place-in-items.is in
+    let at = base_at index c.args.stack.now l.place l.dot base l.invariant.within c.index-stack-place-in-items.is in
     λ can is.
-    let yes = c.has_state-in-items.ensures.1 (state_known d c.stable-table.ensures.checked st is n (index base.0) at) in
+    let known = state_known d c.stable-table.ensures.checked (states_of index c.args.stack.now) is (l.place - l.dot) (index base.0) at in
+    let yes = c.has_state-in-items.ensures.1 known in
     absurd (cc)
 
 pub returns-in_default : goal.returns-in_default
 returns-in_default g c =
     let index = g.StorageT.StorageIndex.index in
     let d = c.args.self.now.data.now in
-    let stack = c.args.stack.now in
-    let st = states_of index stack in
+    let st = states_of index c.args.stack.now in
     let l = c.items in
     let p = index l.prod.0 in
     let base = c.index-stack-place-in-items.result in
-    let inside = l.invariant.within in
-    let n = l.place - l.dot in
-    let at = state_at index stack n base (omega (arith, inside, length-map stack (λ x. index x.0))) c.index-stack-place-in-items.is in
+    let at = base_at index c.args.stack.now l.place l.dot base l.invariant.within c.index-stack-place-in-items.is in
     let other : p ≢ start_prod d.grammar = λ is. c.items-test.true (c.from.ensures ∙ is ∙ sym (c.from-start.ensures ∙ rw c.grm.ensures at c.start_prod.ensures.number)) in
     λ can is.
     let core = completing_base d c.stable-table.ensures.checked st is l.place p l.dot (tokens_of index l.tokens.items) (l.invariant.completing can is) (index base.0) at in
-    let walked = stack_walked d c.stable-table.ensures.checked st is n (index base.0) at in
+    let walked = stack_walked d c.stable-table.ensures.checked st is (l.place - l.dot) (index base.0) at in
     let none = (rw c.in_default.is at c.in_ok-next.ensures.some) (record { can = can; walked = walked; core = core; other = other }) in
     absurd (cc)
 
@@ -139,23 +133,19 @@ pub items-preserved : goal.items-preserved
 items-preserved g c =
     let index = g.StorageT.StorageIndex.index in
     let d = c.args.self.now.data.now in
-    let stack = c.args.stack.now in
-    let st = states_of index stack in
     let l = c.items in
-    let p = index l.prod.0 in
     let base = c.index-stack-place-in-items.result in
-    let inside = l.invariant.within in
-    let n = l.place - l.dot in
-    let at = state_at index stack n base (omega (arith, inside, length-map stack (λ x. index x.0))) c.index-stack-place-in-items.is in
+    let at = base_at index c.args.stack.now l.place l.dot base l.invariant.within c.index-stack-place-in-items.is in
     let low = c.has_state-in-items.ensures.0 c.if-not-has_state-2.false in
     let opened = rw c.in-Some.is at c.in_ok-next.ensures.opened in
     record {
-      within = omega (arith, inside);
+      within = let inside = l.invariant.within in omega (arith, inside);
       known = opened.known;
       dot = opened.dot;
       completing = λ can is.
-          completing_next d c.stable-table.ensures.checked st is l.place p l.dot (tokens_of index l.tokens.items) (l.invariant.completing can is) can (index base.0)
-          (index c.in-Some.next.0) c.in-Some.at (tokens_of index c.opened.new.tokens.items) low at l.invariant.known opened;
+          completing_next d c.stable-table.ensures.checked (states_of index c.args.stack.now) is l.place (index l.prod.0) l.dot (tokens_of index l.tokens.items)
+          (l.invariant.completing can is) can (index base.0) (index c.in-Some.next.0) c.in-Some.at (tokens_of index c.opened.new.tokens.items) low at
+          l.invariant.known opened;
     }
 
 pub items-smaller : goal.items-smaller

@@ -1,12 +1,12 @@
-use Rattle.std.proofs.Common.{◌≡◌, ◌<◌, ◌≤◌, ◌+◌, ◌++◌, ◌∷◌, ◌-◌, ◌∙◌, ℕ, List, [], arith, length, refl, subst, sym, take}
+use Rattle.std.proofs.Common.{◌≡◌, ◌<◌, ◌+◌, ◌++◌, ◌∷◌, ◌-◌, ◌∙◌, ℕ, List, [], arith, length, refl, subst, sym, take}
 use Rattle.std.specs.List.{Contains}
 use Rattle.std.proofs.lemmas.List.{length-map, take_all}
 use Rattle.lrpar_grammar.specs.Grammar.{Nonterminal, prod_len, rule_of, symbols_of}
 use Rattle.lrpar_table_stacks.specs.Expected.{tokens_of}
-use Rattle.lrpar_parse_completion.specs.Waiting.{IsOwnCore, LinkOf, link_of, links_of, rules_in}
+use Rattle.lrpar_parse_completion.specs.Waiting.{LinkOf, link_of, links_of, rules_in}
 use Rattle.lrpar_parse_completion.proofs.CompletesLemmas.{length_at}
 use Rattle.lrpar_parse_completion.proofs.FoundLemmas.{link_before}
-use Rattle.lrpar_parse_completion.proofs.OpenLemmas.{Climbs, climbs_none, climbs_on, climbs_out, later_link, link_trees, links_to, none_listed, not_last, opened_waits, own_begun, own_link}
+use Rattle.lrpar_parse_completion.proofs.OpenLemmas.{Climbs, climbs_none, climbs_past, link_trees, links_to, none_listed, not_last, opened_waits, opens_here}
 use Rattle.lrpar_parse_completion.proofs.completer.Completer.opened.Goals as goal
 
 pub links-init : goal.links-init
@@ -40,30 +40,21 @@ index-link-requires g c =
 pub push_after-requires-clause-prod : goal.push_after-requires-clause-prod
 push_after-requires-clause-prod g c =
     let index = g.StorageT.StorageIndex.index in
-    let d = c.args.self.now.data.now in
-    let found = c.in_ok-links.links in
-    let within = c.links.invariant.within in
     let link = c.index-link.result.now in
-    let n = c.links.place - 1 in
-    let at = link_before index found.items c.links.place link c.links-test.true within c.index-link.ensures in
-    rw c.grm-grm.ensures (c.in_ok-links.ensures.each n (link_of index link) at).known
+    let at = link_before index c.in_ok-links.links.items c.links.place link c.links-test.true c.links.invariant.within c.index-link.ensures in
+    rw c.grm-grm.ensures (c.in_ok-links.ensures.each (c.links.place - 1) (link_of index link) at).known
 
 pub returns-then-not-branch : goal.returns-then-not-branch
 returns-then-not-branch g c =
     let index = g.StorageT.StorageIndex.index in
     let d = c.args.self.now.data.now in
-    let grm = d.grammar in
-    let s = index c.args.state.0 in
-    let found = c.in_ok-links.links in
-    let within = c.links.invariant.within in
     let link = c.index-link.result.now in
-    let n = c.links.place - 1 in
-    let at = link_before index found.items c.links.place link c.links-test.true within c.index-link.ensures in
-    let q = index link.prod.0 in
+    let at = link_before index c.in_ok-links.links.items c.links.place link c.links-test.true c.links.invariant.within c.index-link.ensures in
     record {
       opened = tt;
       some = λ must.
-          let trees = link_trees d c.stable-table.ensures.checked must.can s (links_of index found.items) c.requires.state must.walked c.in_ok-links.ensures n (link_of index link) at in
+          let trees = link_trees d c.stable-table.ensures.checked must.can (index c.args.state.0) (links_of index c.in_ok-links.links.items) c.requires.state
+          must.walked c.in_ok-links.ensures (c.links.place - 1) (link_of index link) at in
           let some = (rw c.grm-grm.ensures at c.in_ok-push_after.ensures.some) trees in
           absurd (cc);
     }
@@ -72,30 +63,16 @@ pub returns-then-is_kernel : goal.returns-then-is_kernel
 returns-then-is_kernel g c =
     let index = g.StorageT.StorageIndex.index in
     let d = c.args.self.now.data.now in
-    let grm = d.grammar in
-    let s = index c.args.state.0 in
-    let p = index c.args.prod.0 in
-    let found = c.in_ok-links.links in
-    let links = links_of index found.items in
     let l = c.links in
-    let within = l.invariant.within in
     let link = c.index-link.result.now in
-    let n = l.place - 1 in
-    let at = link_before index found.items c.links.place link c.links-test.true within c.index-link.ensures in
-    let is = c.in_ok-links.ensures.each n (link_of index link) at in
-    let q = index link.prod.0 in
-    let j = link.dot in
-    let old = tokens_of index c.args.tokens.now.items in
-    let mid = tokens_of index l.tokens.items in
-    let new = tokens_of index c.push_after.new.tokens.items in
-    let pushed = (rw c.grm-grm.ensures at c.in_ok-push_after.ensures.pushed) (cc) in
+    let at = link_before index c.in_ok-links.links.items l.place link c.links-test.true l.invariant.within c.index-link.ensures in
     let wanted : index link.rule.0 ≡ index l.wanted.0 = sym c.from.ensures ∙ c.if-from.false ∙ c.from-in-links.ensures in
-    let climbs = subst (λ (r : ℕ). Climbs grm d.graph d.table (rule_of grm p) r old mid) (sym wanted) l.invariant.climbs in
-    let own = own_link grm c.stable-table.ensures.checked.well_formed (IsOwnCore grm d.graph d.table s) links c.in_ok-links.ensures.each n (link_of index link) at
-    (c.is_kernel.ensures.0 c.if-is_kernel.true) in
-    let dot : j ≤ prod_len grm q = omega (arith, length_at (symbols_of grm q) j (Nonterminal (index link.rule.0)) is.rest is.waits) in
+    let pushed = (rw c.grm-grm.ensures at c.in_ok-push_after.ensures.pushed) (cc) in
     record {
-      opened = climbs_out grm d.graph d.table (rule_of grm p) (index link.rule.0) q j is.rest old mid new is.waits climbs pushed s is.known dot own;
+      opened = opens_here d c.stable-table.ensures.checked (index c.args.state.0) (rule_of d.grammar (index c.args.prod.0)) (index l.wanted.0)
+          (links_of index c.in_ok-links.links.items) c.in_ok-links.ensures.each (l.place - 1) (link_of index link) at wanted
+          (tokens_of index c.args.tokens.now.items) (tokens_of index l.tokens.items) (tokens_of index c.push_after.new.tokens.items)
+          l.invariant.climbs pushed (c.is_kernel.ensures.0 c.if-is_kernel.true);
       some = λ must. refl;
     }
 
@@ -103,33 +80,22 @@ pub links-preserved : goal.links-preserved
 links-preserved g c =
     let index = g.StorageT.StorageIndex.index in
     let d = c.args.self.now.data.now in
-    let grm = d.grammar in
-    let s = index c.args.state.0 in
-    let p = index c.args.prod.0 in
-    let found = c.in_ok-links.links in
-    let links = links_of index found.items in
     let l = c.links in
-    let within = l.invariant.within in
     let link = c.index-link.result.now in
-    let n = l.place - 1 in
-    let at = link_before index found.items c.links.place link c.links-test.true within c.index-link.ensures in
-    let is = c.in_ok-links.ensures.each n (link_of index link) at in
-    let q = index link.prod.0 in
-    let j = link.dot in
-    let old = tokens_of index c.args.tokens.now.items in
-    let mid = tokens_of index l.tokens.items in
-    let new = tokens_of index c.push_after.new.tokens.items in
-    let pushed = (rw c.grm-grm.ensures at c.in_ok-push_after.ensures.pushed) (cc) in
+    let at = link_before index c.in_ok-links.links.items l.place link c.links-test.true l.invariant.within c.index-link.ensures in
     let wanted : index link.rule.0 ≡ index l.wanted.0 = sym c.from.ensures ∙ c.if-from.false ∙ c.from-in-links.ensures in
-    let climbs = subst (λ (r : ℕ). Climbs grm d.graph d.table (rule_of grm p) r old mid) (sym wanted) l.invariant.climbs in
-    let later = later_link grm c.stable-table.ensures.checked.well_formed (IsOwnCore grm d.graph d.table s) links c.in_ok-links.ensures.each n (link_of index link) at
-    (own_begun grm d.graph d.table s) (λ begun. let yes = c.is_kernel.ensures.1 begun in absurd (cc)) in
-    let next : index c.prod_to_rule-wanted-in-links.result.0 ≡ rule_of grm q = rw c.grm-grm.ensures at c.prod_to_rule-wanted-in-links.ensures.rule in
+    let past = climbs_past d c.stable-table.ensures.checked (index c.args.state.0) (rule_of d.grammar (index c.args.prod.0)) (index l.wanted.0)
+    (links_of index c.in_ok-links.links.items) c.in_ok-links.ensures.each (l.place - 1) (link_of index link) at wanted
+    (tokens_of index c.args.tokens.now.items) (tokens_of index l.tokens.items) (tokens_of index c.push_after.new.tokens.items)
+    l.invariant.climbs ((rw c.grm-grm.ensures at c.in_ok-push_after.ensures.pushed) (cc)) (λ begun. let yes = c.is_kernel.ensures.1 begun in absurd (cc)) in
+    let next : index c.prod_to_rule-wanted-in-links.result.0 ≡ rule_of d.grammar (index link.prod.0) =
+    rw c.grm-grm.ensures at c.prod_to_rule-wanted-in-links.ensures.rule in
     record {
-      within = omega (arith, within);
-      climbs = subst (λ (r : ℕ). Climbs grm d.graph d.table (rule_of grm p) r old new) (sym next)
-          (climbs_on grm d.graph d.table (rule_of grm p) (index link.rule.0) q j is.rest old mid new is.waits climbs pushed is.known later.0);
-      listed = λ must. subst (Contains (rules_in (take n links))) (sym next) later.1;
+      within = let within = l.invariant.within in omega (arith, within);
+      climbs = subst
+          (λ (r : ℕ). Climbs d.grammar d.graph d.table (rule_of d.grammar (index c.args.prod.0)) r (tokens_of index c.args.tokens.now.items)
+          (tokens_of index c.push_after.new.tokens.items)) (sym next) past.0;
+      listed = λ must. subst (Contains (rules_in (take (l.place - 1) (links_of index c.in_ok-links.links.items)))) (sym next) past.1;
     }
 
 pub links-preserved-then-from : goal.links-preserved-then-from
@@ -167,13 +133,9 @@ returns g c =
 pub prod_to_rule-wanted-requires-in-links : goal.prod_to_rule-wanted-requires-in-links
 prod_to_rule-wanted-requires-in-links g c =
     let index = g.StorageT.StorageIndex.index in
-    let d = c.args.self.now.data.now in
-    let found = c.in_ok-links.links in
-    let within = c.links.invariant.within in
     let link = c.index-link.result.now in
-    let n = c.links.place - 1 in
-    let at = link_before index found.items c.links.place link c.links-test.true within c.index-link.ensures in
-    rw c.grm-grm.ensures (c.in_ok-links.ensures.each n (link_of index link) at).known
+    let at = link_before index c.in_ok-links.links.items c.links.place link c.links-test.true c.links.invariant.within c.index-link.ensures in
+    rw c.grm-grm.ensures (c.in_ok-links.ensures.each (c.links.place - 1) (link_of index link) at).known
 
 pub push_after-requires-clause-shortest : goal.push_after-requires-clause-shortest
 push_after-requires-clause-shortest g c = rw c.grm-grm.ensures c.requires.shortest
@@ -181,14 +143,10 @@ push_after-requires-clause-shortest g c = rw c.grm-grm.ensures c.requires.shorte
 pub push_after-requires-clause-dot : goal.push_after-requires-clause-dot
 push_after-requires-clause-dot g c =
     let index = g.StorageT.StorageIndex.index in
-    let d = c.args.self.now.data.now in
-    let grm = d.grammar in
-    let found = c.in_ok-links.links in
-    let within = c.links.invariant.within in
+    let grm = c.args.self.now.data.now.grammar in
     let link = c.index-link.result.now in
-    let n = c.links.place - 1 in
-    let at = link_before index found.items c.links.place link c.links-test.true within c.index-link.ensures in
-    let is = c.in_ok-links.ensures.each n (link_of index link) at in
+    let at = link_before index c.in_ok-links.links.items c.links.place link c.links-test.true c.links.invariant.within c.index-link.ensures in
+    let is = c.in_ok-links.ensures.each (c.links.place - 1) (link_of index link) at in
     let q = index link.prod.0 in
     let dot : link.dot < prod_len grm q = omega (arith, length_at (symbols_of grm q) link.dot (Nonterminal (index link.rule.0)) is.rest is.waits) in
     rw c.grm-grm.ensures dot

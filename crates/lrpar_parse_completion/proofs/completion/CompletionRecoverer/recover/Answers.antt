@@ -5,45 +5,36 @@ use Rattle.lrpar_table_stacks.specs.Expected.{tokens_of}
 use Rattle.lrpar_table_stacks.specs.Stack.{states_of}
 use Rattle.lrpar_parse_lexemes.specs.Views.{token_by}
 use Rattle.lrpar_parse_repair.specs.PlainSteps.{plain_sequences}
-use Rattle.lrpar_parse_completion.specs.Answer.{Completer, IsReady}
+use Rattle.lrpar_parse_completion.specs.Answer.{Completer}
 use Rattle.lrpar_parse_completion.specs.Nearest.{IsNearest}
-use Rattle.lrpar_parse_completion.proofs.AnswerLemmas.{completed_none, completed_some, completion_there, goes_on_last, never_none}
+use Rattle.lrpar_parse_completion.proofs.AnswerLemmas.{found_nearest, no_completion, no_nearest}
 use Rattle.lrpar_parse_completion.proofs.completion.CompletionRecoverer.recover.Goals as goal
 
 pub returns-in_default : goal.returns-in_default
 returns-in_default g c =
     let index = g.StorageT.StorageIndex.index in
     let token = token_by index g.LexemeT.Lexeme.parts in
-    let own = c.args.self.now in
-    let at = c.args.point.now in
-    let inside = c.self.inside in
-    let stop = c.stack.ensures.stop in
-    let st = states_of index c.stack.result.now in
-    let ready = subst (λ (o : Completer). IsReady MAX o.checked inside.shortest) c.self.view_is c.self.invariant in
     let same = ap (λ (o : Completer). o.checked) c.self.view_is in
+    let st = states_of index c.stack.result.now in
     let says = rw c.in_default.is at c.in_ok-tokens.ensures in
-    let never = never_none token own MAX inside.shortest ready at stop inside.data.now st same c.stack.ensures.stack says in
-    record { allowed = rw c.new-answer.ensures.items (completed_none token own MAX inside.shortest ready at stop never) }
+    let none =
+    no_completion token c.args.self.now MAX c.self.inside.shortest c.self.inside.data.now c.self.invariant same c.args.point.now c.stack.ensures.stop st c.stack.ensures.stack
+    says in
+    record { allowed = rw c.new-answer.ensures.items none }
 
 pub returns-in_default-2 : goal.returns-in_default-2
 returns-in_default-2 g c =
     let index = g.StorageT.StorageIndex.index in
     let token = token_by index g.LexemeT.Lexeme.parts in
-    let own = c.args.self.now in
-    let at = c.args.point.now in
-    let inside = c.self.inside in
-    let stop = c.stack.ensures.stop in
-    let st = states_of index c.stack.result.now in
-    let ready = subst (λ (o : Completer). IsReady MAX o.checked inside.shortest) c.self.view_is c.self.invariant in
     let same = ap (λ (o : Completer). o.checked) c.self.view_is in
+    let st = states_of index c.stack.result.now in
     let tokens = tokens_of index c.in-Some.tokens.items in
     let says = rw c.in-Some.is at c.in_ok-tokens.ensures in
-    let completion = completion_there token own MAX inside.shortest ready at stop inside.data.now st same c.stack.ensures.stack tokens says in
-    let none = rw (c.in_default-2.is, c.deref.ensures.value) at c.in_ok-repair.ensures in
-    record {
-      allowed = rw c.new-answer.ensures.items (completed_none token own MAX inside.shortest ready at stop
-          (λ is viable. none (length tokens) (omega arith) (goes_on_last token own MAX inside.shortest ready at stop is viable tokens (completion is viable))));
-    }
+    let never = rw (c.in_default-2.is, c.deref.ensures.value) at c.in_ok-repair.ensures in
+    let none =
+    no_nearest token c.args.self.now MAX c.self.inside.shortest c.self.inside.data.now c.self.invariant same c.args.point.now c.stack.ensures.stop st c.stack.ensures.stack
+    tokens says never in
+    record { allowed = rw c.new-answer.ensures.items none }
 
 pub steps-requires : goal.steps-requires
 steps-requires g c =
@@ -56,23 +47,19 @@ pub returns : goal.returns
 returns g c =
     let index = g.StorageT.StorageIndex.index in
     let token = token_by index g.LexemeT.Lexeme.parts in
-    let own = c.args.self.now in
-    let at = c.args.point.now in
-    let inside = c.self.inside in
-    let stop = c.stack.ensures.stop in
-    let st = states_of index c.stack.result.now in
-    let ready = subst (λ (o : Completer). IsReady MAX o.checked inside.shortest) c.self.view_is c.self.invariant in
     let same = ap (λ (o : Completer). o.checked) c.self.view_is in
+    let st = states_of index c.stack.result.now in
     let tokens = tokens_of index c.in-Some.tokens.items in
     let says = rw c.in-Some.is at c.in_ok-tokens.ensures in
-    let completion = completion_there token own MAX inside.shortest ready at stop inside.data.now st same c.stack.ensures.stack tokens says in
     let repair = c.in-Some-2.repair in
     let found = rw (c.in-Some-2.is, c.deref.ensures.value) at c.in_ok-repair.ensures in
-    let nearest = subst (λ (o : Completer). IsNearest token at o.most tokens repair.place repair.inserted) c.self.view_is found in
+    let nearest = subst (λ (o : Completer). IsNearest token c.args.point.now o.most tokens repair.place repair.inserted) c.self.view_is found in
     let made = rw c.deref.ensures.value at c.in_ok-steps.ensures in
     let one =
     ap (plain_sequences index) (c.in_ok-push.ensures.items ∙ ap (λ l. l ++ c.in_ok-steps.field-0 ∷ []) c.new-answer.ensures.items)
     ∙ ap (λ s. s ∷ []) made in
     record {
-      allowed = completed_some token own MAX inside.shortest ready at stop tokens repair.place repair.inserted (plain_sequences index c.push.new.self.items) nearest one completion;
+      allowed =
+          found_nearest token c.args.self.now MAX c.self.inside.shortest c.self.inside.data.now c.self.invariant same c.args.point.now c.stack.ensures.stop st c.stack.ensures.stack
+          tokens says repair.place repair.inserted (plain_sequences index c.push.new.self.items) nearest one;
     }

@@ -5,7 +5,7 @@ use Rattle.lrpar_table_stacks.specs.Stack.{states_of}
 use Rattle.lrpar_parse_lexemes.specs.Views.{token_by}
 use Rattle.lrpar_parse_completion.specs.Trying.{stacks_of}
 use Rattle.lrpar_parse_completion.proofs.FeedLemmas.{stack_at}
-use Rattle.lrpar_parse_completion.proofs.NearestLemmas.{NotBefore, fewest_here, goes_not_by_stack, none_goes_on, not_before_more, stack_tried}
+use Rattle.lrpar_parse_completion.proofs.NearestLemmas.{NotBefore, fewest_here, none_goes_on, not_here_more, stack_tried}
 use Rattle.lrpar_parse_completion.proofs.nearest.Search.first_going_on.Goals as goal
 
 pub loop-inserted-init : goal.loop-inserted-init
@@ -33,8 +33,7 @@ loop-inserted-preserved g c =
     let there = stack_at index stacks l.inserted stack c.loop-inserted-test.true c.index-stacks-inserted.is in
     let fed = c.requires.tried.fed l.inserted states there in
     let says = rw c.deref.ensures.value at c.in_ok-goes_on.ensures in
-    not_before_more token at tokens c.args.place l.inserted l.invariant
-    (goes_not_by_stack token at tokens c.args.place l.inserted states fed (λ can. let yes = says.1 can in absurd (cc)))
+    not_here_more token at tokens c.args.place l.inserted states fed says c.if-branch.false l.invariant
 
 pub returns-then-branch : goal.returns-then-branch
 returns-then-branch g c =

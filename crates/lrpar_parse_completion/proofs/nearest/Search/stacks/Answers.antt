@@ -1,10 +1,10 @@
-use Rattle.std.proofs.Common.{◌≡◌, ◌<◌, ◌≤◌, ◌+◌, ◌⊎◌, ◌∙◌, ℕ, Bool, ap, arith, false, inl, inr, length, min, refl, subst, sym, take, true}
+use Rattle.std.proofs.Common.{◌≡◌, ◌≤◌, ◌+◌, ◌⊎◌, ◌∙◌, ap, arith, inl, inr, length, min, refl, subst, sym, take}
 use Rattle.std.proofs.lemmas.Bool.{cases_lt}
 use Rattle.std.proofs.lemmas.List.{length-map, length-take}
 use Rattle.lrpar_table_stacks.specs.Expected.{tokens_of}
 use Rattle.lrpar_table_stacks.specs.Stack.{states_of}
-use Rattle.lrpar_parse_completion.specs.Trying.{AreTried, IsInserted, stacks_of}
-use Rattle.lrpar_parse_completion.proofs.FeedLemmas.{stacks_pushed, token_front}
+use Rattle.lrpar_parse_completion.specs.Trying.{AreTried, stacks_of}
+use Rattle.lrpar_parse_completion.proofs.FeedLemmas.{fed_at, stacks_pushed, token_front}
 use Rattle.lrpar_parse_completion.proofs.NearestLemmas.{Trying, trying_ends, trying_first, trying_more, trying_stops}
 use Rattle.lrpar_parse_completion.proofs.nearest.Search.stacks.Goals as goal
 
@@ -22,46 +22,38 @@ pub tokens-preserved : goal.tokens-preserved
 tokens-preserved g c =
     let index = g.StorageT.StorageIndex.index in
     let at = c.args.self.now.point.now in
-    let grm = at.checked.grammar in
-    let table = at.checked.table in
     let all = c.args.self.now.tokens.now in
-    let tokens = tokens_of index all in
     let l = c.tokens in
-    let token = c.token-item.result in
-    let i = l.token-index in
+    let t = c.token-item.result in
     let now = states_of index l.stack.items in
     let next = states_of index c.feed.new.stack.items in
-    let front = token_front index all (take c.min.result all) c.min.result i token refl c.tokens-test.true c.token-item.is in
-    let inside : i < length tokens = omega (arith, front.0, length-map all (λ t. index t.0)) in
+    let there = token_front index all (take c.min.result all) c.min.result l.token-index t refl c.tokens-test.true c.token-item.is in
+    let fed = fed_at index at.checked.grammar at.checked.table all l.token-index t now next there c.in_ok-feed.ensures.fed c.if-not-branch.false in
     let same = ap (states_of index) (c.in_ok-before.ensures.items ∙ c.deref.ensures.value) in
     let pushed = stacks_pushed index l.stacks.items c.push.new.self.items c.in_ok-before.before now c.in_ok-push.ensures.items same in
-    let fed = subst (λ (b : Bool). IsInserted grm table (index token.0) now next b) c.if-not-branch.false c.in_ok-feed.ensures.fed in
-    let inserted = subst (λ (t : ℕ). IsInserted grm table t now next true) (sym front.1) fed in
-    subst (λ xs. Trying grm table at.stack tokens xs next (i + 1)) (sym pushed)
-    (trying_more grm table at.stack tokens (stacks_of index l.stacks.items) now i l.invariant next inside inserted c.in_ok-feed.ensures.stack)
+    subst (λ xs. Trying at.checked.grammar at.checked.table at.stack (tokens_of index all) xs next (l.token-index + 1)) (sym pushed)
+    (trying_more at.checked.grammar at.checked.table at.stack (tokens_of index all) (stacks_of index l.stacks.items) now l.token-index l.invariant
+    next fed.0 fed.1 c.in_ok-feed.ensures.stack)
 
 pub returns-then-not-branch : goal.returns-then-not-branch
 returns-then-not-branch g c =
     let index = g.StorageT.StorageIndex.index in
     let at = c.args.self.now.point.now in
-    let grm = at.checked.grammar in
-    let table = at.checked.table in
-    let all = c.args.self.now.tokens.now in
-    let tokens = tokens_of index all in
+    let tokens = tokens_of index c.args.self.now.tokens.now in
+    let most = c.args.self.now.most in
     let l = c.tokens in
-    let token = c.token-item.result in
     let i = l.token-index in
+    let t = c.token-item.result in
+    let all = c.args.self.now.tokens.now in
+    let front = token_front index all (take c.min.result all) c.min.result i t refl c.tokens-test.true c.token-item.is in
+    let low : i ≤ most = omega (arith, c.tokens-test.true, length-take c.min.result all, c.min.ensures) in
     let now = states_of index l.stack.items in
-    let next = states_of index c.feed.new.stack.items in
-    let front = token_front index all (take c.min.result all) c.min.result i token refl c.tokens-test.true c.token-item.is in
-    let inside : i < length tokens = omega (arith, front.0, length-map all (λ t. index t.0)) in
-    let low : i ≤ c.args.self.now.most = omega (arith, c.tokens-test.true, length-take c.min.result all, c.min.ensures) in
     let same = ap (states_of index) (c.in_ok-before.ensures.items ∙ c.deref.ensures.value) in
     let pushed = stacks_pushed index l.stacks.items c.push.new.self.items c.in_ok-before.before now c.in_ok-push.ensures.items same in
-    let fed = subst (λ (b : Bool). IsInserted grm table (index token.0) now next b) c.if-not-branch.true c.in_ok-feed.ensures.fed in
-    let none = subst (λ (t : ℕ). IsInserted grm table t now next false) (sym front.1) fed in
-    subst (λ xs. AreTried grm table at.stack c.args.self.now.most tokens xs) (sym pushed)
-    (trying_stops grm table at.stack tokens (stacks_of index l.stacks.items) now i l.invariant c.args.self.now.most next inside low none)
+    let next = states_of index c.feed.new.stack.items in
+    let none = fed_at index at.checked.grammar at.checked.table all i t now next front c.in_ok-feed.ensures.fed c.if-not-branch.true in
+    subst (λ xs. AreTried at.checked.grammar at.checked.table at.stack most tokens xs) (sym pushed)
+    (trying_stops at.checked.grammar at.checked.table at.stack tokens (stacks_of index l.stacks.items) now i l.invariant most next none.0 low none.1)
 
 pub returns : goal.returns
 returns g c =
