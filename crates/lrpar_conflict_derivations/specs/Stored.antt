@@ -52,8 +52,8 @@ abbrev pub IsStateIn : {S : Type 0} → (S → ℕ) → Context S → StIdx S �
 IsStateIn index context state = IsStateOf index context.graph.now state
 
 -- the first of the states is one of the search's table
-abbrev pub HasFirst : {S : Type 0} → (S → ℕ) → Context S → StIdx S × StIdx S → Type 0
-HasFirst index context states = index states.0.0 < states_len context.table.now
+abbrev pub IsFirstIn : {S : Type 0} → (S → ℕ) → Context S → StIdx S × StIdx S → Type 0
+IsFirstIn index context states = index states.0.0 < states_len context.table.now
 
 -- the symbol is the token
 abbrev pub IsToken : {S : Type 0} → (S → ℕ) → Symbol S → TIdx S → Type 0
@@ -251,8 +251,8 @@ abbrev pub IsStepLink : {S : Type 0} → (S → ℕ) → Grammar → TIdx S → 
 IsStepLink index g token link = IsOwnStep g (index token.0) (link_of index link)
 
 -- the production's rule is reachable
-abbrev pub IsReached : {S : Type 0} → (S → ℕ) → Grammar → PIdx S → Type 0
-IsReached index g prod = IsReachableRule g (rule_of g (index prod.0))
+abbrev pub IsOfReached : {S : Type 0} → (S → ℕ) → Grammar → PIdx S → Type 0
+IsOfReached index g prod = IsReachableRule g (rule_of g (index prod.0))
 
 -- the links lead up to kernel items
 abbrev pub LeadUp : {S : Type 0} → (S → ℕ) → Grammar → TIdx S → List (Link S) → Type 0
@@ -267,8 +267,8 @@ abbrev pub IsTopOf : {S : Type 0} → (S → ℕ) → Grammar → List (Link S) 
 IsTopOf index g links up = EndsLink g (links_of index links) (up_of index up)
 
 -- the state before this step, or the last one
-abbrev pub IsStateAt : {S : Type 0} → (S → ℕ) → List (Step S) → StIdx S → ℕ → StIdx S → Type 0
-IsStateAt index steps last place state = index state.0 ≡ state_before (steps_of index steps) (index last.0) place
+abbrev pub IsStateBefore : {S : Type 0} → (S → ℕ) → List (Step S) → StIdx S → ℕ → StIdx S → Type 0
+IsStateBefore index steps last place state = index state.0 ≡ state_before (steps_of index steps) (index last.0) place
 
 -- moves of trees of the symbols after the link's rule were appended
 abbrev pub AppendsRest : {S : Type 0} → (S → ℕ) → Grammar → TIdx S → Link S → List (Move S) → List (Move S) → Type 0

@@ -5,7 +5,7 @@ ghost use Rattle.lrpar_table_first.specs.FirstRows.{rows_of};
 ghost use Rattle.lrpar_table_sentences.specs.Choices.{AreShortest};
 ghost use Rattle.lrpar_table_sentences.specs.Reachable.{EachReachableHasTree};
 ghost use Rattle.lrpar_conflict_derivations.specs.Completion.{CanComplete};
-ghost use Rattle.lrpar_conflict_derivations.specs.Stored.{AppendsRest, AppendsWayUp, AreAccessPath, Completes, EndsInKernel, FindsLink, HasItemWith, HasLinkOf, IsReached, IsStateAt, IsStateOf, IsStepLink, IsTokenOf, IsTopOf, LeadUp};
+ghost use Rattle.lrpar_conflict_derivations.specs.Stored.{AppendsRest, AppendsWayUp, AreAccessPath, Completes, EndsInKernel, FindsLink, HasItemWith, HasLinkOf, IsOfReached, IsStateBefore, IsStateOf, IsStepLink, IsTokenOf, IsTopOf, LeadUp};
 
 use crate::closure_links::{Link, links_to};
 use lrpar_grammar::grammar::YaccGrammar;
@@ -39,7 +39,7 @@ fn push_rest<StorageT: StorageIndex>(
     requires each { EachReachableHasTree grm.now }
     requires token { IsTokenOf StorageT.index grm.now token }
     requires step { IsStepLink StorageT.index grm.now token link }
-    requires reached { IsReached StorageT.index grm.now link.prod }
+    requires reached { IsOfReached StorageT.index grm.now link.prod }
     ensures { OnOk result (AppendsRest StorageT.index grm.now token link out.old.items out.new.items) }
 {
     let rest = &grm.prod(link.prod)[link.dot + 1..];
@@ -138,7 +138,7 @@ fn state_at<StorageT: StorageIndex>(
     place: usize,
     last: StIdx<StorageT>,
 ) -> StIdx<StorageT>
-    ensures { IsStateAt StorageT.index steps.now last place result }
+    ensures { IsStateBefore StorageT.index steps.now last place result }
 {
     if place < steps.len() {
         steps[place].from

@@ -1,6 +1,6 @@
 //! Configurations of two derivations with a common text, and the search over them.
 ghost use Rattle.std.specs.Prelude.{IfSome};
-ghost use Rattle.lrpar_conflict_derivations.specs.Stored.{HasFirst, IsStateIn};
+ghost use Rattle.lrpar_conflict_derivations.specs.Stored.{IsFirstIn, IsStateIn};
 
 use crate::access_paths::AccessPaths;
 use crate::context::Context;
@@ -365,7 +365,7 @@ impl<StorageT: StorageIndex> Search<StorageT> {
         context: &Context<'_, StorageT>,
         configuration: &Configuration<StorageT>,
     ) -> Option<(StIdx<StorageT>, StIdx<StorageT>)>
-        ensures { IfSome result (HasFirst StorageT.index context.now) }
+        ensures { IfSome result (IsFirstIn StorageT.index context.now) }
     {
         let one = self.state_at(context, configuration.one)?;
         let other = self.state_at(context, configuration.other)?;

@@ -46,8 +46,8 @@ abbrev pub MergedFit : {S : Type 0} → Grammar → MergedConflicts S → Type 0
 MergedFit g = λ found. ExamplesFit g found.examples.items
 
 -- the code's moves are those of a tree, whose text begins with the tokens
-abbrev pub Continue : {S : Type 0} → (S → ℕ) → Grammar → List (TIdx S) → List (Move S) → Type 0
-Continue index g before moves = DerivesFrom g (token_numbers index before) (moves_in index moves)
+abbrev pub DeriveFrom : {S : Type 0} → (S → ℕ) → Grammar → List (TIdx S) → List (Move S) → Type 0
+DeriveFrom index g before moves = DerivesFrom g (token_numbers index before) (moves_in index moves)
 
 -- so are those of the second derivation
 abbrev pub SecondFits : Grammar → ExampleOf → Type 0

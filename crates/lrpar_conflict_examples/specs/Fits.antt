@@ -46,5 +46,5 @@ abbrev pub HasTree : Grammar → List MoveOf → Type 0
 HasTree g moves = (tree : Tree ℕ) × AreMovesOf g moves tree
 
 -- the same of the code's moves
-abbrev pub MakeTree : {S : Type 0} → (S → ℕ) → Grammar → List (Move S) → Type 0
-MakeTree index g moves = HasTree g (moves_in index moves)
+abbrev pub HaveTree : {S : Type 0} → (S → ℕ) → Grammar → List (Move S) → Type 0
+HaveTree index g moves = HasTree g (moves_in index moves)

@@ -3,7 +3,7 @@
 ghost use Rattle.std.specs.Prelude.{◌<◌, IfOk, OnOk};
 ghost use Rattle.lrpar_grammar.specs.Grammar.{prods_len};
 ghost use Rattle.lrpar_table_sentences.specs.Moves.{move_of};
-ghost use Rattle.lrpar_conflict_examples.specs.Fits.{IsMoveOf, MakeTree};
+ghost use Rattle.lrpar_conflict_examples.specs.Fits.{HaveTree, IsMoveOf};
 ghost use Rattle.lrpar_conflict_examples.specs.Pieces.{AddsTrees, AreTextOfMoves, MeetsMove, PieceFits, PiecesFit, piece_text};
 ghost use Rattle.lrpar_conflict_examples.specs.Texts.{AddsTree};
 ghost use Rattle.lrpar_grammar_places.specs.Strings.{Appends};
@@ -42,7 +42,7 @@ pub(crate) fn push_tree<StorageT: StorageIndex>(
     grm: &YaccGrammar<StorageT>,
     moves: &[Move<StorageT>],
 ) -> Result<(), AllocError>
-    requires { MakeTree StorageT.index grm.now moves.now }
+    requires { HaveTree StorageT.index grm.now moves.now }
     ensures { OnOk result (AddsTree StorageT.index grm.now moves.now out.old out.new) }
 {
     let mut pieces = pieces_of(alloc, grm, moves)?;
@@ -58,7 +58,7 @@ fn pieces_of<StorageT: StorageIndex>(
     grm: &YaccGrammar<StorageT>,
     moves: &[Move<StorageT>],
 ) -> Result<Vec<Piece<StorageT>>, AllocError>
-    requires { MakeTree StorageT.index grm.now moves.now }
+    requires { HaveTree StorageT.index grm.now moves.now }
     ensures fit { IfOk result (PiecesFit StorageT.index grm.now) }
     ensures text { IfOk result (AreTextOfMoves StorageT.index grm.now moves.now) }
 {

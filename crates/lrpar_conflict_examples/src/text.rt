@@ -1,8 +1,8 @@
 //! The texts of counterexamples.
 ghost use Rattle.std.specs.Prelude.{◌≡◌, ◌≤◌, IfOk, OnOk, drop, length};
 ghost use Rattle.lrpar_table_sentences.specs.Moves.{move_of};
-ghost use Rattle.lrpar_conflict_examples.specs.ExamplesFit.{Continue, ExampleFits, ExamplesFit, SecondFits};
-ghost use Rattle.lrpar_conflict_examples.specs.Fits.{HasTokens, IsMoveOf, MakeTree};
+ghost use Rattle.lrpar_conflict_examples.specs.ExamplesFit.{DeriveFrom, ExampleFits, ExamplesFit, SecondFits};
+ghost use Rattle.lrpar_conflict_examples.specs.Fits.{HasTokens, HaveTree, IsMoveOf};
 ghost use Rattle.lrpar_conflict_examples.specs.Texts.{AddsBound, AddsCount, AddsDerivation, AddsOtherText, AddsText, AppendsExample, ShowsExamples, title_text};
 ghost use Rattle.lrpar_grammar_places.specs.Strings.{Appends};
 ghost use Rattle.lrpar_conflict_examples.specs.Words.{AddsLine};
@@ -131,7 +131,7 @@ fn push_text<StorageT: StorageIndex>(
     before: &[TIdx<StorageT>],
     moves: &[Move<StorageT>],
 ) -> Result<(), AllocError>
-    requires { Continue StorageT.index grm.now before.now moves.now }
+    requires { DeriveFrom StorageT.index grm.now before.now moves.now }
     ensures { OnOk result (AddsText StorageT.index grm.now before.now moves.now out.old out.new) }
 {
     // The proof needs that the grammar is well-formed.
@@ -175,7 +175,7 @@ fn push_derivation<StorageT: StorageIndex>(
     moves: &[Move<StorageT>],
 ) -> Result<(), AllocError>
     requires next { IsMoveOf grm.now (move_of StorageT.index next) }
-    requires tree { MakeTree StorageT.index grm.now moves.now }
+    requires tree { HaveTree StorageT.index grm.now moves.now }
     ensures { OnOk result (AddsDerivation StorageT.index grm.now next moves.now out.old out.new) }
 {
     out.push_str("  ")?;
