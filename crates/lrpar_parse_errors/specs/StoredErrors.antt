@@ -4,12 +4,12 @@ use denote.Ref.{Bor}
 use Rattle.std.specs.Prelude.{ℕ, IfOk, List, Option, Result, String, string_bytes}
 use Rattle.lrpar_grammar.specs.Grammar.{Grammar}
 use Rattle.lrpar_grammar_places.specs.Span.{Extent}
+use Rattle.lrpar_grammar_places.specs.Strings.{HasText}
 use Rattle.lrpar_grammar_places.specs.declared.span.TIdx.{TIdx}
 use Rattle.lrpar_parse_lexemes.specs.Lexemes.{LexemeParts}
 use Rattle.lrpar_parse_lexemes.specs.declared.pp_fault.PpFault.{PpFault}
 use Rattle.lrpar_parse_errors.specs.LexParseText.{ErrorFits, IsErrorText, error_tokens, unfit_text}
 use Rattle.lrpar_parse_errors.specs.Printed.{IsPpFault, IsPrintedName, printed_by}
-use Rattle.lrpar_parse_errors.specs.Strings.{HasText}
 use Rattle.lrpar_parse_errors.specs.declared.errors.LexParseError.{LexParseError}
 
 module _ {S L X Y : Type 0} (place : Y → Extent) (parts : X → LexemeParts S) where

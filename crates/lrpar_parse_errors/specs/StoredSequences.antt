@@ -4,6 +4,7 @@ use denote.Ref.{Bor}
 use Rattle.std.specs.Prelude.{◌≡◌, ◌<◌, ◌∷◌, ℕ, List, [], MatchOption, OnOk, Option, Result, String, Vec, length, map}
 use Rattle.std.specs.List.{AllByRecursion, AllZip}
 use Rattle.lrpar_grammar_places.specs.Span.{Extent}
+use Rattle.lrpar_grammar_places.specs.Strings.{Appends}
 use Rattle.lrpar_parse_lexemes.specs.Lexemes.{LexemeParts}
 use Rattle.lrpar_parse_lexemes.specs.Repairs.{repair_of, repairs_of}
 use Rattle.lrpar_parse_lexemes.specs.declared.pp_fault.PpFault.{PpFault}
@@ -12,7 +13,6 @@ use Rattle.lrpar_parse_errors.specs.ErrorText.{repairs_text, tokens_of}
 use Rattle.lrpar_parse_errors.specs.Printed.{IsPpFault}
 use Rattle.lrpar_parse_errors.specs.PrintedParts.{part_of, sequence_parts}
 use Rattle.lrpar_parse_errors.specs.SequenceText.{IsPartText, IsPartsText, PartFits, RepairFits, RepairsFit, inserted, inserted_by, joined, parts_of}
-use Rattle.lrpar_parse_errors.specs.Strings.{Appends}
 use Rattle.lrpar_parse_errors.specs.declared.printed_parts.Part.{Part}
 use Rattle.lrpar_parse_errors.specs.declared.printed_parts.Part.TheVariants.{Delete}
 
