@@ -29,8 +29,8 @@ tokens-preserved g c =
     let t = c.token-item.result in
     let now = states_of index l.stack.items in
     let next = states_of index c.feed.new.stack.items in
-    let there = (c.tokens-test.true, token_is index all l.inserted t c.tokens-test.true c.token-item.is) in
-    let fed = fed_at index at.checked.grammar at.checked.table all l.inserted t now next there c.in_ok-feed.ensures.fed c.if-not-branch.false in
+    let same = token_is index all l.inserted t c.tokens-test.true c.token-item.is in
+    let fed = fed_at index at.checked.grammar at.checked.table all l.inserted t now next (c.tokens-test.true, same) c.in_ok-feed.ensures.fed c.if-not-branch.false in
     let says = rw (c.deref.ensures.value, c.lexemes-place.ensures.lexemes) at c.in_ok-goes_on.ensures in
     record {
       fed = fed_next at.checked.grammar at.checked.table at.stack (tokens_of index all) l.inserted now next fed.0 l.invariant.fed fed.1;
@@ -58,11 +58,12 @@ returns-then-not-branch g c =
     let l = c.tokens in
     let t = c.token-item.result in
     let now = states_of index l.stack.items in
-    let there = (c.tokens-test.true, token_is index c.args.self.now.tokens.now l.inserted t c.tokens-test.true c.token-item.is) in
+    let same = token_is index c.args.self.now.tokens.now l.inserted t c.tokens-test.true c.token-item.is in
     let token = token_by index g.LexemeT.Lexeme.parts in
     let next = states_of index c.feed.new.stack.items in
     let none =
-    fed_at index at.checked.grammar at.checked.table c.args.self.now.tokens.now l.inserted t now next there c.in_ok-feed.ensures.fed c.if-not-branch.true in
+    fed_at index at.checked.grammar at.checked.table c.args.self.now.tokens.now l.inserted t now next (c.tokens-test.true, same)
+    c.in_ok-feed.ensures.fed c.if-not-branch.true in
     let says = rw (c.deref.ensures.value, c.lexemes-place.ensures.lexemes) at c.in_ok-goes_on.ensures in
     never_past token at tokens (length at.lexemes) l.inserted now next none.0 l.invariant.fed none.1
     (not_here_more token at tokens (length at.lexemes) l.inserted now l.invariant.fed says c.if-branch.false l.invariant.before)
