@@ -1,5 +1,5 @@
 //! Rust code in a grammar text: its pieces, and where braces and types end.
-ghost use Rattle.std.specs.Prelude.{false, ◌≡◌, ◌<◌, ◌≤◌, ◌+◌, ◌==◌, ◌^◌, ◌∷◌, length, slice_index, IfSome, IsTrue};
+ghost use Rattle.std.specs.Prelude.{false, ◌≡◌, ◌<◌, ◌≤◌, ◌+◌, ◌==◌, ◌^◌, ℕ, ◌∷◌, length, slice_index, IfSome, IsTrue};
 ghost use Rattle.std.specs.List.{prefix_len, position_or_len};
 ghost use Rattle.lrpar_grammar_yacc.specs.Code.{begins_raw, char_len, char_width, closes, comment_len, depth_after, end_of, ends_raw, escaped_len, hashes_len, is_end, is_in_word, is_unescaped, nested_len, opens, piece_len, raw_len, run_len, word_len};
 

@@ -3,7 +3,7 @@ ghost use Rattle.std.specs.Prelude.{[], ◌≡◌, ◌++◌, All, IfErr, IfOk, O
 ghost use Rattle.std.specs.List.{flat_map};
 ghost use Rattle.lrpar_grammar_words.specs.Words.{placed};
 ghost use Rattle.lrpar_grammar_yacc.specs.declared.faults.YaccFault.TheVariants.{BadNumber, Memory, MidRuleAction, RepeatedPrec, RepeatedPrecedence};
-ghost use Rattle.lrpar_grammar_yacc.specs.Declares.{declarations, declarations_of, level_of, prec_of};
+ghost use Rattle.lrpar_grammar_yacc.specs.Declares.{declarations, declarations_of, declared_by, level_of, prec_of};
 ghost use Rattle.lrpar_grammar_yacc.specs.Erasure.{AreBlanked, IsPartOfText, erasure};
 ghost use Rattle.lrpar_grammar_yacc.specs.Faults.{IsFaultOf, bad_number, earlier, fault_by, first_fault, has_bad_number, has_number, is_same, place_of, repeated_after, repeated_name, repeated_prec};
 

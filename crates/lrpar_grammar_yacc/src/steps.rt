@@ -2,6 +2,7 @@
 ghost use Rattle.std.specs.Prelude.{◌≡◌, IfSome};
 ghost use Rattle.std.specs.Option.{option_and_then};
 ghost use Rattle.lrpar_grammar_words.specs.Words.{piece_at};
+ghost use Rattle.lrpar_grammar_yacc.specs.Parts.{IsPartWithin};
 ghost use Rattle.lrpar_grammar_yacc.specs.Steps.{IsStepWithin, part_step, piece_step, step_at, word_kind, word_step};
 
 use crate::parts::{Part, PartKind, YaccKind, part_at};

@@ -1,7 +1,8 @@
 //! Actions: a caller's values for productions.
-ghost use Rattle.std.specs.Prelude.{◌≡◌, ◌≤◌, ◌↔◌, ℕ, List, IfOk, IsTrue, OnOk, length};
+ghost use Rattle.std.specs.Prelude.{◌≡◌, ◌≤◌, ◌↔◌, ℕ, List, IfOk, IsTrue, OnOk, length, map};
 ghost use Rattle.lrpar_grammar_places.specs.Span.{Extent};
 ghost use Rattle.lrpar_grammar.specs.Grammar.{GrammarSymbol};
+ghost use Rattle.lrpar_grammar.specs.Symbols.{symbol_of};
 ghost use Rattle.lrpar_parse_run.specs.declared.values.AStackType.{AStackType};
 ghost use Rattle.lrpar_parse_lexemes.specs.Views.{span_by, token_by};
 ghost use Rattle.lrpar_parse_run.specs.Placed.{IsPlacedLexeme, IsPlacedValue, arguments_of, spans_of};

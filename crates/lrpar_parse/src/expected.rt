@@ -1,5 +1,5 @@
 //! What may come next after lexemes: how many of them can be fed, and the tokens that can be fed then.
-ghost use Rattle.std.specs.Prelude.{◌<◌, IfOk, OnOk};
+ghost use Rattle.std.specs.Prelude.{◌≡◌, ◌<◌, ◌++◌, IfOk, OnOk, take};
 ghost use Rattle.lrpar_parse.specs.ExpectedAnswer.{AreStatesAbove, AreValid, FeedsFurthest, IsStackOf, MayComeAfter, MayFeed, MayFeedOver};
 
 use lrpar_grammar::span::{StIdx, StorageIndex, TIdx};

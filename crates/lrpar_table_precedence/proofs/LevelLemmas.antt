@@ -1,5 +1,5 @@
 -- Levels: numbers within range, the entries of their tokens, and the last token of a list of symbols.
-use Rattle.std.proofs.Common.{◌≡◌, ◌<◌, ◌+◌, ◌++◌, ◌∷◌, ◌∙◌, ◌↔◌, ℕ, zero, suc, Bool, false, IsTrue, List, [], Option, Some, None, All, Result, Ok, Err, IfErr, IsErrAnd, refl, sym, ap, subst, arith, get_or, length, map, nat_eq, option_map, take, unwrap_or, slice_index_or}
+use Rattle.std.proofs.Common.{◌≡◌, ◌<◌, ◌+◌, ◌++◌, ◌∷◌, ◌∙◌, ◌↔◌, ℕ, zero, suc, Bool, true, false, IsTrue, List, [], Option, Some, None, All, Result, Ok, Err, IfErr, IsErrAnd, refl, sym, ap, subst, arith, get_or, length, map, nat_eq, option_map, take, unwrap_or, slice_index_or}
 use Rattle.std.specs.List.{flat_map, range_with_len}
 use Rattle.std.specs.Map.{keys_of, lookup}
 use Rattle.std.specs.Option.{option_and_then, option_or}

@@ -58,7 +58,7 @@ impl<StorageT: StorageIndex> Spelled<StorageT> {
 }
 
 impl<StorageT: StorageIndex> YaccGrammar<StorageT> {
-    ghost use Rattle.lrpar_grammar_reader.specs.Grammar.{prods_len, start_prod};
+    ghost use Rattle.lrpar_grammar_reader.specs.Grammar.{IsWellFormed, prods_len, rules_len, start_prod};
 
     /// The productions by their places in a list of texts, so that a caller can match on places in a list of its own instead of
     /// numbers, which shift if the grammar changes.

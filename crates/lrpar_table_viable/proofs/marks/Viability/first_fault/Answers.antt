@@ -1,4 +1,4 @@
-use Rattle.std.proofs.Common.{◌≡◌, ◌<◌, below_more, subst}
+use Rattle.std.proofs.Common.{◌≡◌, ◌<◌, ℕ, below_more, subst}
 use Rattle.lrpar_table_rows.specs.Table.{states_len}
 use Rattle.lrpar_table_viable.specs.Viable.{IsViableAt}
 use Rattle.lrpar_table_viable.proofs.FaultLemmas.{fault_first, fault_refutes}
