@@ -51,8 +51,9 @@ def rows(lines):
             above.append(code)
         elif is_outer and BLOCK.match(code):
             blocks.append(indent)
-            # A comment above `module` is about all that follows in it.
-            above = above if code.endswith("mutual") else []
+            # A comment above `module` says what all in it is about: it leads to that of the first definition.
+            if above and not code.endswith("mutual") and not above[-1].endswith((".", ":")):
+                above[-1] += ":"
         elif is_outer and (match := DEFINITION.match(code)):
             if above or not found:
                 found.append(([], comment_of(above)))
