@@ -10,8 +10,11 @@ LINK = re.compile(r"\[[^\]\[]*\]\(([^)\s]+)\)")
 FENCE = re.compile(r"^```.*?^```", re.M | re.S)
 # What no page speaks of: the papers and their numbers, and places on one machine.
 UNSAID = re.compile(r"\b[Tt]he papers?\b|(?<![\w`])[DTWR]\d{1,2}\b|(?<![\w.])/(?:work|opt|root)/")
+# A file of a crate, by its path from `crates/` or from the top; and a file of specs, as the glossary names it.
+SOURCE = re.compile(r"`(?:crates/)?((?:lrpar|nimbleparse|program|example|test)\w*/(?:src|specs|proofs)/[\w/]+\.(?:rt|antt))`")
+SPEC = re.compile(r"`(lrpar\w*)/([A-Z]\w*)`")
 COSTS = ROOT / "docs" / "CONTRIBUTING.md"
-COST = re.compile(r"^\| `?([\w ]+?)`? \| ([\d,]+) \| ([\d,]+) \| (?:(?:\d+: )?([\d,]+)|-) \|", re.M)
+COST = re.compile(r"^(\w+) +([\d,]+) +([\d,]+)(?: +(?:\d+: )?([\d,]+))?$", re.M)
 SUM = "all"
 
 
@@ -35,14 +38,22 @@ def broken_links(path, text):
             continue
         to = (path.parent / target).resolve() if target else path
         line = line_of(text, match.start())
-        if not to.exists():
+        if not to.is_dir() and to not in tracked():
             yield Finding(named(path), line, f"the link to {target} leads nowhere")
         elif anchor and to.suffix == ".md" and anchor not in set(anchors(to.read_text())):
             yield Finding(named(path), line, f"the link to {target}#{anchor} leads to no heading")
 
 
+def missing_files(path, text):
+    """Files of crates that a page names though there are none."""
+    for match in (*SOURCE.finditer(text), *SPEC.finditer(text)):
+        source = match.group(1) if match.re is SOURCE else f"{match.group(1)}/specs/{match.group(2)}.antt"
+        if not (ROOT / "crates" / source).exists():
+            yield Finding(named(path), line_of(text, match.start()), f"there is no file crates/{source}")
+
+
 def number(text):
-    """The number that a cell of a table has, or 0 without one."""
+    """The number that a column has, or 0 without one."""
     return int(text.replace(",", "")) if text else 0
 
 
@@ -68,6 +79,7 @@ def findings():
     for path in pages:
         text = path.read_text()
         yield from broken_links(path, text)
+        yield from missing_files(path, text)
         for match in UNSAID.finditer(text):
             yield Finding(named(path), line_of(text, match.start()), f"'{match.group()}' is nothing that a page speaks of")
     yield from costs()

@@ -48,8 +48,9 @@ def named(path):
 
 @functools.lru_cache(maxsize=None)
 def tracked(pattern="*"):
-    """The files of the repository, as git lists them."""
-    listed = subprocess.run(["git", "ls-files", "-z", pattern], cwd=ROOT, capture_output=True, check=True).stdout.decode()
+    """The files of the repository, with new ones, and without those that git ignores."""
+    command = ["git", "ls-files", "-z", "--cached", "--others", "--exclude-standard", pattern]
+    listed = subprocess.run(command, cwd=ROOT, capture_output=True, check=True).stdout.decode()
     return [ROOT / name for name in listed.split("\0") if name and (ROOT / name).exists()]
 
 

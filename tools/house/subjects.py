@@ -66,8 +66,9 @@ def in_picture(text):
 def in_tables(text):
     """The crates of ARCHITECTURE's tables, each with its line."""
     part = text.partition("\n## The crates\n")[2].partition("\n## ")[0]
-    for match in re.finditer(r"^\| `(\w+)` \|", part, re.M):
-        yield match.group(1), line_of(text, text.index(part) + match.start())
+    for match in re.finditer(r"^\| (`[^|]*) \|", part, re.M):
+        for name in re.findall(r"`(\w+)`", match.group(1).partition(", which")[0]):
+            yield name, line_of(text, text.index(part) + match.start())
 
 
 def in_architecture():
