@@ -1,5 +1,6 @@
 """The pages are short, their links lead somewhere, and what they count is right."""
 
+import functools
 import re
 
 from public import ROOT, crates
@@ -12,7 +13,10 @@ FENCE = re.compile(r"^```.*?^```", re.M | re.S)
 UNSAID = re.compile(r"\b[Tt]he papers?\b|(?<![\w`])[DTWR]\d{1,2}\b|(?<![\w.])/(?:work|opt|root)/")
 # A file of a crate, by its path from `crates/` or from the top; and a file of specs, as the glossary names it.
 SOURCE = re.compile(r"`(?:crates/)?((?:lrpar|nimbleparse|program|example|test)\w*/(?:src|specs|proofs)/[\w/]+\.(?:rt|antt))`")
+FILE = re.compile(r"`(\w+\.(?:rt|antt))`")
 SPEC = re.compile(r"`(lrpar\w*)/([A-Z]\w*)`")
+# Names that stand for any file.
+EXAMPLES = {"NAME.rt", "NameLemmas.antt"}
 COSTS = ROOT / "docs" / "CONTRIBUTING.md"
 COST = re.compile(r"^(\w+) +([\d,]+) +([\d,]+)(?: +(?:\d+: )?([\d,]+))?$", re.M)
 SUM = "all"
@@ -44,12 +48,21 @@ def broken_links(path, text):
             yield Finding(named(path), line, f"the link to {target}#{anchor} leads to no heading")
 
 
+@functools.lru_cache(maxsize=None)
+def source_names():
+    """The names of the files of all crates."""
+    return {path.name for path in tracked() if path.suffix in (".rt", ".antt")}
+
+
 def missing_files(path, text):
     """Files of crates that a page names though there are none."""
     for match in (*SOURCE.finditer(text), *SPEC.finditer(text)):
         source = match.group(1) if match.re is SOURCE else f"{match.group(1)}/specs/{match.group(2)}.antt"
         if not (ROOT / "crates" / source).exists():
             yield Finding(named(path), line_of(text, match.start()), f"there is no file crates/{source}")
+    for match in FILE.finditer(text):
+        if match.group(1) not in source_names() | EXAMPLES:
+            yield Finding(named(path), line_of(text, match.start()), f"no crate has a file {match.group(1)}")
 
 
 def number(text):

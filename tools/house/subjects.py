@@ -63,12 +63,34 @@ def in_picture(text):
             yield word
 
 
+def rows(text):
+    """The rows of ARCHITECTURE's tables of crates: the crates of each, its line, and what it says of their modules."""
+    part = text.partition("\n## The crates\n")[2].partition("\n## ")[0]
+    for match in re.finditer(r"^\| (`[^|]*) \| ([^|]*) \|", part, re.M):
+        named = re.findall(r"`(\w+)`", match.group(1).partition(", which")[0])
+        yield named, line_of(text, text.index(part) + match.start()), match.group(2)
+
+
 def in_tables(text):
     """The crates of ARCHITECTURE's tables, each with its line."""
-    part = text.partition("\n## The crates\n")[2].partition("\n## ")[0]
-    for match in re.finditer(r"^\| (`[^|]*) \|", part, re.M):
-        for name in re.findall(r"`(\w+)`", match.group(1).partition(", which")[0]):
-            yield name, line_of(text, text.index(part) + match.start())
+    for named, line, _ in rows(text):
+        yield from ((crate, line) for crate in named)
+
+
+def has_module(crate, name):
+    """Whether a crate has a module of this name, or passes one on."""
+    source = ROOT / "crates" / crate / "src"
+    root = source / "lib.rt"
+    return any(source.rglob(f"{name}.rt")) or (root.exists() and re.search(rf"\b{name}\b", root.read_text()))
+
+
+def missing_modules(text):
+    """Modules that ARCHITECTURE's tables name, in lists before a colon, and that their crates don't have."""
+    for named, line, modules in rows(text):
+        for sentence in re.split(r"[.;] ", modules):
+            for name in re.findall(r"`([a-z_0-9]+)`", sentence.partition(":")[0]):
+                if not any(has_module(crate, name) for crate in named):
+                    yield Finding("docs/ARCHITECTURE.md", line, f"`{named[0]}` has no module `{name}`")
 
 
 def in_architecture():
@@ -100,4 +122,5 @@ def for_users():
 def findings():
     yield from against_sources()
     yield from in_architecture()
+    yield from missing_modules(PAGE.read_text())
     yield from for_users()
