@@ -11,6 +11,7 @@ README = ROOT / "README.md"
 # The paragraph of ARCHITECTURE that names the crates for users.
 FOR_USERS = "Some users name further crates"
 PROGRAMS = {"lrpar_program"}
+CRATE = re.compile(r"\b(?:(?:lrpar|program|example|test)(?:_[a-z]+)+|lrpar|nimbleparse)\b")
 
 
 def subjects():
@@ -52,15 +53,9 @@ def against_sources():
 
 
 def in_picture(text):
-    """The crates in the picture of ARCHITECTURE: its first block. `.._end` is short for a crate with the part that the one before it has."""
+    """The crates in the picture of ARCHITECTURE: its first block."""
     block = re.search(r"^```\n(.*?)^```", text, re.M | re.S)
-    part = ""
-    for word in re.findall(r"(?<![\w.])(?:\.\.)?_?[a-z]+(?:_[a-z]+)*(?!\w)", block.group(1) if block else ""):
-        if word.startswith(".."):
-            yield part + word[2:]
-        elif word in set(crates()):
-            part = word.partition("_")[0] if word.startswith("example") else word.rpartition("_")[0]
-            yield word
+    return set(CRATE.findall(block.group(1))) if block else set()
 
 
 def rows(text):
@@ -99,7 +94,7 @@ def in_architecture():
     for number, line in enumerate(text.splitlines(), 1):
         if line.startswith("|") and re.search(r"\| *subject *\|", line):
             yield Finding(page, number, "a table has subjects, which crates.txt tells")
-    picture, tables = set(in_picture(text)), dict(in_tables(text))
+    picture, tables = in_picture(text), dict(in_tables(text))
     for crate in sorted(there - picture):
         yield Finding(page, 1, f"the picture lacks `{crate}`")
     for crate in sorted(there - tables.keys()):
