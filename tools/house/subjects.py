@@ -53,9 +53,31 @@ def against_sources():
 
 
 def in_picture(text):
-    """The crates in the picture of ARCHITECTURE: its first block."""
+    """The crates in the picture of ARCHITECTURE, its first block, each with its line and its column."""
     block = re.search(r"^```\n(.*?)^```", text, re.M | re.S)
-    return set(CRATE.findall(block.group(1))) if block else set()
+    places = {}
+    for match in CRATE.finditer(text, block.start(), block.end()) if block else ():
+        start = text.rindex("\n", 0, match.start())
+        places.setdefault(match.group(), (line_of(text, match.start()), match.start() - start))
+    return places
+
+
+def uses():
+    """What each crate uses, by crates.txt."""
+    for line in LIST.read_text().splitlines():
+        if line and not line.startswith("#"):
+            crate, _, used = line.partition(":")
+            yield crate, used.split()
+
+
+def out_of_order(picture):
+    """Crates in the picture that use one which isn't further down or to the left."""
+    for crate, used in uses():
+        for below in used:
+            if crate in picture and below in picture:
+                (line, column), (below_line, below_column) = picture[crate], picture[below]
+                if below_line < line or (below_line == line and below_column > column):
+                    yield Finding("docs/ARCHITECTURE.md", line, f"the picture has `{below}`, which `{crate}` uses, above it or to its right")
 
 
 def rows(text):
@@ -95,11 +117,11 @@ def in_architecture():
         if line.startswith("|") and re.search(r"\| *subject *\|", line):
             yield Finding(page, number, "a table has subjects, which crates.txt tells")
     picture, tables = in_picture(text), dict(in_tables(text))
-    for crate in sorted(there - picture):
+    for crate in sorted(there - picture.keys()):
         yield Finding(page, 1, f"the picture lacks `{crate}`")
     for crate in sorted(there - tables.keys()):
         yield Finding(page, 1, f"no table has `{crate}`")
-    for crate in sorted((picture | tables.keys()) - there):
+    for crate in sorted((picture.keys() | tables.keys()) - there):
         yield Finding(page, tables.get(crate, 1), f"there is no crate `{crate}`")
 
 
@@ -117,5 +139,6 @@ def for_users():
 def findings():
     yield from against_sources()
     yield from in_architecture()
+    yield from out_of_order(in_picture(PAGE.read_text()))
     yield from missing_modules(PAGE.read_text())
     yield from for_users()
