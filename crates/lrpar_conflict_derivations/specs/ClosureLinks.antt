@@ -27,7 +27,7 @@ pub record LinkOf : Type 0 where
   pub further : Bool
   pub above : ℕ
 
--- the same of the code's links
+-- links as they are stored, with numbers for their rules and productions
 abbrev pub link_of : {S : Type 0} → (S → ℕ) → Link S → LinkOf
 link_of index x =
     record { rule = index x.rule.0; asked = x.asked; prod = index x.prod.0; dot = x.dot; further = x.further; above = x.above }

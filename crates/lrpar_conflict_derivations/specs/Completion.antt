@@ -89,7 +89,7 @@ pub record UpOf : Type 0 where
   pub dot : ℕ
   pub asked : Bool
 
--- the same of the code
+-- a kernel item as it is stored, with a number for its production
 abbrev pub up_of : {S : Type 0} → (S → ℕ) → Up S → UpOf
 up_of index up = record { prod = index up.prod.0; dot = up.dot; asked = up.asked }
 

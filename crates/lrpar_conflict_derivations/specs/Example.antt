@@ -87,7 +87,7 @@ pub record IsFront (g : Grammar) (graph : Graph) (s : ℕ) (steps : List StepOf)
   pub text : IsTextTo g graph s (forest_leaves trees) (symbols_in steps) trees
   pub moves_are : moves ≡ forest_moves trees
 
--- the same, and its text is a shortest access string
+-- the steps of an access path of state s, and moves of trees of its symbols, whose text is a shortest access string
 pub record IsShortestFront (g : Grammar) (graph : Graph) (s : ℕ) (steps : List StepOf) (moves : List MoveOf) : Type 0 where
   pub front : IsFront g graph s steps moves
   pub least : IsLeastTo g graph s (tokens_in moves)

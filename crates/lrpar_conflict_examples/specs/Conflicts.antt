@@ -47,7 +47,7 @@ AreAmong {X} xs all = (x : X) → Contains xs x → Contains all x
 abbrev pub conflicts_in : ConflictLists → List ConflictOf
 conflicts_in lists = map of_reductions lists.reduce_reduce ++ map of_shift lists.shift_reduce
 
--- those that a table lists
+-- the conflicts that a table lists
 abbrev pub listed_of : Table → List ConflictOf
 listed_of table = conflicts_in (lists_in table.conflicts)
 
@@ -55,11 +55,11 @@ listed_of table = conflicts_in (lists_in table.conflicts)
 abbrev pub Lists : {S : Type 0} → (S → ℕ) → Table → List (UnmetConflict S) → Type 0
 Lists index table conflicts = AreAmong (unmet_in index conflicts) (listed_of table)
 
--- it lists this one
+-- the table lists this conflict
 abbrev pub ListsOne : {S : Type 0} → (S → ℕ) → Table → UnmetConflict S → Type 0
 ListsOne index table conflict = Contains (listed_of table) (unmet_of index conflict)
 
--- these are all that it lists, in order
+-- these are all conflicts that the table lists, in order
 abbrev pub AreAllListed : {S A : Type 0} → (S → ℕ) → Table → Vec (UnmetConflict S) A → Type 0
 AreAllListed index table = λ conflicts. unmet_in index conflicts.items ≡ listed_of table
 

@@ -29,19 +29,19 @@ pub record ExampleFits (g : Grammar) (x : ConflictExampleOf) : Type 0 where
   pub first : DerivesFrom g x.example.before x.example.first
   pub second : DerivesFrom g x.example.before x.example.second
 
--- each counterexample does
+-- each counterexample fits the grammar
 abbrev pub ExamplesFit : Grammar → List ConflictExampleOf → Type 0
 ExamplesFit g examples = AllByRecursion (ExampleFits g) examples
 
--- the same of a vector of them
+-- each counterexample in the vector fits the grammar
 abbrev pub AllFit : {A : Type 0} → Grammar → Vec ConflictExampleOf A → Type 0
 AllFit g = λ examples. ExamplesFit g examples.items
 
--- the same of the counterexamples of conflicts that precedences leave
+-- the counterexamples of the conflicts that precedences leave fit the grammar
 abbrev pub LeftFit : {S : Type 0} → Grammar → ConflictsLeft S → Type 0
 LeftFit g = λ left. ExamplesFit g left.examples.items
 
--- the same of those of conflicts of merged item sets
+-- the counterexamples of the conflicts of merged item sets fit the grammar
 abbrev pub MergedFit : {S : Type 0} → Grammar → MergedConflicts S → Type 0
 MergedFit g = λ found. ExamplesFit g found.examples.items
 

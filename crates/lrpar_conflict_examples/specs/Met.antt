@@ -62,7 +62,7 @@ pub record AreMarks (precedences : PrecedenceLists) (table : Table) (marks : Lis
   pub start : IsTrue (is_marked marks table.start)
   pub met : (s : ℕ) → IsTrue (is_marked marks s) → IsMet precedences table s
 
--- whatever the precedences are
+-- the start is marked, and only states that can be met are, whatever the precedences are
 abbrev pub AreMarksByAny : Table → List Bool → Type 0
 AreMarksByAny table marks = (precedences : PrecedenceLists) → AreMarks precedences table marks
 
@@ -71,14 +71,15 @@ pub record AreMet (precedences : PrecedenceLists) (table : Table) (marks : List 
   pub states : length marks ≡ states_len table
   pub exact : (s : ℕ) → IsTrue (is_marked marks s) ↔ IsMet precedences table s
 
--- the same of a vector of marks, and the marks of a start by any precedences
+-- the vector marks the states that can be met, and no others
 abbrev pub MarksMet : {A : Type 0} → PrecedenceLists → Table → Vec Bool A → Type 0
 MarksMet precedences table = λ marks. AreMet precedences table marks.items
 
+-- the vector marks the start state, and no state that can't be met, whatever the precedences are
 abbrev pub MarksStart : {A : Type 0} → Table → Vec Bool A → Type 0
 MarksStart table = λ marks. AreMarksByAny table marks.items
 
--- fewer are left without a mark
+-- fewer states are left without a mark
 abbrev pub MarksMore : List Bool → List Bool → Type 0
 MarksMore old new = unmarked new < unmarked old
 
@@ -93,7 +94,7 @@ pub record AreSteps (precedences : PrecedenceLists) (table : Table) (edges : Lis
   pub sound : (edge : ℕ × ℕ) → Contains edges edge → IsStepOf precedences table edge
   pub all : (s next : ℕ) → s < states_len table → IsStep precedences table s next → Contains edges (s, next)
 
--- the same of a vector of steps
+-- the vector has the steps of the table, and no others
 abbrev pub HasSteps : {A : Type 0} → PrecedenceLists → Table → Vec (ℕ × ℕ) A → Type 0
 HasSteps precedences table = λ edges. AreSteps precedences table edges.items
 
@@ -102,7 +103,7 @@ abbrev pub KeepsMarks : List (ℕ × ℕ) → List Bool → List Bool → Type 0
 KeepsMarks edges old new =
     (precedences : PrecedenceLists) (table : Table) → AreSteps precedences table edges → AreMarks precedences table old → AreMarks precedences table new
 
--- the same, if this is one of its steps
+-- if a table has the step from s to `next`, and the old list has marks of its states, so does the new one
 abbrev pub StepKeepsMarks : ℕ → ℕ → List Bool → List Bool → Type 0
 StepKeepsMarks s next old new =
     (precedences : PrecedenceLists) (table : Table) → AreMarks precedences table old → IsStep precedences table s next → AreMarks precedences table new
@@ -158,7 +159,7 @@ pub record AreTakenAway (precedences : PrecedenceLists) (table : Table) (rows : 
   pub states : length rows ≡ states_len table
   pub exact : (s t : ℕ) → s < states_len table → t < table.tokens → has (row_at rows s) t ≡ is_taken_away precedences table s t
 
--- the same of sets
+-- the vector has for each state the set of the tokens whose shift precedences take away
 abbrev pub TakesAway : {A : Type 0} → PrecedenceLists → Table → Vec TokenSet A → Type 0
 TakesAway precedences table = λ sets. AreTakenAway precedences table (rows_of sets.items)
 
@@ -225,7 +226,7 @@ pub record AreParted {S : Type 0} (index : S → ℕ) (precedences : PrecedenceL
   pub met : unmet_in index first ≡ marked_ones marks (conflicts_left precedences (lists_in table.conflicts))
   pub unmet : unmet_in index second ≡ other_ones marks (conflicts_left precedences (lists_in table.conflicts))
 
--- the same of two vectors
+-- two vectors have the conflicts that precedences leave: those in states that are marked, and the others
 abbrev pub ArePartedBy : {S A : Type 0} → (S → ℕ) → PrecedenceLists → Table → List Bool → Vec (UnmetConflict S) A × Vec (UnmetConflict S) A → Type 0
 ArePartedBy index precedences table marks = λ lists. AreParted index precedences table marks lists.0.items lists.1.items
 

@@ -13,19 +13,19 @@ use Rattle.lrpar_conflict_examples.specs.Fits.{AreMovesOf}
 use Rattle.lrpar_grammar_places.specs.Strings.{Appends}
 use Rattle.lrpar_conflict_examples.specs.Words.{derivation_text, shown_name, text_line, tree_text}
 
--- that the derivations have two texts, and the bound of the search for one
+-- the words that the derivations have two texts, with the bound of the search for one
 abbrev pub bound_text : ℕ → List ℕ
 bound_text bound = codes "two texts; one for both not found within " ++ decimal bound
 
--- it was added
+-- the words that the derivations have two texts, with this bound, were appended
 abbrev pub AddsBound : {A : Type 0} → ℕ → String A → String A → Type 0
 AddsBound bound old new = Appends old new (bound_text bound)
 
--- how many texts the derivations have
+-- the words for how many texts the derivations have
 abbrev pub count_text : ExampleOf → List ℕ
 count_text x = if x.ambiguous then codes "one text, two derivations" else bound_text x.bound
 
--- it was added
+-- the words for how many texts the derivations have were appended
 abbrev pub AddsCount : {A : Type 0} → ExampleOf → String A → String A → Type 0
 AddsCount x old new = Appends old new (count_text x)
 

@@ -14,11 +14,11 @@ use Rattle.lrpar_conflict_derivations.specs.Texts.{token_numbers}
 abbrev pub shown_name : Grammar → ℕ → List ℕ
 shown_name g t = unwrap_or (token_name g t) (codes "$")
 
--- the same of the code's tokens
+-- the name by which conflicts show a token as it is stored: its own, or `$` for the end token
 abbrev pub name_of : {S : Type 0} → (S → ℕ) → Grammar → TIdx S → List ℕ
 name_of index g token = shown_name g (index token.0)
 
--- tokens, each after a space
+-- a token's name after a space
 abbrev pub word_text : Grammar → ℕ → List ℕ
 word_text g t = 32 ∷ shown_name g t
 

@@ -81,7 +81,7 @@ abbrev pub EndOnLine : List ℕ → ℕ → List Extent → Type 0
 EndOnLine src b [] = Unit {0}
 EndOnLine src b (span ∷ spans) = (line_start src span.end ≡ b) × EndOnLine src b spans
 
--- the same of the line on which the first part starts
+-- parts that all end on the line on which the first one starts
 abbrev pub EndOnFirstLine : List ℕ → List Extent → Type 0
 EndOnFirstLine src [] = Unit {0}
 EndOnFirstLine src (span ∷ spans) = EndOnLine src (line_start src span.start) (span ∷ spans)
@@ -91,10 +91,10 @@ pub record FollowOnLine (src : List ℕ) (spans : List Extent) : Type 0 where
   pub order : FollowInOrder src 0 spans
   pub line : EndOnFirstLine src spans
 
--- the same of the text that messages are about
+-- parts of the text that messages are about: they are in order, none of them overlaps the next, and all are on one line
 abbrev pub SpansFollow : Subject → List Extent → Type 0
 SpansFollow f spans = FollowOnLine f.text spans
 
--- this is the start of the next line after the one that starts at byte b which is printed for a part up to byte end, if there is one
+-- the start of the line that is printed after the one that starts at byte b, for a part up to byte `end`, if there is one
 abbrev pub IsNextPrinted : List ℕ → ℕ → ℕ → Option ℕ → Type 0
 IsNextPrinted src b end found = MatchOption found (printed_after src b end ≡ []) (λ next. printed_after src b end ≡ next ∷ printed_after src next end)

@@ -71,6 +71,6 @@ IsMissingOf g p _ = ⊥
 abbrev pub AreUnlisted : Grammar → List (List ℕ) → SpelledFault → Type 0
 AreUnlisted g texts fault = fault ≢ Memory → (places : List (Option ℕ)) → IsListing g texts places → ⊥
 
--- the same for texts that come in parts
+-- unless an allocation failed, the texts, which come in parts, list the productions in no way
 abbrev pub AreUnlistedInParts : Grammar → List (List (List ℕ)) → SpelledFault → Type 0
 AreUnlistedInParts g parts fault = fault ≢ Memory → (places : List (Option (ℕ × ℕ))) → IsListingInParts g parts places → ⊥

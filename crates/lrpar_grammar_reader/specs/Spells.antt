@@ -174,7 +174,7 @@ HasFaultBy n o BadStart = ⊥
 HasFaultBy n o StorageTooSmall = ⊥
 HasFaultBy n o Memory = Unit {0}
 
--- the same, with the numbers of the outline itself
+-- this is the first fault of the outline's declarations and rules, by the outline's own numbers
 abbrev pub HasFault : TextOutline → GrammarFault → Type 0
 HasFault o fault = HasFaultBy (numbering_of o) o fault
 

@@ -16,12 +16,12 @@ abbrev pub written : Bool → ℕ → List ℕ
 written false c = if c == 92 then [] else c ∷ []
 written true c = if has_meaning c then 92 ∷ c ∷ [] else c ∷ []
 
--- the characters without each backslash before one that has no meaning
+-- the characters without the backslashes that give the next character no meaning
 abbrev pub without_needless : Bool → List ℕ → List ℕ
 without_needless is_escaped [] = if is_escaped then 92 ∷ [] else []
 without_needless is_escaped (c ∷ cs) = written is_escaped c ++ without_needless (not is_escaped && c == 92) cs
 
--- the same of a text
+-- the text without the backslashes that give the next character no meaning
 abbrev pub unescaped : List ℕ → List ℕ
 unescaped text = encode_utf8_all (without_needless false (chars text))
 

@@ -10,10 +10,11 @@ pub record Part : Type 0 where
   pub start : ℕ
   pub bytes : List ℕ
 
+-- a part as it is stored, by its bytes and where it starts
 abbrev pub placed : code.Part → Part
 placed p = record { start = p.start; bytes = p.text.now }
 
--- the same of a part, if there is one
+-- a part as it is stored, if there is one
 abbrev pub placed_if : Option code.Part → Option Part
 placed_if p = option_map (λ p. placed p) p
 
@@ -73,7 +74,7 @@ placed_from start (bytes ∷ more) = record { start = start; bytes = bytes } ∷
 abbrev pub pieces : ℕ → Part → List Part
 pieces byte p = placed_from p.start (slice_split (λ b. b == byte) p.bytes)
 
--- the same of what is left
+-- the parts between the bytes of this value in what is left; none if nothing is left
 abbrev pub pieces_left : ℕ → Option Part → List Part
 pieces_left byte None = []
 pieces_left byte (Some p) = pieces byte p

@@ -49,25 +49,28 @@ RepairsText {B = B} {C = C} lexes errors_of IsWhole result =
     IfOk result (λ answer. (lexed : List (Result B C)) × lexes lexed
     × MatchOption (first_error lexed) (All ListsRepair (errors_of answer) × IsWhole answer) (λ error. errors_of answer ≡ LexError error ∷ []))
 
--- the same for a parse to errors and a value
+-- a parse to errors and a value: unless the text has a lexing error, each error lists a repair, and there is a value
 abbrev pub HasValueOfText : {V S L B C Z F : Type 0} → (List (Result B C) → Type 0) → Result (Option V × Vec (LexParseError S L B C) Z) F → Type 0
 HasValueOfText lexes result = RepairsText lexes (λ answer. answer.1.items) (λ answer. IsSome answer.0) result
 
--- and for a parse to errors alone
+-- a parse to errors alone: unless the text has a lexing error, each error lists a repair
 abbrev pub HasRepairsOfText : {S L B C Z F : Type 0} → (List (Result B C) → Type 0) → Result (Vec (LexParseError S L B C) Z) F → Type 0
 HasRepairsOfText lexes result = RepairsText lexes (λ errors. errors.items) (λ errors. Unit {0}) result
 
--- each result that such a parse may have is as above; `S` is the storage type and `L` the type of the types of a lexer
+-- Each result that a parse to errors and a value may have is one by `HasValueOfText`. `S` is the storage type, and `L` the type of the
+-- types of a lexer.
 abbrev pub EachHasValue : {V B C : Type 0} → (S L : Type 0) → Subject B → (List (Result B C) → Type 0) → (Tree B → V → Type 0) → Type 0
 EachHasValue {V} {B} {C} S L about lexes Evaluates =
     (result : Result (Option V × Vec (LexParseError S L B C) Global) ParseFault) → ParsesTo about lexes Evaluates result → HasValueOfText lexes result
 
--- the same for a parse to a value or an error
+-- Each result that a parse to a value or an error may have is one by `HasValueOfText`. `S` is the storage type, and `L` the type of the
+-- types of a lexer.
 abbrev pub EachOutcomeHasValue : {V E B C : Type 0} → (S L : Type 0) → Subject B → (List (Result B C) → Type 0) → (ParseFault → E → Type 0) → (Tree B → Result V E → Type 0) → Type 0
 EachOutcomeHasValue {V} {E} {B} {C} S L about lexes converts Evaluates =
     (result : Result (Option V × Vec (LexParseError S L B C) Global) E) → ParsesToValue about lexes converts Evaluates result → HasValueOfText lexes result
 
--- and for one to errors alone
+-- Each result that a parse to errors alone may have is one by `HasRepairsOfText`. `S` is the storage type, and `L` the type of the types
+-- of a lexer.
 abbrev pub EachHasRepairs : {B C : Type 0} → (S L : Type 0) → Subject B → (List (Result B C) → Type 0) → Type 0
 EachHasRepairs {B} {C} S L about lexes =
     (result : Result (Vec (LexParseError S L B C) Global) ParseFault) → ParsesToErrors about lexes result → HasRepairsOfText lexes result

@@ -17,11 +17,11 @@ pub record Parser (R : Type 0) : Type 0 where
 abbrev pub with_recoverer : {R Q : Type 0} → Parser R → Q → Parser Q
 with_recoverer parser recoverer = record { checked = parser.checked; recoverer = recoverer; shifts = parser.shifts }
 
--- it is the parser, and this number of lexemes must follow a repair
+-- the parser is the old one, but that this number of lexemes must follow a repair
 abbrev pub IsWithShifts : {R : Type 0} → Parser R → ℕ → Parser R → Type 0
 IsWithShifts parser count = λ new. new ≡ record parser { shifts = count }
 
--- it is the parser as it was
+-- the parser is as it was
 abbrev pub IsUnchanged : {R : Type 0} → Parser R → Parser R → Type 0
 IsUnchanged parser = λ new. new ≡ parser
 

@@ -12,12 +12,12 @@ pub record IsChoice {S : Type 0} (index : S → ℕ) (rests : Form → ℕ → L
   pub no_more : choice.place ≤ place
   pub is : (d : List PlainStep) → slice_index_or all place d ≡ plain_step index choice.step ∷ slice_index_or (rests choice.form choice.node) choice.place d
 
--- it is below the bound, if there is one
+-- the number is below the bound, if there is a bound
 abbrev pub IsBelow : ℕ → Option ℕ → Type 0
 IsBelow reach None = Unit {0}
 IsBelow reach (Some bound) = reach < bound
 
--- the number above it
+-- the number above a place, or 0 without one
 abbrev pub above : Option ℕ → ℕ
 above None = 0
 above (Some reach) = reach + 1

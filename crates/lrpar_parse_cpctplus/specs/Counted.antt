@@ -56,7 +56,7 @@ IsLayer rests layer =
     (u : ℕ) → MatchOption (get nat_eq layer.counts u) ((form : Form) → rests form u ≡ [])
     (λ counts. AreCounts (λ form. rests form u) counts × Contains layer.nodes.items u)
 
--- it has them at some of these nodes
+-- the layer has the numbers at some of the nodes at which anything begins, and at no others
 abbrev pub IsPartOfLayer : (Form → ℕ → List (List PlainStep)) → Layer → Type 0
 IsPartOfLayer rests layer =
     (u : ℕ) → MatchOption (get nat_eq layer.counts u) (Unit {0}) (λ counts. AreCounts (λ form. rests form u) counts × Contains layer.nodes.items u)

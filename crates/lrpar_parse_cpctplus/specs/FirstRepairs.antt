@@ -14,7 +14,7 @@ pub record PlainGraph : Type 0 where
   pub links : List PlainLink
   pub endings : List PlainEnding
 
--- it is that of the configurations that are nearer than c, the least cost of a repair
+-- the graph is that of the configurations that are nearer than c, the least cost of a repair
 pub record IsGraphAt {X : Type 0} (token : X → ℕ) (costs : List ℕ) (at : Asked X) (c : ℕ) (nodes : List Configured) (graph : PlainGraph) : Type 0 where
   pub stop : IsStop token at
   pub costs_of_tokens : AreCosts costs

@@ -27,15 +27,16 @@ pub record Settings : Type 0 where
 abbrev pub settings_with : ℕ → List ℕ → Settings
 settings_with limit costs = record { limit = limit; costs = costs; avoided = []; most = 100; lists_all = false }
 
--- it is set with these costs, and nothing else is set
+-- the settings have this limit and these costs, and nothing else is set
 abbrev pub HasCosts : {A : Type 0} → ℕ → Vec ℕ A → Settings → Type 0
 HasCosts limit costs = λ settings. settings ≡ settings_with limit costs.items
 
--- nothing but its costs is set
+-- nothing but the limit and the costs is set
 abbrev pub HasOnlyCosts : ℕ → Settings → Type 0
 HasOnlyCosts limit = λ settings. settings ≡ settings_with limit settings.costs
 
--- it has what the function says that the tokens of the grammar cost; `index` gives the number of a value of the storage type
+-- the settings have as costs what the function says that the tokens of the grammar cost; `index` gives the number of a value of the
+-- storage type
 abbrev pub HasSaidCosts : {S : Type 0} → (S → ℕ) → (TIdx S → ℕ → Type 0) → Grammar → Settings → Type 0
 HasSaidCosts index says g = λ settings. AreSaid (said_by index says) (tokens_len g) settings.costs
 

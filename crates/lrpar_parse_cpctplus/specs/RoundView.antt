@@ -96,7 +96,7 @@ module _ {S X : Type 0} (index : S → ℕ) (parts : X → LexemeParts S) (searc
     pub held : IfSome reached (IsHeldBy search new)
     pub leads : LeadsOn (token_by index parts) search.point.now (configured_at old.stacks at) (plain_step index step) (option_map (configured_at new.stacks) reached)
 
-  -- it says whether a parse can go on from the configuration
+  -- the answer says whether a parse can go on from the configuration
   abbrev pub TellsGoingOn : Shared → Configuration → Bool → Type 0
   TellsGoingOn stacks at goes_on = IsTrue goes_on ↔ GoesOnFrom (token_by index parts) search.point.now (configured_at stacks.stacks at)
 

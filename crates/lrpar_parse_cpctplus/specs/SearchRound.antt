@@ -81,7 +81,7 @@ module _ {X : Type 0} (token : X → ℕ) (at : Asked X) where
   IsReach u step None = (v : Configured) → IsEdge token at u step v → ¬ (GoesOnFrom token at v)
   IsReach u step (Some far) = EndsAt u step far
 
-  -- it is the last step of repairs, if it is one of these steps
+  -- the last step of repairs is one of these steps, and a parse can go on after it
   abbrev pub IsEndingOf : List Configured → List PlainAttempt → PlainEnding → Type 0
   IsEndingOf nodes attempts ending =
       Contains attempts (record { from = ending.from; step = ending.step })
@@ -197,10 +197,10 @@ module _ {X : Type 0} (token : X → ℕ) (costs : List ℕ) (at : Asked X) wher
 abbrev pub IsThis : ℕ → PlainStep → ℕ → PlainStep → Type 0
 IsThis from step other other_step = (other ≡ from) × (other_step ≡ step)
 
--- it is among these
+-- the step from the configuration with this number is among these steps
 abbrev pub IsAmong : List PlainAttempt → ℕ → PlainStep → Type 0
 IsAmong attempts from step = Contains attempts (record { from = from; step = step })
 
--- it is a Shift from one with a number in this range
+-- the step is a Shift from a configuration with a number in this range
 abbrev pub IsShiftWithin : ℕ → ℕ → ℕ → PlainStep → Type 0
 IsShiftWithin first next from step = (first ≤ from) × (from < next) × (step ≡ PlainShift)

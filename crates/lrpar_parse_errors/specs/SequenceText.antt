@@ -48,7 +48,7 @@ RepairFits span input (Inserted t) = Unit {0}
 RepairFits span input (Deleted x) = IsPartOf input (span x)
 RepairFits span input (Shifted x) = IsPartOf input (span x)
 
--- the same for a printed part
+-- the part of the input that a printed part names starts and ends between two characters of the input
 abbrev pub PartFits : List ℕ → Part → Type 0
 PartFits input (Inserts t) = Unit {0}
 PartFits input (Deletes span) = IsPartOf input span

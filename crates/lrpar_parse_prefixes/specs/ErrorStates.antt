@@ -27,20 +27,21 @@ use Rattle.lrpar_parse_prefixes.specs.ViableLaws.{OverBuiltTables, OverCompleteB
 abbrev pub ActsOnlyAsFollows : Grammar → Table → List ℕ → List ℕ → Type 0
 ActsOnlyAsFollows g table st front = (s t : ℕ) → top_of st ≡ Some s → action_of table s t ≢ Fails → CanFollow g front t
 
--- it has an action at exactly the tokens that can come after these
+-- the top of the stack has an action at exactly the tokens that can come after these
 abbrev pub ActsAsFollows : Grammar → Table → List ℕ → List ℕ → Type 0
 ActsAsFollows g table st front = (s t : ℕ) → top_of st ≡ Some s → (action_of table s t ≢ Fails) ↔ CanFollow g front t
 
--- So acts the top of each stack to which a run without repairs feeds lexemes, and that of each error point, which is the stack after
--- all reductions at the token of the lexeme there
+-- A run without repairs feeds lexemes to stacks and stops at error points, each with the stack after all reductions at its lexeme. The
+-- tops of all these stacks have actions only at tokens that can come after the lexemes before
 pub record ActionsKeepToSentences {X : Type 0} (token : X → ℕ) (g : Grammar) (table : Table) : Type 0 where
   pub fed : (lexemes : List X) (i : ℕ) (st : List ℕ) → FeedsFront token g table lexemes i st
       → ActsOnlyAsFollows g table st (map token (take i lexemes))
   pub stop : (lexemes : List X) (prods : List ℕ) (stop : Stop) → RunsTo token g table lexemes prods (Stopped stop)
       → ActsOnlyAsFollows g table stop.stack (map token (take stop.place lexemes))
 
--- The same with exactly the tokens that can come; at error points, if no lexeme has the end token. And then an error is found before
--- any reduction: the stack of an error point is the one to which the lexemes before it are fed
+-- The tops of all these stacks have actions at exactly the tokens that can come after the lexemes before; at error points, if no lexeme
+-- has the end token. And then an error is found before any reduction: the stack of an error point is the one to which the lexemes before
+-- it are fed
 pub record ActionsFollowSentences {X : Type 0} (token : X → ℕ) (g : Grammar) (table : Table) : Type 0 where
   pub fed : (lexemes : List X) (i : ℕ) (st : List ℕ) → FeedsFront token g table lexemes i st
       → ActsAsFollows g table st (map token (take i lexemes))

@@ -20,7 +20,7 @@ pub record Stacked (E : Type 0) : Type 0 where
 abbrev pub begun : {E : Type 0} → ℕ → Stacked E
 begun state = record { states = state ∷ []; entries = [] }
 
--- The same by a state of the code. `index` gives the number of a value of the storage type.
+-- the stacks have this state, as it is stored, and no entry; `index` gives the number of a value of the storage type
 abbrev pub HasBegun : {S E : Type 0} → (S → ℕ) → StIdx S → Stacked E → Type 0
 HasBegun index state stacks = stacks ≡ begun (index state.0)
 

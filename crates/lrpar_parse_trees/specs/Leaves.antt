@@ -10,19 +10,19 @@ use Rattle.lrpar_parse_trees.specs.Nested.{bracket_leaf, json_leaf, json_place, 
 use Rattle.lrpar_parse_trees.specs.declared.form.Form.{Form}
 use Rattle.lrpar_parse_trees.specs.declared.node_parts.Leaf.{Leaf}
 
--- it has the name of the lexeme's token
+-- the leaf has the name of the lexeme's token
 abbrev pub HasNameOf : {S : Type 0} → (S → ℕ) → Grammar → LexemeParts S → Leaf → Type 0
 HasNameOf index g x = λ leaf. token_name g (index x.token) ≡ Some leaf.name.now
 
--- it has the lexeme's part of the input
+-- the leaf has the lexeme's part of the input
 abbrev pub HasTextOf : {S : Type 0} → List ℕ → LexemeParts S → Leaf → Type 0
 HasTextOf input x = λ leaf. leaf.text.now ≡ slice_range input x.span.start x.span.end
 
--- it starts and ends where the lexeme does
+-- the leaf starts and ends where the lexeme does
 abbrev pub HasPlaceOf : {S : Type 0} → LexemeParts S → Leaf → Type 0
 HasPlaceOf x = λ leaf. (leaf.start ≡ x.span.start) × (leaf.end ≡ x.span.end)
 
--- it is faulty where the lexeme is
+-- the leaf is faulty if the lexeme is
 abbrev pub IsFaultyAs : {S : Type 0} → LexemeParts S → Leaf → Type 0
 IsFaultyAs x = λ leaf. leaf.is_faulty ≡ x.faulty
 

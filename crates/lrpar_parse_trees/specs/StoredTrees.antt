@@ -20,7 +20,7 @@ module _ {S X : Type 0} (index : S → ℕ) (parts : X → LexemeParts S) (g : G
   abbrev pub FitsIn : Node X S → Type 0
   FitsIn tree = TreeFits (λ x. facts_of index (parts x)) index g input tree
 
-  -- those of the trees do
+  -- all nodes of the trees fit
   abbrev pub FitIn : List (Node X S) → Type 0
   FitIn trees = AllByRecursion (MetFits (λ x. facts_of index (parts x)) index g input) (all_met 1 trees)
 
@@ -28,7 +28,7 @@ module _ {S X : Type 0} (index : S → ℕ) (parts : X → LexemeParts S) (g : G
   abbrev pub RootFits : ℕ → Node X S → Type 0
   RootFits level tree = MetFits (λ x. facts_of index (parts x)) index g input (root_at level tree)
 
-  -- it fits at the level that the spaces of a line give
+  -- the root of the tree fits at the level that the spaces of a line give
   abbrev pub RootFitsAfter : {A : Type 0} → String A → Node X S → Type 0
   RootFitsAfter line tree = RootFits (length (string_bytes line)) tree
 

@@ -79,7 +79,7 @@ IsBuildRefusal g most limit Memory = Unit {0}
 abbrev pub AreBuilt : Grammar → Graph × Table → Type 0
 AreBuilt g built = IsBuilt g built.0 built.1
 
--- the same, by the precedences
+-- a graph and a table that are built for the grammar, by the precedences
 abbrev pub AreBuiltBy : Grammar → PrecedenceLists → Graph × Table → Type 0
 AreBuiltBy g precedences built = IsBuiltBy g precedences built.0 built.1
 

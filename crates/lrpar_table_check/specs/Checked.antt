@@ -26,7 +26,7 @@ pub record IsChecked (d : Checked) : Type 0 where
 abbrev pub HasBounds : Checked → Type 0
 HasBounds d = IsBounded d.grammar d.table d.cap
 
--- the same without a cap, and why it is refused
+-- a grammar with a graph and a table that were refused, and why
 pub record Unchecked : Type 0 where
   pub fault : CheckFault
   pub grammar : Grammar

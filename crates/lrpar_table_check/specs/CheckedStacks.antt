@@ -118,7 +118,7 @@ AreExpectedOver index d overlay tokens = AreExpected d.grammar d.table (overlaid
 abbrev pub FailsToList : {S : Type 0} → (S → ℕ) → Checked → List (StIdx S) → Type 0
 FailsToList index d states = IsListShortOfMemory d.grammar d.table (states_of index states)
 
--- or at the stack that the overlay represents
+-- an allocation failed while the tokens were listed that may come next at the stack that the overlay represents
 abbrev pub FailsToListOver : Checked → Overlaid → Type 0
 FailsToListOver d overlay = IsListShortOfMemory d.grammar d.table (overlaid overlay)
 
@@ -126,7 +126,7 @@ FailsToListOver d overlay = IsListShortOfMemory d.grammar d.table (overlaid over
 abbrev pub IsWhetherExpected : {S : Type 0} → (S → ℕ) → Checked → List ℕ → TIdx S → Bool → Type 0
 IsWhetherExpected index d st t answer = IsTrue answer ↔ IsExpected d.grammar d.table st (index t.0)
 
--- the same at the stack of these states
+-- the answer is whether the token may come next at the stack of these states
 abbrev pub IsWhetherExpectedOn : {S : Type 0} → (S → ℕ) → Checked → List (StIdx S) → TIdx S → Bool → Type 0
 IsWhetherExpectedOn index d states t answer = IsWhetherExpected index d (states_of index states) t answer
 

@@ -27,7 +27,7 @@ by_levels Greater kind = Reduce
 abbrev pub against : Precedence → Precedence → Resolution
 against prod token = by_levels (nat_cmp prod.level token.level) token.kind
 
--- the same, if both have a precedence; otherwise nothing is decided
+-- what a production's precedence against a token's decides, if both have one; otherwise nothing is decided
 abbrev pub decided : Option Precedence → Option Precedence → Option Resolution
 decided (Some prod) (Some token) = Some (against prod token)
 decided (Some prod) None = None

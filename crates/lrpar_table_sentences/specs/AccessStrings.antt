@@ -58,7 +58,8 @@ pub record IsShortestAccess (g : Grammar) (graph : Graph) (most s len : ℕ) : T
   pub least : (symbols : List GrammarSymbol) (trees : Forest ℕ) → IsPathTo g graph s symbols → AreTreesOf g symbols trees
       → len ≤ forest_width trees
 
--- the same if there is such a path; none if the symbols of no path all have trees
+-- the least number of tokens that trees of the symbols of any path to state s have, capped at `most`; none if no path has trees of all its
+-- symbols
 abbrev pub IsShortestAccessIfAny : Grammar → Graph → ℕ → ℕ → Option ℕ → Type 0
 IsShortestAccessIfAny g graph most s None = (symbols : List GrammarSymbol) (trees : Forest ℕ) → IsPathTo g graph s symbols → ¬ (AreTreesOf g symbols trees)
 IsShortestAccessIfAny g graph most s (Some len) = IsShortestAccess g graph most s len

@@ -54,7 +54,7 @@ pub record AreRight (g : Grammar) (most : ℕ) (choices : List (Option ChoiceOf)
   pub trees : (r : ℕ) (x : ChoiceOf) → choice_at choices r ≡ Some x
       → (tree : Tree ℕ) × Follows g choices tree (Nonterminal r) × (min (width tree) most ≡ x.len)
 
--- it is right, and something is kept of each rule that has a tree
+-- what is kept of rules is right, and something is kept of each rule that has a tree
 pub record AreShortest (g : Grammar) (most : ℕ) (choices : List (Option ChoiceOf)) : Type 0 where
   pub right : AreRight g most choices
   pub all : (r : ℕ) → choice_at choices r ≡ None → (tree : Tree ℕ) → ¬ (IsTreeOf g (Nonterminal r) tree)

@@ -53,7 +53,7 @@ Begins g choices symbol old new before after derives =
     (tree : Tree ℕ) (rest : List MoveOf) → Follows g choices tree symbol → Unfold g choices old rest
     → IsTrue derives × ((todo : List MoveOf) × Unfold g choices new todo × (after ++ todo ≡ before ++ (moves_of tree ++ rest)))
 
--- the same of the code's frames and moves, in each grammar
+-- what is left to be made once a symbol is begun, of frames and moves as they are stored, in each grammar
 abbrev pub BeginsSymbol : {S A B : Type 0} → (S → ℕ) → List (Option (Choice S)) → Symbol S → Vec (Frame S) A → Vec (Frame S) A
     → Vec (Move S) B → Vec (Move S) B → Bool → Type 0
 BeginsSymbol index choices symbol old new before after = λ derives.

@@ -23,7 +23,7 @@ pub record IsShortestLen (g : Grammar) (most : ℕ) (symbols : List GrammarSymbo
   pub some : (trees : Forest ℕ) × AreTreesOf g symbols trees × (min (forest_width trees) most ≡ len)
   pub least : (trees : Forest ℕ) → AreTreesOf g symbols trees → len ≤ forest_width trees
 
--- the same if there are such trees; none if there are none
+-- the length of the symbols' minimal sentences, capped at `most`; none if the symbols have no trees
 abbrev pub IsShortestIfAny : Grammar → ℕ → List GrammarSymbol → Option ℕ → Type 0
 IsShortestIfAny g most symbols None = (trees : Forest ℕ) → ¬ (AreTreesOf g symbols trees)
 IsShortestIfAny g most symbols (Some len) = IsShortestLen g most symbols len
