@@ -10,7 +10,7 @@ ALONE = re.compile(
     r"(?:^|[.!?] )(?:The|the) same(?:$|[,.:;]| (?:by|with|without|for|of|as|if|over|at|after|before|in|on|but|when|where|to|from|and)\b)"
 )
 # An auditor reads a definition as a row of a table, without the rows above: its comment doesn't lean on them.
-POINTS_BACK = re.compile(r"(?:the same|it|they|and|or|nor|such|so(?! far| many))\b", re.I)
+POINTS_BACK = re.compile(r"(?:the same|it|they|those|and|or|nor|such|so)\b", re.I)
 
 
 def comments(path):

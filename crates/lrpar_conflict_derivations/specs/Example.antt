@@ -68,7 +68,8 @@ pub record ExamplesOf : Type 0 where
   pub shortest : List (Option ChoiceOf)
   pub access : List (Option AccessOf)
 
--- they are those of a table that was built of a grammar whose reachable rules are productive; numbers of tokens are exact up to `most`
+-- the parts of counterexamples are those of a table that was built of a grammar whose reachable rules are productive; numbers of tokens
+-- are exact up to `most`
 pub record AreExamplesFor (g : Grammar) (graph : Graph) (table : Table) (most : ℕ) (x : ExamplesOf) : Type 0 where
   pub firsts : AreFirsts g x.firsts
   pub shortest : AreShortest g most x.shortest

@@ -347,7 +347,7 @@ AreMarked index g found = AreMarkedOf index (rules_len g) found
 abbrev pub HasMarks : {S : Type 0} → (S → ℕ) → Found S → Type 0
 HasMarks index found = AreMarkedOf index (length found.any.items) found
 
--- they still are
+-- the rules with links are still marked
 abbrev pub KeepsMarks : {S : Type 0} → (S → ℕ) → Found S → Found S → Type 0
 KeepsMarks index old new = AreMarkedOf index (length old.any.items) new
 

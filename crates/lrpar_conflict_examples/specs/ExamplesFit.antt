@@ -45,10 +45,10 @@ LeftFit g = λ left. ExamplesFit g left.examples.items
 abbrev pub MergedFit : {S : Type 0} → Grammar → MergedConflicts S → Type 0
 MergedFit g = λ found. ExamplesFit g found.examples.items
 
--- the code's moves are those of a tree, whose text begins with the tokens
+-- the moves as they are stored are those of a tree, whose text begins with the tokens
 abbrev pub DeriveFrom : {S : Type 0} → (S → ℕ) → Grammar → List (TIdx S) → List (Move S) → Type 0
 DeriveFrom index g before moves = DerivesFrom g (token_numbers index before) (moves_in index moves)
 
--- so are those of the second derivation
+-- the moves of the second derivation are those of a tree, whose text begins with the access string
 abbrev pub SecondFits : Grammar → ExampleOf → Type 0
 SecondFits g x = DerivesFrom g x.before x.second

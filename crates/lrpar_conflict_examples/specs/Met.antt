@@ -112,11 +112,11 @@ StepKeepsMarks s next old new =
 abbrev pub MarksNext : List Bool → ℕ × ℕ → Type 0
 MarksNext marks edge = IsTrue (is_marked marks edge.0) → IsTrue (is_marked marks edge.1)
 
--- so does the step from state s to state next
+-- if state s is marked, so is state next
 abbrev pub MarksStep : ℕ → ℕ → List Bool → Type 0
 MarksStep s next marks = MarksNext marks (s, next)
 
--- so does each of these steps
+-- each of these steps whose first state is marked leads to a marked one
 abbrev pub AreClosed : List (ℕ × ℕ) → List Bool → Type 0
 AreClosed edges marks = All (MarksNext marks) edges
 
@@ -135,13 +135,15 @@ HasRoomOf old new = map (λ row. length row) new ≡ map (λ row. length row) ol
 abbrev pub AddsTokens : List (List Bool) → List (List Bool) → (ℕ → ℕ → Bool) → Type 0
 AddsTokens old new test = (s t : ℕ) → t < length (row_at old s) → has (row_at new s) t ≡ (has (row_at old s) t || test s t)
 
--- so many sets with room for this number of tokens, and without any
+-- there is this number of sets
 abbrev pub HasSets : {A : Type 0} → ℕ → Vec TokenSet A → Type 0
 HasSets len = λ sets. length sets.items ≡ len
 
+-- each set has room for this number of tokens
 abbrev pub HaveRoom : {A : Type 0} → ℕ → Vec TokenSet A → Type 0
 HaveRoom tokens = λ sets. All (λ row. length row ≡ tokens) (rows_of sets.items)
 
+-- each set is empty
 abbrev pub AreEmpty : {A : Type 0} → Vec TokenSet A → Type 0
 AreEmpty = λ sets. HoldNothing (rows_of sets.items)
 
@@ -205,10 +207,11 @@ abbrev pub conflicts_left : PrecedenceLists → ConflictLists → List ConflictO
 conflicts_left precedences lists =
     map of_reductions lists.reduce_reduce ++ map of_shift (unresolved precedences lists.shift_reduce)
 
--- those in states that are marked, and the others
+-- the conflicts in states that are marked
 abbrev pub marked_ones : List Bool → List ConflictOf → List ConflictOf
 marked_ones marks conflicts = filter (λ (x : ConflictOf). is_marked marks x.state) conflicts
 
+-- the conflicts in states that aren't marked
 abbrev pub other_ones : List Bool → List ConflictOf → List ConflictOf
 other_ones marks conflicts = filter (λ (x : ConflictOf). not (is_marked marks x.state)) conflicts
 

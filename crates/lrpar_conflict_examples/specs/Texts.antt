@@ -58,7 +58,7 @@ pub record IsExampleText (g : Grammar) (x : ConflictExampleOf) (text : List ℕ)
   pub of_second : AreMovesOf g x.example.second second
   pub is : text ≡ example_text g x first second
 
--- such a text was added at the end
+-- the text of a counterexample was added at the end
 abbrev pub AppendsExample : {A : Type 0} → Grammar → ConflictExampleOf → String A → String A → Type 0
 AppendsExample g x old new = (text : List ℕ) × IsExampleText g x text × Appends old new text
 

@@ -45,7 +45,7 @@ IsRightSide index g prod symbols = map (symbol_of index) symbols ≡ symbols_of 
 abbrev pub IsListedIn : {S : Type 0} → (S → ℕ) → Grammar → Symbol S → Type 0
 IsListedIn index g symbol = IsListedSymbol (rules_len g) (end_token g) (symbol_of index symbol)
 
--- so is each symbol of the production's right side
+-- each symbol of the production's right side is a listed rule or a token other than the end token
 abbrev pub HasListedRightSide : {S : Type 0} → (S → ℕ) → Grammar → PIdx S → Type 0
 HasListedRightSide index g prod = All (IsListedSymbol (rules_len g) (end_token g)) (symbols_of g (index prod.0))
 

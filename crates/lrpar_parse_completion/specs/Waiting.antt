@@ -15,7 +15,7 @@ pub record LinkOf : Type 0 where
   pub prod : ℕ
   pub dot : ℕ
 
--- those of the code
+-- links as they are stored, with numbers for their rules and productions
 abbrev pub link_of : {S : Type 0} → (S → ℕ) → Link S → LinkOf
 link_of index link = record { rule = index link.rule.0; prod = index link.prod.0; dot = link.dot }
 
@@ -55,7 +55,8 @@ pub record AreWaiting (g : Grammar) (graph : Graph) (table : Table) (s : ℕ) (l
   pub own : (p k : ℕ) → IsOwnCore g graph table s p k → HasRuleAfter g links p k
   pub closed : (r : ℕ) → Contains (rules_in links) r → IsClosedAt g links r
 
--- those of the code, for this state of a checked table
+-- the stored links have the rules after the dots of the state's own cores in a checked table, and with a rule each one that its
+-- productions begin with
 abbrev pub AreWaitingIn : {S A : Type 0} → (S → ℕ) → Checked → StIdx S → Vec (Link S) A → Type 0
 AreWaitingIn index d state links = AreWaiting d.grammar d.graph d.table (index state.0) (links_of index links.items)
 

@@ -38,7 +38,7 @@ pub record AddsNode (node : ℕ) (counts : Counts) (old new : Layer) : Type 0 wh
   pub got : (u : ℕ) → get nat_eq new.counts u ≡ cond (node == u) (Some counts) (get nat_eq old.counts u)
   pub listed : new.nodes.items ≡ old.nodes.items ++ node ∷ []
 
--- as many as there are, or as many as a machine number can say
+-- the length of a list, or the greatest number of 64 bits if it is longer
 abbrev pub counted : {A : Type 0} → List A → ℕ
 counted xs = min (length xs) (2 ^ 64 - 1)
 

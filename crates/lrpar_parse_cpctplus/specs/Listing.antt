@@ -48,7 +48,7 @@ KeepsOthers old = λ new. new ≡ record old { avoided = new.avoided }
 abbrev pub AreAvoided : List Bool → List ℕ → Type 0
 AreAvoided avoided tokens = (t : ℕ) → IsTrue (slice_index_or avoided t false) ↔ Contains tokens t
 
--- so is this one, by its number, in addition to those that were before
+-- this token is to be avoided, too, by its number, and all that were before
 abbrev pub AvoidsAlso : ℕ → List Bool → List Bool → Type 0
 AvoidsAlso token old new = (t : ℕ) → IsTrue (slice_index_or new t false) ↔ (IsTrue (slice_index_or old t false) ⊎ (t ≡ token))
 
@@ -68,9 +68,9 @@ AreAlike avoided xs ys = InsertsAvoided avoided xs ↔ InsertsAvoided avoided ys
 pub data IsPreferred (avoided : List Bool) (xs ys : List PlainStep) : Type 0 where
   -- only the other inserts a token that is to be avoided
   avoids : ¬ (InsertsAvoided avoided xs) → InsertsAvoided avoided ys → IsPreferred avoided xs ys
-  -- they are alike in that, and it has fewer steps
+  -- both insert such a token, or none does, and the first has fewer steps
   is_shorter : AreAlike avoided xs ys → length xs < length ys → IsPreferred avoided xs ys
-  -- or as many, and it is earlier
+  -- both insert such a token, or none does, and they have as many steps; the first is earlier
   is_earlier : AreAlike avoided xs ys → length xs ≡ length ys → IsEarlier xs ys → IsPreferred avoided xs ys
 
 -- one repair is listed before another: a parse goes on further after it; or as far, and it is preferred

@@ -15,7 +15,7 @@ module _ (avoided : List Bool) (end : ℕ) (next : ℕ → List PlainLink) where
   rests zero form u = cond ((u == end) && allows_none form.class) ([] ∷ []) []
   rests (suc s) form u = flat_map (λ link. map (λ steps. link.step ∷ steps) (rests s (form_after avoided form link.step) link.to)) (next u)
 
-  -- those of a class with fewer than n steps from the error point, those of fewer steps first
+  -- the rests of a class with fewer than n steps from the error point, those of fewer steps first
   abbrev pub shorter : Class → ℕ → List (List PlainStep)
   shorter class zero = []
   shorter class (suc n) = shorter class n ++ rests n (form_of class false) 0

@@ -59,7 +59,7 @@ module _ {S X : Type 0} (search : Search S X) where
   abbrev pub IsHeldBy : Shared → Configuration → Type 0
   IsHeldBy stacks at = IsHeld search.point.now.checked.table (length search.point.now.lexemes) stacks.stacks at
 
-  -- so does each of the graph's
+  -- each configuration of the graph has a stack of the table, and its place isn't past the last lexeme
   abbrev pub AreHeldBy : Shared → Graph S → Type 0
   AreHeldBy stacks graph = AreHeld search.point.now.checked.table (length search.point.now.lexemes) stacks.stacks graph.configurations.keys
 
@@ -104,7 +104,7 @@ module _ {S X : Type 0} (index : S → ℕ) (parts : X → LexemeParts S) (searc
   abbrev pub ReachesBy : Shared → Configuration → ℕ → Type 0
   ReachesBy stacks at far = ReachesFrom (token_by index parts) search.point.now (configured_at stacks.stacks at) far
 
-  -- so far it goes on after the step, if it can
+  -- the place to which a parse goes on after the step; none if it can't go on, or the step can't be taken
   abbrev pub IsReachBy : Shared → Configuration → RepairStep S → Option ℕ → Type 0
   IsReachBy stacks at step far = IsReach (token_by index parts) search.point.now (configured_at stacks.stacks at) (plain_step index step) far
 
@@ -161,13 +161,13 @@ module _ {S X : Type 0} (index : S → ℕ) (parts : X → LexemeParts S) (searc
     pub within : IsWithinLimit search graph
     pub least : IsNextLeast (length graph.firsts.items - 1)
 
-  -- the step is to be added to it
+  -- the step is to be added to the graph
   abbrev pub IsDueBy : Shared → Graph S → ℕ → ℕ → RepairStep S → Type 0
   IsDueBy stacks graph first from step =
       IsDue (token_by index parts) search.terms.now.costs search.point.now first (length graph.firsts.items - 1) (nodes_of stacks graph) (plain_links index graph.links.items)
       from (plain_step index step)
 
-  -- and so are these, each once
+  -- the steps are to be added to the graph, each once
   pub record AreDueBy (stacks : Shared) (graph : Graph S) (first : ℕ) (attempts : List (Attempt S)) : Type 0 where
     pub each : (x : PlainAttempt) → Contains (plain_attempts index attempts) x
         → IsDue (token_by index parts) search.terms.now.costs search.point.now first (length graph.firsts.items - 1) (nodes_of stacks graph)

@@ -76,7 +76,7 @@ module _ {X : Type 0} (token : X → ℕ) (at : Asked X) where
     pub goes_on : GoesOnFrom token at head
     pub reach : ReachesFrom head far
 
-  -- so far a parse goes on after the step; or it can't go on, or the step can't be taken
+  -- the place to which a parse goes on after the step; none if it can't go on, or the step can't be taken
   abbrev pub IsReach : Configured → PlainStep → Option ℕ → Type 0
   IsReach u step None = (v : Configured) → IsEdge token at u step v → ¬ (GoesOnFrom token at v)
   IsReach u step (Some far) = EndsAt u step far

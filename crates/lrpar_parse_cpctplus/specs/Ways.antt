@@ -17,7 +17,7 @@ FitsAfter deleted (PlainInsert t) = deleted ≡ false
 FitsAfter deleted PlainDelete = Unit {0}
 FitsAfter deleted PlainShift = Unit {0}
 
--- so may the steps, each after the one before it
+-- each of the steps may come after the one before it
 abbrev pub FitAfter : Bool → List PlainStep → Type 0
 FitAfter deleted [] = Unit {0}
 FitAfter deleted (step ∷ steps) = FitsAfter deleted step × FitAfter (is_delete step) steps

@@ -41,7 +41,7 @@ RespectfulTreesAreTaken X =
     → IsBuiltBy g precedences graph table → IsOperatorGrammar g precedences → (tree : Tree X) → Fits token g tree (Nonterminal g.start)
     → IsRespectful g precedences tree → RunsTo token g table (leaves tree) (productions tree) Accepted
 
--- so there are no two of them with the same leaves
+-- over an operator grammar, no two such trees have the same leaves
 abbrev pub RespectfulTreesAreOne : Type 0 → Type 0
 RespectfulTreesAreOne X =
     (token : X → ℕ) (precedences : PrecedenceLists) (g : Grammar) (graph : Graph) (table : Table) → IsWellFormed g → IsClosed table

@@ -95,7 +95,7 @@ pub record RespectsRepaired {X : Type 0} (token : X → ℕ) (precedences : Prec
   pub first : ShiftsOrFails (resolution_of precedences p b) → NoneIsError table.resolved → EachReachableHasTree g → KeepOffEnd token g lexemes
       → HasNoneFirst p q tree
 
--- and so do the trees of any runs; `allows` says which answers the recoverer may give at an error point
+-- the trees of any runs respect the precedences; `allows` says which answers the recoverer may give at an error point
 abbrev pub RepairedTreesRespectPrecedences : {X : Type 0} → (X → LexemeFacts) → (Point X → List (List PlainStep) → Type 0) → Type 0
 RepairedTreesRespectPrecedences {X} facts allows =
     (k : ℕ) (precedences : PrecedenceLists) (g : Grammar) (graph : Graph) (table : Table) → IsWellFormed g → IsClosed table

@@ -27,7 +27,7 @@ module _ {X : Type 0} (facts : X → LexemeFacts) (allows : Point X → List (Li
       → RepairRun facts allows k g table lexemes (table.start ∷ []) 0 (first ∷ later) consumed prods
       → BeginSentence g (map (λ x. (facts x).token) (take first.stop.place lexemes))
 
-  -- nor does the first error point come too early, if the table is complete: it is the place at which the lexemes go wrong
+  -- if the table is complete, no first error comes too early either: the first error point is the place at which the lexemes go wrong
   abbrev pub FirstErrorsAreExact : Type 0
   FirstErrorsAreExact =
       (k : ℕ) (g : Grammar) (graph : Graph) (table : Table) (lexemes : List X) (first : RepairStop) (later : List RepairStop)

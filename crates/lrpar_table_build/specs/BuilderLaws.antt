@@ -41,7 +41,7 @@ CanonicalTablesAreSafe =
     (g : Grammar) (graph : Graph) (table : Table) → IsWellFormed g → IsCanonical g graph → IsCanonicalTable g graph table
     → IsSafe g graph table
 
--- and so is a table of it whose conflicts precedences resolve
+-- a table of the canonical collection, with conflicts that precedences resolve, is safe
 abbrev pub TablesByPrecedenceAreSafe : Type 0
 TablesByPrecedenceAreSafe =
     (g : Grammar) (precedences : PrecedenceLists) (graph : Graph) (table : Table) → IsWellFormed g → IsCanonical g graph

@@ -88,7 +88,7 @@ module _ {X S : Type 0} (index : S → ℕ) (kind : stacks.Ghosts X S) (d : Chec
   abbrev pub FailsToSettle : {T E : Type 0} → Result T E → Type 0
   FailsToSettle result = OnErr result (IsStackShortOfMemory kind.states kind.reduces kind.fails d.grammar d.table (index t.0) old new)
 
--- those onto which shifts push: the relations `reduces` and `shifts` say what a reduction and a shift do to the rest
+-- stacks onto which shifts push: the relations `reduces` and `shifts` say what a reduction and a shift do to the rest
 module _ {X S : Type 0} (index : S → ℕ) (states : X → List ℕ) (reduces : X → ℕ → ℕ → ℕ → X → Type 0) where
   -- if nothing failed, then at the token the stack made all reductions, and then shifted the token; or its top doesn't shift it
   abbrev pub FeedsStack : {E : Type 0} → (X → X → Type 0) → Checked → TIdx S → X → X → Result Bool E → Type 0

@@ -79,7 +79,7 @@ module _ {S : Type 0} (index : S → ℕ) where
   abbrev pub cores_at : List (Bor (CoreItems S)) → List CoreSet
   cores_at cores = map (λ core. core_set index core.now) cores
 
-  -- those of the cores that are complete, in any order
+  -- these are the complete ones of the cores, in any order
   abbrev pub AreComplete : {A : Type 0} → Grammar → List (CoreItems S) → Vec (Bor (CoreItems S)) A → Type 0
   AreComplete g cores complete =
       IsPermutation (filter (λ core. core.dot == prod_len g core.prod) (map (core_set index) cores)) (cores_at complete.items)

@@ -20,7 +20,7 @@ MergedTablesByPrecedencesAreSafe =
     (g : Grammar) (lists : PrecedenceLists) (graph : Graph) (table : Table) (steps : ℕ → GrammarSymbol → Option ℕ) → IsWellFormed g
     → AreMerged g (graph_len graph) (sets_of graph) (Along steps) → IsMergedTableBy g lists graph table (Along steps) → IsSafe g graph table
 
--- and it is viable
+-- a table of merged item sets is viable, whatever precedences resolve its conflicts
 abbrev pub MergedTablesByPrecedencesAreViable : Type 0
 MergedTablesByPrecedencesAreViable =
     (g : Grammar) (lists : PrecedenceLists) (graph : Graph) (table : Table) (steps : ℕ → GrammarSymbol → Option ℕ)

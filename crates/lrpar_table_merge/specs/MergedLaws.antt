@@ -19,7 +19,7 @@ CanonicalSetsAreMerged =
     (g : Grammar) (graph : Graph) → IsWellFormed g → IsCanonical g graph
     → AreMerged g (graph_len graph) (sets_of graph) (CanonicalGoes g (graph_len graph) (sets_of graph))
 
--- so a table that is built of a grammar is a merged one
+-- a table that is built of a grammar is one of merged item sets
 abbrev pub BuiltTablesAreMerged : Type 0
 BuiltTablesAreMerged = (g : Grammar) (graph : Graph) (table : Table) → IsWellFormed g → IsBuilt g graph table → IsMerged g graph table
 

@@ -24,7 +24,7 @@ run_items [] runs = []
 run_items (core ∷ cores) [] = []
 run_items (core ∷ cores) (run ∷ runs) = core_items core run ++ run_items cores runs
 
--- those of them that are left from the core at a place on, and from one of its lookaheads on
+-- the items of cores that are left from a core on, by its index, and from one of its lookaheads on
 abbrev pub items_left : {S : Type 0} → List (PIdx S × ℕ) → List (List (TIdx S)) → ℕ → ℕ → List (PIdx S × ℕ × TIdx S)
 items_left [] runs place token = []
 items_left (core ∷ cores) [] place token = []

@@ -16,7 +16,7 @@ pub record ChoiceOf : Type 0 where
   pub len : ℕ
   pub prod : ℕ
 
--- those of the code
+-- choices as they are stored, with numbers for their productions
 abbrev pub choice_of : {S : Type 0} → (S → ℕ) → Choice S → ChoiceOf
 choice_of index x = record { len = x.len; prod = index x.prod.0 }
 
@@ -86,7 +86,7 @@ DecidesTree index choices rule answer = (g : Grammar) → AreShortest g MAX choi
 abbrev pub RightSoFar : {S : Type 0} → (S → ℕ) → Grammar → List (Option (Choice S)) → Type 0
 RightSoFar index g choices = AreRight g MAX (choices_of index choices)
 
--- and something is kept of each rule that has a tree
+-- what the code keeps of rules is right, and something is kept of each rule that has a tree
 abbrev pub AreSettled : {S : Type 0} → (S → ℕ) → Grammar → List (Option (Choice S)) → Type 0
 AreSettled index g choices = AreShortest g MAX (choices_of index choices)
 

@@ -16,11 +16,11 @@ pub record FrameOf : Type 0 where
   pub prod : ℕ
   pub dot : ℕ
 
--- that of the code
+-- a frame as it is stored, with a number for its production
 abbrev pub frame_of : {S : Type 0} → (S → ℕ) → Frame S → FrameOf
 frame_of index x = record { prod = index x.prod.0; dot = x.dot }
 
--- those of a stack of the code, whose top is the last one, the top first
+-- the frames of a stack as it is stored, the top first; there the top is the last one
 abbrev pub frames_of : {S : Type 0} → (S → ℕ) → List (Frame S) → List FrameOf
 frames_of index frames = reverse (map (frame_of index) frames)
 
@@ -28,7 +28,7 @@ frames_of index frames = reverse (map (frame_of index) frames)
 abbrev pub IsFrameOf : {S : Type 0} → (S → ℕ) → Grammar → Frame S → Type 0
 IsFrameOf index g x = index x.prod.0 < prods_len g
 
--- and so is that of each frame
+-- the production of each frame is one of the grammar
 abbrev pub AreFramesOf : {S A : Type 0} → (S → ℕ) → Grammar → Vec (Frame S) A → Type 0
 AreFramesOf index g frames = All (IsFrameOf index g) frames.items
 
@@ -80,7 +80,7 @@ AppendsTree index g choices symbol old new =
     (tree : Tree ℕ) → Follows g (choices_of index choices) tree (symbol_of index symbol)
     → moves_in index new.items ≡ moves_in index old.items ++ moves_of tree
 
--- and those of the trees that fit symbols
+-- the moves of the trees that follow the choices and fit the symbols are appended
 abbrev pub AppendsTrees : {S B : Type 0} → (S → ℕ) → Grammar → List (Option (Choice S)) → List (Symbol S) → Vec (Move S) B → Vec (Move S) B → Type 0
 AppendsTrees index g choices symbols old new =
     (trees : Forest ℕ) → ForestFollows g (choices_of index choices) trees (map (symbol_of index) symbols)

@@ -31,12 +31,12 @@ pub record IsUnproductive (g : Grammar) (r : ℕ) : Type 0 where
   pub reached : IsReachableRule g r
   pub none : ¬ (HasTree g r)
 
--- and each reachable rule before it is productive
+-- rule r is the first rule that is reachable and unproductive
 pub record IsFirstUnproductive (g : Grammar) (r : ℕ) : Type 0 where
   pub unproductive : IsUnproductive g r
   pub first : (other : ℕ) → other < r → IsReachableRule g other → HasTree g other
 
--- this is the first reachable rule that is unproductive; none if each one is productive
+-- this is the first rule that is reachable and unproductive; none if each reachable rule is productive
 abbrev pub IsFirstUnproductiveIfAny : {S : Type 0} → (S → ℕ) → Grammar → Option (RIdx S) → Type 0
 IsFirstUnproductiveIfAny index g found = MatchOption found (EachReachableHasTree g) (λ rule. IsFirstUnproductive g (index rule.0))
 

@@ -25,7 +25,7 @@ pub record StartOf : Type 0 where
   pub prod : ℕ
   pub place : ℕ
 
--- those of the code
+-- starts as they are stored, with numbers for their productions
 abbrev pub start_of : {S : Type 0} → (S → ℕ) → Start S → StartOf
 start_of index x = record { prod = index x.prod.0; place = x.place }
 
@@ -153,7 +153,7 @@ AppendsStart index g choices starts first symbol old new =
     (tree : Tree ℕ) → Starts g (choices_of index choices) (starts_of index starts) (index first.0) tree (symbol_of index symbol)
     → moves_in index new.items ≡ moves_in index old.items ++ moves_of tree
 
--- and those of trees of symbols, if they have a place at which the token can come
+-- the moves of trees of the symbols that begin with the token are appended, if there is a place in them at which the token can come
 abbrev pub AppendsStarts : {S B : Type 0} → (S → ℕ) → Grammar → List (Option (Choice S)) → List (Option (Start S)) → TIdx S → List (Symbol S)
     → Vec (Move S) B → Vec (Move S) B → Type 0
 AppendsStarts index g choices starts first symbols old new =
