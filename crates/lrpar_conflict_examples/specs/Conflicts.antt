@@ -18,15 +18,15 @@ pub record ConflictOf : Type 0 where
   pub first : MoveOf
   pub second : MoveOf
 
--- two reductions, of their productions
+-- a reduce/reduce conflict: the moves are two reductions
 abbrev pub of_reductions : ReduceReduce → ConflictOf
 of_reductions x = record { token = x.token; state = x.state; first = Makes x.first; second = Makes x.second }
 
--- a reduction of a production, and a shift of the token
+-- a shift/reduce conflict: the moves are a reduction and a shift of the token
 abbrev pub of_shift : ShiftReduce → ConflictOf
 of_shift x = record { token = x.token; state = x.state; first = Makes x.prod; second = Takes x.token }
 
--- a conflict of the code, and conflicts in order
+-- a conflict as it is stored, by its numbers, and conflicts in order
 abbrev pub unmet_of : {S : Type 0} → (S → ℕ) → UnmetConflict S → ConflictOf
 unmet_of index x = record { token = index x.token.0; state = index x.state.0; first = move_of index x.first; second = move_of index x.second }
 

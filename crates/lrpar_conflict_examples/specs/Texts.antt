@@ -29,7 +29,7 @@ count_text x = if x.ambiguous then codes "one text, two derivations" else bound_
 abbrev pub AddsCount : {A : Type 0} → ExampleOf → String A → String A → Type 0
 AddsCount x old new = Appends old new (count_text x)
 
--- the first line
+-- the first line of a counterexample: its token, its state, and how many texts the derivations have
 abbrev pub title_text : Grammar → ConflictExampleOf → List ℕ
 title_text g x = codes "'" ++ shown_name g x.conflict.token ++ codes "' in state " ++ decimal x.conflict.state ++ codes ": " ++ count_text x.example ++ 10 ∷ []
 
@@ -87,6 +87,6 @@ abbrev pub AreExampleTexts : Grammar → List ConflictExampleOf → List ℕ →
 AreExampleTexts g [] text = text ≡ []
 AreExampleTexts g (x ∷ xs) text = (own : List ℕ) × (others : List ℕ) × IsExampleText g x own × AreExampleTexts g xs others × (text ≡ own ++ others)
 
--- this is such a text
+-- the string has the texts of the counterexamples, one after the other
 abbrev pub ShowsExamples : {A : Type 0} → Grammar → List ConflictExampleOf → String A → Type 0
 ShowsExamples g examples = λ text. AreExampleTexts g examples (string_bytes text)

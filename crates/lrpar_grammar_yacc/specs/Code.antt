@@ -19,7 +19,7 @@ is_in_word c = (nat_le 97 c && nat_le c 122) || (nat_le 65 c && nat_le c 90) || 
 abbrev pub hashes_len : List ℕ → ℕ
 hashes_len s = prefix_len (λ c. c == 35) s
 
--- the byte c is that one, and not escaped
+-- the byte c is the byte `one`, and isn't escaped
 abbrev pub is_unescaped : Bool → ℕ → ℕ → Bool
 is_unescaped escaped c one = not escaped && (c == one)
 
@@ -94,7 +94,7 @@ abbrev pub opens : Run → ℕ → Bool
 opens Braced c = c == 123
 opens Typed c = (c == 40) || (c == 91) || (c == 123) || (c == 60)
 
--- their counterparts
+-- the brackets that close those
 abbrev pub closes : Run → ℕ → Bool
 closes Braced c = c == 125
 closes Typed c = (c == 41) || (c == 93) || (c == 125) || (c == 62)

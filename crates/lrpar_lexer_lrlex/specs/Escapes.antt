@@ -3,7 +3,7 @@ use Rattle.std.specs.Prelude.{◌≡◌, ℕ, ◌==◌, ◌&&◌, Bool, true, fa
 use Rattle.std.specs.Char.{is_ascii, is_ascii_alphabetic}
 use Rattle.regex_syntax.specs.Reading.{◌∈◌}
 
--- the character after a backslash has a meaning in `regex`, and in lrlex the same
+-- the character after a backslash has a meaning in `regex`, which is also its meaning in lrlex
 abbrev pub has_meaning : ℕ → Bool
 has_meaning c =
     if c ∈ "<>" then false

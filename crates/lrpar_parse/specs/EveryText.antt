@@ -82,25 +82,25 @@ module _ {S X R C : Type 0} (index : S → ℕ) (parts : X → LexemeParts S) (a
   abbrev RepairsAlways : Type 0
   RepairsAlways = AlwaysRepairs (token_by index parts) (allows parser.recoverer) parser.checked
 
-  -- a tree
+  -- each text has a tree, if the recoverer always repairs
   abbrev pub EachTextHasTree : Type 0
   EachTextHasTree = RepairsAlways → EachHasValue S L (subject index parts allows parser) lexes (Folds IsTerm (IsNonterm index) parser.checked.grammar)
 
-  -- errors that each list a repair, if there are any
+  -- each error of a parse for errors alone lists a repair, if the recoverer always repairs
   abbrev pub EachTextHasRepairs : Type 0
   EachTextHasRepairs = RepairsAlways → EachHasRepairs S L (subject index parts allows parser) lexes
 
-  -- a value that two functions make of the tree
+  -- each text has a value that two functions make of its tree, if the recoverer always repairs
   abbrev pub EachTextHasMapped : {V Y : Type 0} → (X → V → Type 0) → (RIdx S → Vec V Y → V → Type 0) → Type 0
   EachTextHasMapped fterm fnonterm =
       RepairsAlways → EachHasValue S L (subject index parts allows parser) lexes (Folds fterm (made_by index fnonterm) parser.checked.grammar)
 
-  -- a value that actions make of it
+  -- each text has a value that actions make of its tree, if the recoverer always repairs
   abbrev pub EachTextHasActed : {V K P : Type 0} → (ℕ → ℕ → K → Extent → List (AStackType X V) → P → V → Type 0) → (ℕ → V → Type 0) → K → P → Type 0
   EachTextHasActed answers fact lexer param =
       RepairsAlways → EachHasValue S L (subject index parts allows parser) lexes (IsActedValue (span_by parts) answers fact parser.checked.grammar lexer param)
 
-  -- a value that a caller's function makes of it, unless the result is an error of the function
+  -- each text has a value that a caller's function makes of its tree, if the recoverer always repairs and the function returns no error
   abbrev pub EachTextHasGiven : {V E K : Type 0} → (ParseFault → E → Type 0) → (ℕ → ValueArguments K X V → Result V E → Type 0) → K → Type 0
   EachTextHasGiven converts gives lexer =
       RepairsAlways → EachOutcomeHasValue S L (subject index parts allows parser) lexes converts (IsGivenValue (span_by parts) gives parser.checked.grammar lexer)

@@ -25,7 +25,7 @@ IsWithShifts parser count = λ new. new ≡ record parser { shifts = count }
 abbrev pub IsUnchanged : {R : Type 0} → Parser R → Parser R → Type 0
 IsUnchanged parser = λ new. new ≡ parser
 
--- what its parses are about; `parts` gives the parts of a lexeme, and `allows` says which answers a recoverer may give
+-- what the parser's parses are about; `parts` gives the parts of a lexeme, and `allows` says which answers a recoverer may give
 abbrev pub subject : {S X R : Type 0} → (S → ℕ) → (X → LexemeParts S) → (R → Asked X → List (List PlainStep) → Type 0) → Parser R → Subject X
 subject index parts allows parser =
     record {

@@ -60,7 +60,7 @@ Avoids index tokens = λ settings. AreAvoided settings.avoided (tokens_of index 
 abbrev pub InsertsAvoided : List Bool → List PlainStep → Type 0
 InsertsAvoided avoided steps = (t : ℕ) × IsTrue (slice_index_or avoided t false) × Has steps (PlainInsert t ∷ [])
 
--- either both sequences insert such a token, or none does
+-- either both sequences insert a token that is to be avoided, or none does
 abbrev pub AreAlike : List Bool → List PlainStep → List PlainStep → Type 0
 AreAlike avoided xs ys = InsertsAvoided avoided xs ↔ InsertsAvoided avoided ys
 
@@ -101,7 +101,7 @@ module _ {X : Type 0} (token : X → ℕ) (settings : Settings) (at : Asked X) w
   abbrev pub MayBeListed : ℕ → List PlainStep → Type 0
   MayBeListed c steps = RepairsAt token settings.costs at c steps × (IsTrue settings.lists_all ⊎ GoesFurthest c steps)
 
-  -- what is answered: the first repairs of least cost, if the limit allows to find that cost, and none otherwise
+  -- the answer is the first repairs of least cost, if the limit allows that cost to be found, and none otherwise
   pub record AreListed (answer : List (List PlainStep)) : Type 0 where
     pub first : (c : ℕ) → IsFoundAt c → AreFirst settings.most (MayBeListed c) (IsListedBefore token at settings.avoided) answer
     pub else : (answer ≡ []) ⊎ ((c : ℕ) × IsFoundAt c)

@@ -54,7 +54,7 @@ PartFits input (Inserts t) = Unit {0}
 PartFits input (Deletes span) = IsPartOf input span
 PartFits input (Shifts span) = IsPartOf input span
 
--- all repairs of a sequence fit
+-- the parts of the input that the repairs of a sequence name start and end between two characters of the input
 abbrev pub RepairsFit : {X : Type 0} → (X → Extent) → List ℕ → List (Repair X) → Type 0
 RepairsFit span input repairs = AllByRecursion (RepairFits span input) repairs
 

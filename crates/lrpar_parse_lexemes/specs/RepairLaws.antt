@@ -4,7 +4,7 @@ use Rattle.std.specs.Cmp.{IsPartialEquivalence, partial_equiv_from_equiv}
 use Rattle.std.proofs.lemmas.Cmp.{nat_eq_equiv}
 use Rattle.lrpar_parse_lexemes.specs.Repair.{Repair, Inserted, Deleted, Shifted, repair_eq}
 
--- of numbers
+-- the laws of equality of numbers
 pub nat_per : IsPartialEquivalence ◌==◌
 nat_per = partial_equiv_from_equiv nat_eq_equiv
 

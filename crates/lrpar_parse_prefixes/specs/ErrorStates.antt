@@ -50,11 +50,13 @@ pub record ActionsFollowSentences {X : Type 0} (token : X → ℕ) (g : Grammar)
   pub unreduced : (lexemes : List X) (prods : List ℕ) (stop : Stop) → KeepOffEnd token g lexemes
       → RunsTo token g table lexemes prods (Stopped stop) → FeedsFront token g table lexemes stop.place stop.stack
 
--- over a table that was built of a grammar in which each reachable rule is productive; the table may have conflicts
+-- over a table that was built of a grammar in which each reachable rule is productive, states act only at tokens that can come next; the
+-- table may have conflicts
 abbrev pub BuiltActionsKeepToSentences : Type 0 → Type 0
 BuiltActionsKeepToSentences X = OverBuiltTables X (λ token g table. ActionsKeepToSentences token g table)
 
--- over a complete table that was built of a grammar in which each reachable rule is productive
+-- over a complete table that was built of a grammar in which each reachable rule is productive, states act at exactly the tokens that can
+-- come next
 abbrev pub CompleteBuiltActionsFollowSentences : Type 0 → Type 0
 CompleteBuiltActionsFollowSentences X = OverCompleteBuiltTables X (λ token g table. ActionsFollowSentences token g table)
 

@@ -71,7 +71,7 @@ module _ {S : Type 0} (index : S → ℕ) (d : Checked) (t : TIdx S) (old new : 
   abbrev pub FailsToSettleOver : {T E : Type 0} → Result T E → Type 0
   FailsToSettleOver result = OnErr result (IsShortOfMemoryOver d.grammar d.table (index t.0) old new)
 
-  -- if an allocation failed, then its tail is full for a reduction at the token, or for the shift after all of them
+  -- if an allocation failed, then the overlay's tail is full for a reduction at the token, or for the shift after all of them
   abbrev pub FailsToFeedOver : {T E : Type 0} → Result T E → Type 0
   FailsToFeedOver result =
       OnErr result
@@ -110,7 +110,7 @@ IsTopAction index table t st done = plain_action index done.action ≡ top_actio
 abbrev pub AreExpectedOn : {S A : Type 0} → (S → ℕ) → Checked → List (StIdx S) → Vec (TIdx S) A → Type 0
 AreExpectedOn index d states tokens = AreExpected d.grammar d.table (states_of index states) (tokens_of index tokens.items)
 
--- these are those that may come next at the stack that the overlay represents
+-- these are the tokens that may come next at the stack that the overlay represents, ascending
 abbrev pub AreExpectedOver : {S A : Type 0} → (S → ℕ) → Checked → Overlaid → Vec (TIdx S) A → Type 0
 AreExpectedOver index d overlay tokens = AreExpected d.grammar d.table (overlaid overlay) (tokens_of index tokens.items)
 

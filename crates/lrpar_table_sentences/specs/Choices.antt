@@ -63,11 +63,12 @@ pub record AreShortest (g : Grammar) (most : ℕ) (choices : List (Option Choice
 abbrev pub AreShortestOf : Grammar → List (Option ChoiceOf) → Type 0
 AreShortestOf g = λ choices. AreShortest g MAX choices
 
--- in each grammar of which it is kept, this is the length of the symbols' minimal sentences, if there are any
+-- in each grammar of which the choices are kept, this is the length of the symbols' minimal sentences, if there are any
 abbrev pub IsMinimalLen : List (Option ChoiceOf) → List GrammarSymbol → Option ℕ → Type 0
 IsMinimalLen choices symbols len = (g : Grammar) → AreShortest g MAX choices → IsShortestIfAny g MAX symbols len
 
--- in each such grammar, this is the length of minimal sentences of a symbol of the code, or of symbols, if there are any
+-- in each grammar of which the choices are kept, this is the length of the minimal sentences of a symbol, or of symbols, as they are
+-- stored, if there are any
 abbrev pub IsLenOf : {S : Type 0} → (S → ℕ) → List (Option ChoiceOf) → Symbol S → Option ℕ → Type 0
 IsLenOf index choices symbol len = IsMinimalLen choices (symbol_of index symbol ∷ []) len
 
@@ -78,7 +79,7 @@ IsLenOfAll index choices symbols len = IsMinimalLen choices (map (symbol_of inde
 abbrev pub is_kept : {S : Type 0} → (S → ℕ) → List (Option ChoiceOf) → RIdx S → Bool
 is_kept index choices rule = is_some (choice_at choices (index rule.0))
 
--- in each grammar of which it is kept, the answer is true exactly if the rule has a tree
+-- in each grammar of which the choices are kept, the answer is true exactly if the rule has a tree
 abbrev pub DecidesTree : {S : Type 0} → (S → ℕ) → List (Option ChoiceOf) → RIdx S → Bool → Type 0
 DecidesTree index choices rule answer = (g : Grammar) → AreShortest g MAX choices → IsTrue answer ↔ HasTree g (index rule.0)
 

@@ -11,7 +11,7 @@ IsTreeOf g symbol tree = Fits (λ token. token) g tree symbol
 abbrev pub AreTreesOf : Grammar → List GrammarSymbol → Forest ℕ → Type 0
 AreTreesOf g symbols trees = ForestFits (λ token. token) g trees symbols
 
--- how many tokens a tree has, and trees
+-- how many tokens a tree has, and a list of trees
 abbrev pub width : Tree ℕ → ℕ
 width tree = length (leaves tree)
 
@@ -47,6 +47,6 @@ pub record BeginWith (g : Grammar) (symbols : List GrammarSymbol) (token : ℕ) 
   pub fit : AreTreesOf g symbols trees
   pub first : (rest : List ℕ) × (forest_leaves trees ≡ token ∷ rest)
 
--- there are such trees
+-- there are trees of the symbols whose first token is this one
 abbrev pub CanBeginWith : Grammar → List GrammarSymbol → ℕ → Type 0
 CanBeginWith g symbols token = (trees : Forest ℕ) × BeginWith g symbols token trees

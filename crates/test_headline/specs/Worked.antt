@@ -25,7 +25,7 @@ module _ {X : Type 0} (about : Subject X) (supplied : List (List PlainStep)) (le
   abbrev pub WorksAt : Stop → List PlainStep → Type 0
   WorksAt stop steps = Works (λ x. (about.facts x).token) about.checked.grammar about.checked.table lexemes about.shifts stop.stack stop.place steps
 
-  -- the repairs that an error at the error point lists for it
+  -- the repairs that an error at the error point lists for a sequence
   abbrev pub repairs_at : Stop → List PlainStep → List (Repair X)
   repairs_at stop steps = repairs_over (drop stop.place lexemes) steps
 
