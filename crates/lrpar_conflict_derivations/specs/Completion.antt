@@ -79,7 +79,7 @@ pub record IsUpLink (g : Grammar) (token : ℕ) (links : List LinkOf) (i : ℕ) 
   pub above : let x = link_at links i in x.dot ≡ 0 → x.prod ≢ start_prod g
       → (x.above < i) × ((link_at links x.above).rule ≡ rule_of g x.prod) × ((link_at links x.above).asked ≡ x.further)
 
--- each link is one
+-- each link leads up: its production is one of a reachable rule, and an item with the dot at the front has an earlier link of its rule
 abbrev pub AreUpLinks : Grammar → ℕ → List LinkOf → Type 0
 AreUpLinks g token links = (i : ℕ) → i < length links → IsUpLink g token links i
 

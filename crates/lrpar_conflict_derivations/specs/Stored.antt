@@ -230,7 +230,7 @@ GoesOnBy index g front token next moves = DerivesBy index g front.steps.items fr
 abbrev pub HasItemWith : {S : Type 0} → (S → ℕ) → Graph → StIdx S → TIdx S → PIdx S × ℕ → Bool → Type 0
 HasItemWith index graph state token core asked = HasItemFor graph (index state.0) (index token.0) (index core.0.0) core.1 asked
 
--- this is such an item, with whether the token is asked for
+-- this is the core of an item of the state, with whether the token is asked for
 abbrev pub IsItemWith : {S : Type 0} → (S → ℕ) → Graph → StIdx S → TIdx S → (PIdx S × ℕ) × Bool → Type 0
 IsItemWith index graph state token = λ begun. HasItemWith index graph state token begun.0 begun.1
 
@@ -293,7 +293,7 @@ FindsLink index links rule asked found =
 abbrev pub AreLinksOf : {S : Type 0} → (S → ℕ) → Grammar → Graph → StIdx S → TIdx S → List (Link S) → Type 0
 AreLinksOf index g graph state token links = AreLinks g (sets_of graph (index state.0)) (index token.0) (links_of index links)
 
--- the state's items of the rule have a link of it
+-- the state's items of the rule with the dot at the front have a link of the rule
 abbrev pub LinkItemsOf : {S : Type 0} → (S → ℕ) → Grammar → Graph → StIdx S → TIdx S → RIdx S → Bool → List (Link S) → Type 0
 LinkItemsOf index g graph state token rule asked links =
     LinkRule g (sets_of graph (index state.0)) (index token.0) (links_of index links) (index rule.0) asked

@@ -31,7 +31,7 @@ AreSymbolsOf g symbols = AllByRecursion (IsSymbolOf g) symbols
 abbrev pub HasSymbols : {S : Type 0} → (S → ℕ) → Grammar → List (Symbol S) → Type 0
 HasSymbols index g symbols = AreSymbolsOf g (map (symbol_of index) symbols)
 
--- the move shifts a token of the grammar, or reduces a production of it
+-- the move shifts a token of the grammar, or reduces by a production of the grammar
 abbrev pub IsMoveOf : Grammar → MoveOf → Type 0
 IsMoveOf g (Takes t) = t < tokens_len g
 IsMoveOf g (Makes p) = p < prods_len g

@@ -43,7 +43,7 @@ abbrev pub ending_of : Option (List ℕ) → List ℕ
 ending_of None = semicolon ∷ []
 ending_of (Some name) = quote ∷ name ++ quote ∷ []
 
--- the line is `front` and then such an ending; the name has no quote
+-- the line is `front` and then an ending: a name between quotes, in which there is no quote, or a semicolon
 pub record HasEnding (line front : List ℕ) (name : Option (List ℕ)) : Type 0 where
   pub is : line ≡ front ++ ending_of name
   pub unquoted : IfSome name (All (λ byte. byte ≢ quote))
@@ -59,7 +59,7 @@ pub record HasGap (text pattern : List ℕ) : Type 0 where
   pub ends : pattern ≡ front ++ last ∷ []
   pub solid : is_blank last ≡ false
 
--- what comes before the ending of the line, and the name of the ending, if it has one; nothing if the line has no such ending
+-- what comes before the ending of the line, and the name of the ending, if it has one; nothing if the line has no ending
 abbrev pub FindsEnding : List ℕ → Option (Bor (List ℕ) × Option (Bor (List ℕ))) → Type 0
 FindsEnding line found =
     MatchOption found ((front : List ℕ) (name : Option (List ℕ)) → ¬ (HasEnding line front name))

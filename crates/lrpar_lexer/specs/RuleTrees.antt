@@ -7,7 +7,7 @@ use Rattle.lrpar_lexer.specs.Anchored.{HasNothingAtStart}
 use Rattle.lrpar_lexer.specs.declared.rule_tree.Node.{Node}
 use Rattle.lrpar_lexer.specs.declared.rule_tree.Branch.{Branch}
 
--- the rules at a node, if it is one
+-- the rules at a node; none if there is no such node
 abbrev pub rules_of : Option Node → List ℕ
 rules_of None = []
 rules_of (Some node) = node.rules.items
@@ -15,7 +15,7 @@ rules_of (Some node) = node.rules.items
 abbrev pub rules_at : List Node → ℕ → List ℕ
 rules_at nodes n = rules_of (slice_get nodes n)
 
--- the branches of a node, if it is one
+-- the branches of a node; none if there is no such node
 abbrev pub branches_of : Option Node → List Branch
 branches_of None = []
 branches_of (Some node) = node.branches.items

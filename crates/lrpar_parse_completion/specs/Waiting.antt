@@ -37,7 +37,7 @@ pub record IsLink (g : Grammar) (own : ℕ → ℕ → Type 0) (earlier : List L
   pub waits : drop link.dot (symbols_of g link.prod) ≡ Nonterminal link.rule ∷ rest
   pub from : own link.prod link.dot ⊎ ((link.dot ≡ 0) × Contains (rules_in earlier) (rule_of g link.prod))
 
--- each link of the list is one
+-- each link of the list is an item with its rule after the dot, the state's own or one of an earlier rule
 abbrev pub AreLinks : Grammar → (ℕ → ℕ → Type 0) → List LinkOf → Type 0
 AreLinks g own links = (i : ℕ) (link : LinkOf) → slice_get links i ≡ Some link → IsLink g own (take i links) link
 

@@ -16,7 +16,7 @@ use Rattle.lrpar_parse_cpctplus.specs.declared.link.Link.{Link}
 abbrev pub configured_at : List (List ℕ) → Configuration → Configured
 configured_at stacks key = record { stack = stack_at stacks key.stack; place = key.place }
 
--- several of them
+-- configurations, each with the stack of its number
 abbrev pub nodes_in : List (List ℕ) → List Configuration → List Configured
 nodes_in stacks keys = map (configured_at stacks) keys
 

@@ -86,7 +86,7 @@ module _ {S : Type 0} (index : S → ℕ) (nodes : Nodes S) where
   abbrev pub AddsSourcesOf : Layer → ℕ → Layer → Layer → Type 0
   AddsSourcesOf layer node old new = AddsSources layer (sources_of node) old new
 
-  -- the first step of the rest at a place of those of one step more, if there are so many
+  -- the first step of the rest at this index among the rests of one step more; none if there are no more than `place` of these
   abbrev pub IsChosen : Layer → ℕ → Form → ℕ → Option (Choice S) → Type 0
   IsChosen layer node form place chosen =
       (s : ℕ) → IsLayer (rests_of s) layer

@@ -35,7 +35,7 @@ is_avoided avoided (PlainInsert t) = slice_index_or avoided t false
 is_avoided avoided PlainDelete = false
 is_avoided avoided PlainShift = false
 
--- whether one of the steps does
+-- whether one of the steps inserts a token that is to be avoided
 abbrev pub has_avoided : List Bool → List PlainStep → Bool
 has_avoided avoided [] = false
 has_avoided avoided (step ∷ steps) = is_avoided avoided step || has_avoided avoided steps

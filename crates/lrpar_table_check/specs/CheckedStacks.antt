@@ -50,7 +50,7 @@ module _ {S A : Type 0} (index : S → ℕ) (d : Checked) (t : TIdx S) (old new 
   FailsToSettleList result =
       OnErr result (IsShortOfMemory d.grammar d.table (index t.0) (states_of index old.items) (vec_capacity old) (states_of index new.items) (vec_capacity new))
 
-  -- if an allocation failed, then the list is full for a reduction at the token, or for the shift after all of them
+  -- if an allocation failed, then the list is full for a reduction at the token, or for the shift after all reductions
   abbrev pub FailsToFeedList : {T E : Type 0} → Result T E → Type 0
   FailsToFeedList result =
       OnErr result
@@ -71,13 +71,13 @@ module _ {S : Type 0} (index : S → ℕ) (d : Checked) (t : TIdx S) (old new : 
   abbrev pub FailsToSettleOver : {T E : Type 0} → Result T E → Type 0
   FailsToSettleOver result = OnErr result (IsShortOfMemoryOver d.grammar d.table (index t.0) old new)
 
-  -- if an allocation failed, then the overlay's tail is full for a reduction at the token, or for the shift after all of them
+  -- if an allocation failed, then the overlay's tail is full for a reduction at the token, or for the shift after all reductions
   abbrev pub FailsToFeedOver : {T E : Type 0} → Result T E → Type 0
   FailsToFeedOver result =
       OnErr result
       (IsShortOfMemoryOver d.grammar d.table (index t.0) old new ⊎ IsShiftShortOfMemoryOver d.grammar d.table d.cap (index t.0) old new)
 
--- stacks of any kind, by what its trait says of it
+-- stacks of any kind, as the trait of the kind describes them
 module _ {X S : Type 0} (index : S → ℕ) (kind : stacks.Ghosts X S) (d : Checked) (t : TIdx S) (old new : X) where
   -- if nothing failed, then at the token the stack made all reductions, of the number in the result
   abbrev pub SettlesStack : {E : Type 0} → Result (Settled S) E → Type 0
@@ -95,7 +95,7 @@ module _ {X S : Type 0} (index : S → ℕ) (states : X → List ℕ) (reduces :
   FeedsStack shifts d t old new result =
       IfOk result (λ shifted. IsStackFedBy states reduces shifts d.grammar d.table d.cap (index t.0) old shifted new)
 
-  -- if an allocation failed, then it was for a reduction at the token, or for the shift after all of them
+  -- if an allocation failed, then it was for a reduction at the token, or for the shift after all reductions
   abbrev pub FailsToFeed : {T E : Type 0} → (X → ℕ → X → Type 0) → (X → X → Type 0) → Checked → TIdx S → X → X → Result T E → Type 0
   FailsToFeed fails shift_fails d t old new result =
       OnErr result

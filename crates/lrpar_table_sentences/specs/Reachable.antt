@@ -55,7 +55,7 @@ pub record AreMarked (g : Grammar) (marks : List Bool) : Type 0 where
   pub added : IsTrue (is_marked marks 0)
   pub reached : (r : ℕ) → IsTrue (is_marked marks r) → IsReachableRule g r
 
--- if the rule of production p is marked, so is each one on its right side
+-- if the rule of production p is marked, so is each rule on its right side
 abbrev pub MarksOn : Grammar → List Bool → ℕ → Type 0
 MarksOn g marks p = IsTrue (is_marked marks (rule_of g p)) → (s : GrammarSymbol) → Contains (symbols_of g p) s → IsMarkedSymbol marks s
 
@@ -84,7 +84,7 @@ unmarked marks = count_by not marks
 abbrev pub MarksMore : List Bool → List Bool → Type 0
 MarksMore old new = unmarked new < unmarked old
 
--- if the rule of a production is marked, so is each one on its right side: of each production
+-- for each production: if its rule is marked, so is each rule on its right side
 abbrev pub AreClosed : Grammar → List Bool → Type 0
 AreClosed g marks = (p : ℕ) → p < prods_len g → MarksOn g marks p
 
