@@ -35,7 +35,7 @@ Finishes g front p k later text =
     (trees rest : Forest ℕ) → AreTreesOf g front trees → AreTreesOf g (drop k (symbols_of g p)) rest
     → (tree : Tree ℕ) × IsFinished g trees rest later text tree
 
--- if it is asked for, the token comes next
+-- if the token is asked for, it comes next
 abbrev pub IsNextIf : Grammar → ℕ → Bool → List ℕ → Type 0
 IsNextIf g token asked text = IsTrue asked → IsNext g token text
 

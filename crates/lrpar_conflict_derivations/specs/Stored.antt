@@ -79,11 +79,11 @@ has_token set token dummy = nat_lt token dummy && has set.bits.items token
 abbrev pub text_of : {S : Type 0} → (S → ℕ) → List (Move S) → List ℕ
 text_of index moves = tokens_in (moves_in index moves)
 
--- both shift the same tokens
+-- both lists of moves shift the same tokens
 abbrev pub HaveOneText : {S : Type 0} → (S → ℕ) → List (Move S) → List (Move S) → Type 0
 HaveOneText index first second = text_of index first ≡ text_of index second
 
--- both shift the same number of tokens
+-- both lists of moves shift the same number of tokens
 abbrev pub HaveAsMany : {S : Type 0} → (S → ℕ) → List (Move S) → List (Move S) → Type 0
 HaveAsMany index one other = length (text_of index one) ≡ length (text_of index other)
 
@@ -315,11 +315,11 @@ IsKernelCore index g graph state core =
 abbrev pub links_in : {S : Type 0} → (S → ℕ) → Found S → List LinkOf
 links_in index found = links_of index found.links.items
 
--- there are none
+-- no links were found
 abbrev pub HasNoLinks : {S : Type 0} → (S → ℕ) → Found S → Type 0
 HasNoLinks index = λ found. links_in index found ≡ []
 
--- there is one with this number
+-- a link with this number was found
 abbrev pub HasLinkAt : {S : Type 0} → Found S → ℕ → Type 0
 HasLinkAt found at = at < length found.links.items
 

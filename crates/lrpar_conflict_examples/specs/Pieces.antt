@@ -13,17 +13,17 @@ use Rattle.lrpar_conflict_examples.specs.declared.pieces.Piece.TheVariants.{End,
 use Rattle.lrpar_conflict_examples.specs.declared.pieces.Waiting.{Waiting}
 use Rattle.lrpar_conflict_examples.specs.declared.pieces.Waiting.TheVariants as waits
 
--- a piece is of the grammar
+-- the token or the production of a piece is one of the grammar
 abbrev pub PieceFits : {S : Type 0} → (S → ℕ) → Grammar → Piece S → Type 0
 PieceFits index g (Word t) = index t.0 < tokens_len g
 PieceFits index g (Front p) = index p.0 < prods_len g
 PieceFits index g End = Unit {0}
 
--- each of them is
+-- the token or the production of each piece is one of the grammar
 abbrev pub PiecesFit : {S A : Type 0} → (S → ℕ) → Grammar → Vec (Piece S) A → Type 0
 PiecesFit index g = λ pieces. All (PieceFits index g) pieces.items
 
--- its text
+-- the text of a piece
 abbrev pub piece_text : {S : Type 0} → (S → ℕ) → Grammar → Piece S → List ℕ
 piece_text index g (Word t) = word_text g (index t.0)
 piece_text index g (Front p) = front_text g (index p.0)

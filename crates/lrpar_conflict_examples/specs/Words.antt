@@ -25,7 +25,7 @@ word_text g t = 32 ∷ shown_name g t
 abbrev pub words_text : Grammar → List ℕ → List ℕ
 words_text g tokens = flat_map (word_text g) tokens
 
--- the code's tokens were added so
+-- the names of tokens were appended, each after a space
 abbrev pub AddsWords : {S A : Type 0} → (S → ℕ) → Grammar → List (TIdx S) → String A → String A → Type 0
 AddsWords index g tokens old new = Appends old new (words_text g (token_numbers index tokens))
 
@@ -51,7 +51,7 @@ symbol_text g (Terminal t) = codes " '" ++ shown_name g t ++ codes "'"
 abbrev pub symbols_text : Grammar → List GrammarSymbol → List ℕ
 symbols_text g symbols = flat_map (symbol_text g) symbols
 
--- the code's symbols were added so
+-- the symbols of a production were appended, each after a space
 abbrev pub AddsSymbols : {S A : Type 0} → (S → ℕ) → Grammar → List (Symbol S) → String A → String A → Type 0
 AddsSymbols index g symbols old new = Appends old new (symbols_text g (map (symbol_of index) symbols))
 

@@ -56,6 +56,6 @@ pub record IsHeld (table : Table) (end : ℕ) (stacks : List (List ℕ)) (key : 
   pub stack : IsStack table (stack_at stacks key.stack)
   pub place : key.place ≤ end
 
--- all of them are
+-- each configuration has a stack of the table, one of the numbered ones, and a place that isn't past the last lexeme
 abbrev pub AreHeld : Table → ℕ → List (List ℕ) → List Configuration → Type 0
 AreHeld table end stacks keys = (i : ℕ) (key : Configuration) → slice_get keys i ≡ Some key → IsHeld table end stacks key

@@ -181,7 +181,7 @@ module _ {S X : Type 0} (index : S → ℕ) (parts : X → LexemeParts S) (searc
     pub grown : Grows (token_by index parts) search.terms.now.costs search.point.now first (length graph.firsts.items - 1) Done
         (nodes_of stacks graph) (plain_links index graph.links.items) (nodes_of new_stacks new_graph) (plain_links index new_graph.links.items)
 
-  -- by this one
+  -- by this step one graph has become another one, with as many distances
   abbrev pub GrowsByStep : ℕ → ℕ → RepairStep S → Shared → Graph S → Shared → Graph S → Type 0
   GrowsByStep first from step stacks graph new_stacks new_graph = GrowsBy first (IsThis from (plain_step index step)) stacks graph new_stacks new_graph
 
@@ -190,17 +190,18 @@ module _ {S X : Type 0} (index : S → ℕ) (parts : X → LexemeParts S) (searc
     pub held : AreHeldBy search stacks graph
     pub past : IsPastLimit (token_by index parts) search.terms.now.costs search.point.now search.terms.now.limit (nodes_of stacks graph)
 
-  -- by steps, within the limit; or there are more configurations than may be kept
+  -- by the steps that have `Done` one graph has become another one, within the limit; or there are more configurations than may be kept
   abbrev pub GrowsOrExceeds : ℕ → (ℕ → PlainStep → Type 0) → Shared → Graph S → Shared → Graph S → Bool → Type 0
   GrowsOrExceeds first Done stacks graph new_stacks new_graph true = GrowsBy first Done stacks graph new_stacks new_graph × IsWithinLimit search new_graph
   GrowsOrExceeds first Done stacks graph new_stacks new_graph false = ExceedsBy new_stacks new_graph × (new_graph.firsts ≡ graph.firsts)
 
-  -- by these
+  -- by these steps one graph has become another one, within the limit; or there are more configurations than may be kept
   abbrev pub GrowsByAttempts : ℕ → List (Attempt S) → Shared → Graph S → Shared → Graph S → Bool → Type 0
   GrowsByAttempts first attempts stacks graph new_stacks new_graph =
       GrowsOrExceeds first (IsAmong (plain_attempts index attempts)) stacks graph new_stacks new_graph
 
-  -- by the Shifts from numbers from the first one on
+  -- by the Shifts from configurations with numbers from the first one on, one graph has become another one, within the limit; or there are
+  -- more configurations than may be kept
   abbrev pub GrowsByShifts : ℕ → Shared → Graph S → Shared → Graph S → Bool → Type 0
   GrowsByShifts first stacks graph new_stacks new_graph =
       GrowsOrExceeds first (IsShiftWithin first (length new_graph.configurations.keys)) stacks graph new_stacks new_graph

@@ -5,7 +5,7 @@ use Rattle.lrpar_parse_repair.specs.Sequences.{PlainStep, PlainInsert, PlainDele
 use Rattle.lrpar_parse_cpctplus.specs.Chains.{IsChain, IsEnd}
 use Rattle.lrpar_parse_cpctplus.specs.Configurations.{Configured}
 
--- whether it is a Delete
+-- whether the step is a Delete
 abbrev pub is_delete : PlainStep → Bool
 is_delete (PlainInsert t) = false
 is_delete PlainDelete = true

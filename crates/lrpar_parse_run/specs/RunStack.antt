@@ -45,7 +45,7 @@ pub record IsPushed {S E : Type 0} (index : S → ℕ) (state : StIdx S) (entry 
 abbrev pub on_top : {E : Type 0} → ℕ → List E → List E
 on_top n stack = drop (length stack - n) stack
 
--- the elements below them
+-- the elements below the n on top of a stack
 abbrev pub below_top : {E : Type 0} → ℕ → List E → List E
 below_top n stack = take (length stack - n) stack
 

@@ -22,7 +22,7 @@ use Rattle.lrpar_parse_run.specs.Subject.{Subject}
 use Rattle.lrpar_parse_run.specs.TreeAnswer.{IsTreeAnswer}
 use Rattle.lrpar_parse_run.specs.declared.whole_run.WholeRun.{WholeRun}
 
--- what it is about
+-- what the whole run is about
 abbrev pub subject : {S L B R X C : Type 0} → (S → ℕ) → (X → LexemeParts S) → (R → Asked X → List (List PlainStep) → Type 0) → WholeRun S L B R X C → Subject X
 subject index parts allows whole_run =
     record {

@@ -34,22 +34,22 @@ IsNameOf index g rule = λ name. name.now ≡ rule_name g (index rule.0)
 abbrev pub PushesLeaf : {A T E : Type 0} → Form → Leaf → String A → String A → Result T E → Type 0
 PushesLeaf form leaf old new result = Pushes (leaf_text form leaf.name.now leaf.text.now leaf.start leaf.end leaf.is_faulty) old new result
 
--- if it did, the lexeme was added in the form with brackets
+-- if the call succeeded, the lexeme was added in the form with brackets
 abbrev pub PushesBracketLeaf : {A T E : Type 0} → Leaf → String A → String A → Result T E → Type 0
 PushesBracketLeaf leaf old new result = Pushes (bracket_leaf leaf.name.now leaf.text.now leaf.is_faulty) old new result
 
--- if it did, the lexeme was added as JSON
+-- if the call succeeded, the lexeme was added as JSON
 abbrev pub PushesJsonLeaf : {A T E : Type 0} → Leaf → String A → String A → Result T E → Type 0
 PushesJsonLeaf leaf old new result = Pushes (json_leaf leaf.name.now leaf.text.now leaf.start leaf.end leaf.is_faulty) old new result
 
--- if it did, the lexeme's place was added as JSON, and whether a repair made it
+-- if the call succeeded, the lexeme's place was added as JSON, and whether a repair made it
 abbrev pub PushesJsonPlace : {A T E : Type 0} → Leaf → String A → String A → Result T E → Type 0
 PushesJsonPlace leaf old new result = Pushes (json_place leaf.start leaf.end leaf.is_faulty) old new result
 
--- if it did, the lexeme's label in a graph was added
+-- if the call succeeded, the lexeme's label in a graph was added
 abbrev pub PushesLabel : {A T E : Type 0} → Leaf → String A → String A → Result T E → Type 0
 PushesLabel leaf old new result = Pushes (leaf_label leaf.name.now leaf.text.now leaf.is_faulty) old new result
 
--- if it did, the lexeme's line in a graph was added, as that of the node of this number
+-- if the call succeeded, the lexeme's line in a graph was added, as that of the node of this number
 abbrev pub PushesLeafLine : {A T E : Type 0} → ℕ → Leaf → String A → String A → Result T E → Type 0
 PushesLeafLine number leaf old new result = Pushes (leaf_line number leaf.name.now leaf.text.now leaf.is_faulty) old new result

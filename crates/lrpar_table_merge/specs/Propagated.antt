@@ -17,7 +17,7 @@ use Rattle.lrpar_table_merge.specs.PassedOn.{AreBeginnings, all_missing}
 abbrev pub IsNoneOrKernel : Grammar → List CoreSet → Type 0
 IsNoneOrKernel g kernel = 0 < length kernel → IsKernel g kernel
 
--- each of the lists is
+-- each of the lists has no cores, or is a kernel
 abbrev pub AreNoneOrKernels : Grammar → List (List CoreSet) → Type 0
 AreNoneOrKernels g kernels = (n : ℕ) → IsNoneOrKernel g (kernel_at kernels n)
 
