@@ -1,4 +1,6 @@
-"""No comment of `src` or `specs` says 'the same by ..' in place of what is meant. Those of `proofs` are read with the lemma above them."""
+"""No comment of `src` or `specs` says 'the same by ..' in place of what is meant, and none of `specs` leans on the definition above it.
+
+Comments of `proofs` may do both: who reads them has the lemma above in sight."""
 
 import re
 
@@ -10,7 +12,7 @@ ALONE = re.compile(
     r"(?:^|[.!?] )(?:The|the) same(?:$|[,.:;]| (?:by|with|without|for|of|as|if|over|at|after|before|in|on|but|when|where|to|from|and)\b)"
 )
 # An auditor reads a definition as a row of a table, without the rows above: its comment doesn't lean on them.
-POINTS_BACK = re.compile(r"(?:the same|it|they|those|and|or|nor|such|so)\b", re.I)
+POINTS_BACK = re.compile(r"(?:the same|its?|they|those|and|or|nor|such|so|if (?:it|they) d(?:o|id))\b", re.I)
 
 
 def comments(path):
