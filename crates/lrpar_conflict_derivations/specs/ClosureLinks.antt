@@ -71,7 +71,7 @@ AreNoted g token links q j further =
     (r : ℕ) (w : List GrammarSymbol) (asked : Bool) → drop j (symbols_of g q) ≡ Nonterminal r ∷ w → PassesOn g token w asked further
     → HasLink links asked r
 
--- links were appended, each of them is good
+-- links were appended, each of which has the property `Good`
 pub record ArePut (Good : LinkOf → Type 0) (old new : List LinkOf) : Type 0 where
   pub more : List LinkOf
   pub put : new ≡ old ++ more

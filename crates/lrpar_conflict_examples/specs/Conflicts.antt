@@ -39,7 +39,7 @@ pub record AreAlike (one other : ConflictOf) : Type 0 where
   pub first : one.first ≡ other.first
   pub second : one.second ≡ other.second
 
--- each of the first list is in the second
+-- each element of the first list is in the second
 abbrev pub AreAmong : {X : Type 0} → List X → List X → Type 0
 AreAmong {X} xs all = (x : X) → Contains xs x → Contains all x
 

@@ -120,10 +120,11 @@ MarksStep s next marks = MarksNext marks (s, next)
 abbrev pub AreClosed : List (ℕ × ℕ) → List Bool → Type 0
 AreClosed edges marks = All (MarksNext marks) edges
 
--- both ends of a step are below n, and both ends of each step
+-- both ends of the step are below n
 abbrev pub IsWithin : ℕ → ℕ × ℕ → Type 0
 IsWithin n edge = (edge.0 < n) × (edge.1 < n)
 
+-- both ends of each step are below n
 abbrev pub AreWithin : ℕ → List (ℕ × ℕ) → Type 0
 AreWithin n edges = All (λ edge. (edge.0 < n) × (edge.1 < n)) edges
 

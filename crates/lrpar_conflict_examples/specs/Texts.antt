@@ -70,7 +70,7 @@ AppendsOfTree g moves text old new = (tree : Tree ℕ) → AreMovesOf g moves tr
 abbrev pub AddsTree : {S A : Type 0} → (S → ℕ) → Grammar → List (Move S) → String A → String A → Type 0
 AddsTree index g moves old new = AppendsOfTree g (moves_in index moves) (tree_text g) old new
 
--- the line of the text of such a tree
+-- the line of the text of the tree that has these moves was added
 abbrev pub AddsText : {S A : Type 0} → (S → ℕ) → Grammar → List (TIdx S) → List (Move S) → String A → String A → Type 0
 AddsText index g before moves old new = AppendsOfTree g (moves_in index moves) (tree_line g (token_numbers index before)) old new
 

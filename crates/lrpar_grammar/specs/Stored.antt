@@ -53,7 +53,7 @@ HasListedRightSide index g prod = All (IsListedSymbol (rules_len g) (end_token g
 abbrev pub IsEndOf : {S : Type 0} → (S → ℕ) → Grammar → TIdx S → Type 0
 IsEndOf index g token = index token.0 ≡ end_token g
 
--- this is listed for the token, if it is listed
+-- this is what the grammar has for the token; none for the end token
 abbrev pub IsTokenAt : {S : Type 0} → (S → ℕ) → Grammar → TIdx S → Option (Bor TokenPart) → Type 0
 IsTokenAt index g token found = option_map (λ part. token_name_of part.now) found ≡ slice_get g.tokens (index token.0)
 

@@ -65,7 +65,7 @@ pub record AreFound (g : Grammar) (own : ℕ → ℕ → Type 0) (links : List L
   pub each : AreLinks g own links
   pub marked : (r : ℕ) → IsTrue (is_marked marks r) → Contains (rules_in links) r
 
--- more may be in the list, after what it had
+-- the list has what it had, and more may come after that
 pub record Grows (g : Grammar) (own : ℕ → ℕ → Type 0) (links : List LinkOf) (after : List LinkOf) (marks : List Bool) : Type 0 where
   pub found : AreFound g own after marks
   pub tail : List LinkOf

@@ -6,7 +6,7 @@ use Rattle.lrpar_parse_repair.specs.Sequences.{PlainStep}
 use Rattle.lrpar_parse_cpctplus.specs.declared.form.Form.{Form}
 use Rattle.lrpar_parse_cpctplus.specs.declared.listing.Choice.{Choice}
 
--- the sequence at a place of `all` begins with this step, and goes on as the one at a place of what begins at a node
+-- the sequence at this index of `all` begins with the step, and goes on as the rest from a node at the index that the choice gives
 pub record IsChoice {S : Type 0} (index : S → ℕ) (rests : Form → ℕ → List (List PlainStep)) (all : List (List PlainStep)) (place : ℕ) (choice : Choice S) : Type 0 where
   pub within : choice.place < length (rests choice.form choice.node)
   pub no_more : choice.place ≤ place

@@ -8,7 +8,7 @@ use Rattle.lrpar_parse_cpctplus.specs.Costs.{AreCosts}
 use Rattle.lrpar_parse_cpctplus.specs.Graph.{AreEndings, HaveEndings, IsGraph, PlainEnding, PlainLink}
 use Rattle.lrpar_parse_cpctplus.specs.Listing.{AreFirst, IsListedBefore, MayBeListed, Settings}
 
--- a graph of a search by numbers: so many configurations, the links between them, and the last steps
+-- a graph of a search by numbers: the number of its configurations, the links between them, and the last steps
 pub record PlainGraph : Type 0 where
   pub len : ℕ
   pub links : List PlainLink

@@ -63,7 +63,7 @@ module _ {S X : Type 0} (search : Search S X) where
   abbrev pub AreHeldBy : Shared → Graph S → Type 0
   AreHeldBy stacks graph = AreHeld search.point.now.checked.table (length search.point.now.lexemes) stacks.stacks graph.configurations.keys
 
-  -- the limit allows as many configurations
+  -- the graph has no more configurations than the limit allows
   abbrev pub IsWithinLimit : Graph S → Type 0
   IsWithinLimit graph = length graph.configurations.keys ≤ search.terms.now.limit
 
@@ -73,7 +73,7 @@ module _ {S X : Type 0} (index : S → ℕ) (search : Search S X) where
     pub exact : (t : ℕ) → Contains (tokens_of index tokens) t ↔ (top_action search.point.now.checked.table t (stack_at stacks.stacks at.stack) ≢ Fails)
     pub ascending : IsStrictlyIncreasing (tokens_of index tokens)
 
-  -- the Inserts of those of the tokens that cost as much are added
+  -- the Inserts of those tokens that cost this much are added
   abbrev pub AddsInserts : {A : Type 0} → List (TIdx S) → ℕ → ℕ → Vec (Attempt S) A → Vec (Attempt S) A → Type 0
   AddsInserts tokens from weight old new =
       Adds (IsInsertOf search.terms.now.costs (end_token search.point.now.checked.grammar) (tokens_of index tokens) from weight)
@@ -115,7 +115,7 @@ module _ {S X : Type 0} (index : S → ℕ) (parts : X → LexemeParts S) (searc
       ⊎ ((far : ℕ) × IsReachBy stacks at attempt.step (Some far)
       × (plain_endings index new.items ≡ plain_endings index old.items ++ record { reach = far; from = attempt.from; step = plain_step index attempt.step } ∷ []))
 
-  -- the Delete at the place is added, if a lexeme is left and costs as much
+  -- the Delete at the place is added, if a lexeme is left there and its token costs this much
   abbrev pub AddsDelete : {A : Type 0} → ℕ → ℕ → ℕ → Vec (Attempt S) A → Vec (Attempt S) A → Type 0
   AddsDelete place from weight old new =
       Adds (IsDeleteOf (token_by index parts) search.terms.now.costs search.point.now place from weight)
@@ -139,7 +139,7 @@ module _ {S X : Type 0} (index : S → ℕ) (parts : X → LexemeParts S) (searc
       AreAttempts (token_by index parts) search.terms.now.costs search.point.now (nodes_of stacks graph) graph.firsts.items (length graph.firsts.items)
       (plain_attempts index attempts)
 
-  -- these are the last steps of repairs among them
+  -- these are the last steps of repairs among the steps that are tried in a round
   abbrev pub AreEndingsBy : Shared → Graph S → List (Attempt S) → List (Ending S) → Type 0
   AreEndingsBy stacks graph attempts endings =
       AreEndingsOf (token_by index parts) search.point.now (nodes_of stacks graph) (plain_attempts index attempts) (plain_endings index endings)

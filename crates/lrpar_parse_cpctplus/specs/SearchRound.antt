@@ -26,11 +26,11 @@ pub record PlainAttempt : Type 0 where
 abbrev pub AreOnce : {A : Type 0} → List A → Type 0
 AreOnce {A} xs = (i j : ℕ) (x : A) → slice_get xs i ≡ Some x → slice_get xs j ≡ Some x → i ≡ j
 
--- each one of the first list is in the other
+-- each element of the first list is in the other one
 abbrev pub AreAllIn : {A : Type 0} → List A → List A → Type 0
 AreAllIn {A} xs all = (x : A) → Contains xs x → Contains all x
 
--- the list is longer by those that have P, each once
+-- the elements that have P were appended, each once
 pub record Adds {A : Type 0} (P : A → Type 0) (old new : List A) : Type 0 where
   pub more : List A
   pub is : new ≡ old ++ more
@@ -42,12 +42,12 @@ pub record AreWeights (costs weights : List ℕ) : Type 0 where
   pub some : (t : ℕ) → Contains weights (token_cost costs t)
   pub once : AreOnce weights
 
--- an Insert of one of these tokens, below the end token, that costs as much
+-- an Insert of one of these tokens, below the end token, that costs this much
 abbrev pub IsInsertOf : List ℕ → ℕ → List ℕ → ℕ → ℕ → PlainAttempt → Type 0
 IsInsertOf costs end tokens from weight x =
     (x.from ≡ from) × ((t : ℕ) × (x.step ≡ PlainInsert t) × Contains tokens t × (t < end) × (token_cost costs t ≡ weight))
 
--- a Delete of the lexeme at the place, if one is left there and costs as much
+-- a Delete of the lexeme at the place, if one is left there and its token costs this much
 abbrev pub IsDeleteOf : {X : Type 0} → (X → ℕ) → List ℕ → Asked X → ℕ → ℕ → ℕ → PlainAttempt → Type 0
 IsDeleteOf token costs at place from weight x =
     (x.from ≡ from) × (x.step ≡ PlainDelete) × (place < length at.lexemes)

@@ -16,7 +16,7 @@ module _ {S : Type 0} (index : S → ℕ) (g : Grammar) (prod : PIdx S) where
   abbrev pub CanReduceBy : {X E : Type 0} → Building X E → ℕ → List E → Type 0
   CanReduceBy builds n entries = CanReduce builds g (index prod.0) n entries
 
-  -- the entry is one of its nodes over the n top entries
+  -- the entry is one of a node of the production over the n top entries
   abbrev pub IsNodeBy : {X E : Type 0} → Building X E → ℕ → List E → E → Type 0
   IsNodeBy builds n entries entry = IsNode builds g (index prod.0) n entries entry
 

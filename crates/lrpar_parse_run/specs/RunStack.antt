@@ -53,7 +53,7 @@ below_top n stack = take (length stack - n) stack
 abbrev pub Pops : {E Z : Type 0} → ℕ → Vec E Z → Vec E Z → Type 0
 Pops n old new = new.items ≡ below_top n old.items
 
--- the n elements on top are turned round
+-- the n elements on top are reversed
 abbrev pub TurnsTop : {E Z : Type 0} → ℕ → Vec E Z → Vec E Z → Type 0
 TurnsTop n old new = new.items ≡ below_top n old.items ++ reverse (on_top n old.items)
 

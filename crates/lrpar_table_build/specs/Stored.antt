@@ -81,7 +81,7 @@ module _ {S : Type 0} (index : S → ℕ) where
   table_of_rows g states actions conflicts =
       table_with g (states_of states) (map (λ row. map (action_entry index) row.items) actions.items) conflicts []
 
--- there are states, at most so many, and they have what the rows of a table need
+-- there is at least one state, and at most this number of them; and the states have what the rows of a table need
 pub record HaveRowsWithin {S : Type 0} (index : S → ℕ) (limit : ℕ) (g : Grammar) (states : List (State S)) : Type 0 where
   pub rows : HaveRows index g states
   pub some : 0 < length states

@@ -147,7 +147,7 @@ AppendsStep index choices from symbol next old new =
 abbrev pub AreSteps : {S : Type 0} → (S → ℕ) → Table → List (Option ChoiceOf) → List (Edge S) → Type 0
 AreSteps index table choices edges = AreEdges table choices (edges_of index edges)
 
--- each leads to a state of which the code can keep something
+-- each step leads to a state of which the code can keep something
 abbrev pub LeadWithin : {S : Type 0} → (S → ℕ) → List (Edge S) → List (Option (Access S)) → Type 0
 LeadWithin index edges accesses = All (λ edge. index edge.next.0 < length accesses) edges
 

@@ -17,7 +17,7 @@ added most (Some a) (Some b) = Some (min (a + b) most)
 added most (Some a) None = None
 added most None b = None
 
--- the lesser one of two numbers, as far as there are
+-- the lesser of two numbers, or the only one
 abbrev pub lesser_of : Option ℕ → Option ℕ → Option ℕ
 lesser_of (Some a) (Some b) = Some (min a b)
 lesser_of (Some a) None = Some a
