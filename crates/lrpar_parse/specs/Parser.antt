@@ -17,7 +17,7 @@ pub record Parser (R : Type 0) : Type 0 where
 abbrev pub with_recoverer : {R Q : Type 0} → Parser R → Q → Parser Q
 with_recoverer parser recoverer = record { checked = parser.checked; recoverer = recoverer; shifts = parser.shifts }
 
--- the parser is the old one, but that this number of lexemes must follow a repair
+-- the parser is the old one, except that this number of lexemes must follow a repair
 abbrev pub IsWithShifts : {R : Type 0} → Parser R → ℕ → Parser R → Type 0
 IsWithShifts parser count = λ new. new ≡ record parser { shifts = count }
 
