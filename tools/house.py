@@ -1,7 +1,7 @@
 #!/usr/bin/env python3
 """Looks whether the repository keeps the rules of the house: house.py [CHECK ..]
 
-    comments    no comment says 'the same by ..' in place of what is meant
+    comments    no comment of src or specs says 'the same by ..' in place of what is meant, and none of specs leans on the one above
     verbs       what changes something, or has no result, is named by a verb
     words       a word of house/words.txt is used where it has its one meaning
     subjects    the subject of a crate is told in crates.txt, and each page names the crates that there are

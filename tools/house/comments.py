@@ -1,4 +1,6 @@
-"""No comment says 'the same by ..' in place of what is meant."""
+"""No comment of `src` or `specs` says 'the same by ..' in place of what is meant, and none of `specs` leans on the definition above it.
+
+Comments of `proofs` may do both: who reads them has the lemma above in sight."""
 
 import re
 
@@ -9,8 +11,8 @@ COMMENT = re.compile(r"^\s*(?://[/!]?|--) ?(.*)$")
 ALONE = re.compile(
     r"(?:^|[.!?] )(?:The|the) same(?:$|[,.:;]| (?:by|with|without|for|of|as|if|over|at|after|before|in|on|but|when|where|to|from|and)\b)"
 )
-# A row of the definitions that an auditor reads begins with what is defined.
-POINTS_BACK = re.compile(r"(?:the same|it)\b", re.I)
+# An auditor reads a definition as a row of a table, without the rows above: its comment doesn't lean on them.
+POINTS_BACK = re.compile(r"(?:the same|its?|they|those|and|or|nor|such|so|if (?:it|they) d(?:o|id))\b", re.I)
 
 
 def comments(path):
@@ -26,7 +28,7 @@ def comments(path):
 
 
 def findings():
-    for folder, suffix in (("src", ".rt"), ("specs", ".antt"), ("proofs", ".antt")):
+    for folder, suffix in (("src", ".rt"), ("specs", ".antt")):
         for _, path in files(folder, suffix):
             for line, text in comments(path):
                 if match := ALONE.search(text):

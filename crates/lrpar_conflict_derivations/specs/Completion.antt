@@ -35,7 +35,7 @@ Finishes g front p k later text =
     (trees rest : Forest ℕ) → AreTreesOf g front trees → AreTreesOf g (drop k (symbols_of g p)) rest
     → (tree : Tree ℕ) × IsFinished g trees rest later text tree
 
--- if it is asked for, the token comes next
+-- if the token is asked for, it comes next
 abbrev pub IsNextIf : Grammar → ℕ → Bool → List ℕ → Type 0
 IsNextIf g token asked text = IsTrue asked → IsNext g token text
 
@@ -79,7 +79,7 @@ pub record IsUpLink (g : Grammar) (token : ℕ) (links : List LinkOf) (i : ℕ) 
   pub above : let x = link_at links i in x.dot ≡ 0 → x.prod ≢ start_prod g
       → (x.above < i) × ((link_at links x.above).rule ≡ rule_of g x.prod) × ((link_at links x.above).asked ≡ x.further)
 
--- each link is one
+-- each link leads up: its production is one of a reachable rule, and an item with the dot at the front has an earlier link of its rule
 abbrev pub AreUpLinks : Grammar → ℕ → List LinkOf → Type 0
 AreUpLinks g token links = (i : ℕ) → i < length links → IsUpLink g token links i
 
@@ -89,7 +89,7 @@ pub record UpOf : Type 0 where
   pub dot : ℕ
   pub asked : Bool
 
--- the same of the code
+-- a kernel item as it is stored, with a number for its production
 abbrev pub up_of : {S : Type 0} → (S → ℕ) → Up S → UpOf
 up_of index up = record { prod = index up.prod.0; dot = up.dot; asked = up.asked }
 

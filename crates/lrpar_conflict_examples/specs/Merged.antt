@@ -11,7 +11,7 @@ abbrev pub conflicts_of : {S : Type 0} → (S → ℕ) → MergedConflicts S →
 conflicts_of index found =
     map (λ (x : ConflictExampleOf). x.conflict) found.examples.items ++ (unmet_in index found.unmet.items ++ unmet_in index found.merged.items)
 
--- the conflict was added to one of them
+-- the conflict was added to one of the three lists
 abbrev pub AddsConflict : {S : Type 0} → (S → ℕ) → ConflictOf → MergedConflicts S → MergedConflicts S → Type 0
 AddsConflict index conflict old new = IsPermutation (conflict ∷ conflicts_of index old) (conflicts_of index new)
 
@@ -19,7 +19,7 @@ AddsConflict index conflict old new = IsPermutation (conflict ∷ conflicts_of i
 abbrev pub KeepsExamples : {S : Type 0} → MergedConflicts S → MergedConflicts S → Type 0
 KeepsExamples old new = new.examples ≡ old.examples
 
--- this conflict with its counterexample was added to them
+-- this conflict with its counterexample was added to the counterexamples
 abbrev pub AddsExample : {S : Type 0} → ConflictExampleOf → MergedConflicts S → MergedConflicts S → Type 0
 AddsExample x old new = new.examples.items ≡ old.examples.items ++ x ∷ []
 

@@ -37,7 +37,7 @@ texts_of m = map (λ x. x.items) m.texts.items
 abbrev pub IsMatched : Matching → Type 0
 IsMatched m = AreMatched (prods_of m) (texts_of m) m.first m.next.items m.free.items m.places.items
 
--- why a text isn't taken: no production has its numbers; each that has them has a text already; or an allocation failed
+-- why a text is refused: no production has its numbers; or each that has them has a text already; or an allocation failed
 abbrev pub IsMisfit : List (List ℕ) → List (List ℕ) → List ℕ → Misfit → Type 0
 IsMisfit prods texts numbers Unknown = count_of numbers prods ≡ 0
 IsMisfit prods texts numbers Repeated = (0 < count_of numbers prods) × (count_of numbers prods ≤ count_of numbers texts)

@@ -37,7 +37,7 @@ pub record IsMissingAt (n : NamedSymbols) (prods texts : List (List ℕ)) (p : �
   pub few : count_of (numbers_at prods p) all.spelled ≤ count_of (numbers_at prods p) (take p prods)
   pub first : (q : ℕ) → q < p → HasText prods all.spelled q
 
--- why a text isn't taken
+-- why a text is refused: it spells no production; or all productions that it spells have a text; or an allocation failed
 abbrev pub IsTextFault : NamedSymbols → List (List ℕ) → List (List ℕ) → SpelledFault → Type 0
 IsTextFault n prods texts (Unknown text place) = IsUnknownAt n prods texts (string_bytes text) place
 IsTextFault n prods texts (Repeated text place) = IsRepeatedAt n prods texts (string_bytes text) place
@@ -71,6 +71,6 @@ IsMissingOf g p _ = ⊥
 abbrev pub AreUnlisted : Grammar → List (List ℕ) → SpelledFault → Type 0
 AreUnlisted g texts fault = fault ≢ Memory → (places : List (Option ℕ)) → IsListing g texts places → ⊥
 
--- the same for texts that come in parts
+-- unless an allocation failed, the texts, which come in parts, list the productions in no way
 abbrev pub AreUnlistedInParts : Grammar → List (List (List ℕ)) → SpelledFault → Type 0
 AreUnlistedInParts g parts fault = fault ≢ Memory → (places : List (Option (ℕ × ℕ))) → IsListingInParts g parts places → ⊥

@@ -10,7 +10,7 @@ NumbersTellApart =
     (g : Grammar) (p q : ℕ) → IsWellFormed g → p < prods_len g → q < prods_len g
     → (numbers_of g p ≡ numbers_of g q) ↔ ((rule_of g p ≡ rule_of g q) × (symbols_of g p ≡ symbols_of g q))
 
--- in a list of productions, two of them have two places, and those of productions that are spelled alike are in the order of these
+-- in a list of texts two productions have two places, and productions that are spelled alike have theirs in order
 abbrev pub ListingsKeepOrder : Type 0
 ListingsKeepOrder =
     (g : Grammar) (texts : List (List ℕ)) (places : List (Option ℕ)) → IsListing g texts places

@@ -34,7 +34,7 @@ pub record ArePlaces (parts : List (List (List ℕ))) (places : List (ℕ × ℕ
   pub len : length places ≡ length (joined parts)
   pub each : (t : ℕ) → t < length places → IsPlaceInPart parts t (slice_index_or places t (0, 0)).0 (slice_index_or places t (0, 0)).1
 
--- the part and the place in it, of a place in the whole list
+-- for a place in the whole list the number of its part, and the place in that part
 abbrev pub place_in_parts : List (ℕ × ℕ) → Option ℕ → Option (ℕ × ℕ)
 place_in_parts places None = None
 place_in_parts places (Some whole) = slice_get places whole

@@ -45,7 +45,7 @@ IsRightSide index g prod symbols = map (symbol_of index) symbols ≡ symbols_of 
 abbrev pub IsListedIn : {S : Type 0} → (S → ℕ) → Grammar → Symbol S → Type 0
 IsListedIn index g symbol = IsListedSymbol (rules_len g) (end_token g) (symbol_of index symbol)
 
--- so is each symbol of the production's right side
+-- each symbol of the production's right side is a listed rule or a token other than the end token
 abbrev pub HasListedRightSide : {S : Type 0} → (S → ℕ) → Grammar → PIdx S → Type 0
 HasListedRightSide index g prod = All (IsListedSymbol (rules_len g) (end_token g)) (symbols_of g (index prod.0))
 
@@ -53,7 +53,7 @@ HasListedRightSide index g prod = All (IsListedSymbol (rules_len g) (end_token g
 abbrev pub IsEndOf : {S : Type 0} → (S → ℕ) → Grammar → TIdx S → Type 0
 IsEndOf index g token = index token.0 ≡ end_token g
 
--- this is listed for the token, if it is listed
+-- this is what the grammar has for the token; none for the end token
 abbrev pub IsTokenAt : {S : Type 0} → (S → ℕ) → Grammar → TIdx S → Option (Bor TokenPart) → Type 0
 IsTokenAt index g token found = option_map (λ part. token_name_of part.now) found ≡ slice_get g.tokens (index token.0)
 

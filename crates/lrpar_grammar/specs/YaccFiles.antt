@@ -49,7 +49,7 @@ first_of None b = b
 first_of (Some a) None = Some a
 first_of (Some a) (Some b) = if nat_lt b.start a.start then Some b else Some a
 
--- the first name that a file declares something of, and that the grammar doesn't know
+-- the first name for which a file declares something, and which the grammar doesn't know
 abbrev pub unknown_token : Grammar → TextDeclarations → Option Extent
 unknown_token g d = first_of (unknown_prec g d) (unknown_avoided g d)
 

@@ -94,7 +94,7 @@ abbrev pub IsRefusalOf : ℕ → Parts → GrammarFault → Type 0
 IsRefusalOf limit x Memory = AreSound limit x
 IsRefusalOf limit x fault = IsFirstFault limit x fault
 
--- the production is one of these numbers of listed rules and tokens
+-- the production's rule and symbols are among these numbers of listed rules and tokens
 abbrev pub IsProdAmong : {S : Type 0} → (S → ℕ) → ℕ → ℕ → ProdPart S → Type 0
 IsProdAmong index rules tokens prod = IsListedProd (rules + 1) tokens (prod_of index prod)
 

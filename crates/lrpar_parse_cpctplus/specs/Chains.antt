@@ -65,7 +65,7 @@ abbrev pub LeastCostByLastSteps : Type 0 → Type 0
 LeastCostByLastSteps X =
     (token : X → ℕ) (costs : List ℕ) (at : Asked X) (c : ℕ) → IsStop token at → IsLeastCost token costs at c ↔ IsLeastLastCost token costs at c
 
--- the last steps at that cost are the links of the ends whose tails are nearer
+-- the last steps at the least cost of a repair are the links to ends whose tails are nearer than that
 abbrev pub LastStepsAreLinks : Type 0 → Type 0
 LastStepsAreLinks X =
     (token : X → ℕ) (costs : List ℕ) (at : Asked X) (c : ℕ) → AreCosts costs → IsLeastCost token costs at c

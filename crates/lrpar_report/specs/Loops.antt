@@ -24,11 +24,11 @@ step_of index step = record { prod = index step.prod.0; place = step.place }
 abbrev pub DeriveNothing : Grammar → List GrammarSymbol → Type 0
 DeriveNothing g symbols = (trees : Forest ℕ) × AreTreesOf g symbols trees × (forest_leaves trees ≡ [])
 
--- what comes before the symbol derives nothing
+-- the symbols before this place in a rule derive the empty text
 abbrev pub IsFrontPlace : Grammar → List GrammarSymbol → ℕ → Type 0
 IsFrontPlace g symbols place = DeriveNothing g (take place symbols)
 
--- nor does what comes after it: the rule derives the symbol alone
+-- the symbols before this place and those after it derive the empty text: the rule derives the symbol there alone
 abbrev pub IsLonePlace : Grammar → List GrammarSymbol → ℕ → Type 0
 IsLonePlace g symbols place = IsFrontPlace g symbols place × DeriveNothing g (drop (place + 1) symbols)
 

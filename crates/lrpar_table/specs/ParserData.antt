@@ -33,12 +33,14 @@ abbrev pub IsUnbuilt : {S : Type 0} → ℕ → Grammar → ℕ → ℕ → Unbu
 IsUnbuilt limit g most bound (Table fault grm) = (grm ≡ g) × IsBuildRefusal g most limit fault
 IsUnbuilt limit g most bound (Chains refused) = IsRefusedBuilt g most bound refused
 
--- the same by precedences: whether it is complete isn't said
+-- a checked table that was built of the grammar, by the precedences; nothing is said on whether it is complete
 abbrev pub IsParserDataBy : Grammar → PrecedenceLists → ℕ → ℕ → Checked → Type 0
 IsParserDataBy g precedences most cap = IsMinimisedData Canonical g precedences most cap
 
+-- a table that was built of the grammar, by the precedences, and is refused for its chains
 abbrev pub IsRefusedBuiltBy : Grammar → PrecedenceLists → ℕ → ℕ → Unchecked → Type 0
 IsRefusedBuiltBy g precedences most cap = IsRefusedMinimised Canonical g precedences most cap
 
+-- why there is no checked table by the precedences: none is built; or its chains are too long, or an allocation failed
 abbrev pub IsUnbuiltBy : {S : Type 0} → ℕ → Grammar → PrecedenceLists → ℕ → ℕ → Unbuilt S → Type 0
 IsUnbuiltBy limit g precedences most bound = IsUnminimised Canonical limit g precedences most bound

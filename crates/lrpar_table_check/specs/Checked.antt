@@ -26,14 +26,14 @@ pub record IsChecked (d : Checked) : Type 0 where
 abbrev pub HasBounds : Checked → Type 0
 HasBounds d = IsBounded d.grammar d.table d.cap
 
--- the same without a cap, and why it is refused
+-- a grammar with a graph and a table that were refused, and why
 pub record Unchecked : Type 0 where
   pub fault : CheckFault
   pub grammar : Grammar
   pub graph : Graph
   pub table : Table
 
--- the fault names what fails; out of memory is a fault only if the table is safe
+-- the fault names what fails; it is `Memory` only if the table is safe
 abbrev pub IsCheckFault : Grammar → Graph → Table → ℕ → CheckFault → Type 0
 IsCheckFault g graph table cap Shape = ¬ (HasShape g graph table)
 IsCheckFault g graph table cap (Safety condition s) = HasShape g graph table × (s < states_len table) × ¬ (IsSafeAt g graph table condition s)

@@ -15,7 +15,7 @@ IsCompleteTable d = IsComplete d.grammar d.graph d.table
 abbrev pub IsCompleteFaultOf : Checked → CompleteFault → Type 0
 IsCompleteFaultOf d = IsCompleteFault d.grammar d.graph d.table
 
--- its runs accept exactly the sentences, each by its only tree
+-- the runs of the checked table accept exactly the sentences, each by its only tree
 abbrev pub AcceptsSentences : Checked → Type 0
 AcceptsSentences d = TakesSentences (λ (x : LexemeFacts). x.token) d.grammar d.table
 

@@ -10,7 +10,7 @@ use Rattle.lrpar_table_rows.specs.Table.{Table, IsClosed}
 use Rattle.lrpar_table_conditions.specs.Complete.{IsComplete}
 use Rattle.lrpar_table_stacks.specs.Run.{Far, FarEnd, Accepted, Stopped, Stop}
 
--- the run from the start over these lexemes makes these reductions, and ends so
+-- the run from the start over these lexemes makes these reductions, and has this end
 abbrev pub RunsTo : {X : Type 0} → (X → ℕ) → Grammar → Table → List X → List ℕ → FarEnd → Type 0
 RunsTo token g table lexemes prods end = Far token g table lexemes (table.start ∷ []) 0 prods end
 
@@ -29,7 +29,7 @@ pub record TakesSentences {X : Type 0} (token : X → ℕ) (g : Grammar) (table 
   pub prefix : (lexemes : List X) (prods : List ℕ) (stop : Stop) → RunsTo token g table lexemes prods (Stopped stop)
       → stop.place < length lexemes → BeginsNoSentence token g (take (stop.place + 1) lexemes)
 
--- over lexemes of type X, a checked table that is complete has such runs
+-- over lexemes of type X, the runs of a complete table accept exactly the sentences, each by its only tree
 abbrev pub CompleteTablesTakeSentences : Type 0 → Type 0
 CompleteTablesTakeSentences X =
     (token : X → ℕ) (g : Grammar) (graph : Graph) (table : Table) → IsWellFormed g → IsClosed table → IsSafe g graph table

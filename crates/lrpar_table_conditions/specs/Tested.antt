@@ -94,7 +94,7 @@ ClosesItems index parts s = EachItem parts.sgraph.now (index s.0) (ClosesItem pa
 abbrev pub ClosesItemsBy : {S : Type 0} → (S → ℕ) → Completeness S → StIdx S → List TokenSet → Type 0
 ClosesItemsBy index parts s starts = EachItem parts.sgraph.now (index s.0) (ClosesAmong parts.grm.now (rows_of starts))
 
--- and by these sets for each item with the core
+-- C2 holds for each item with the core, by these sets
 abbrev pub ClosesCoreBy : {S : Type 0} → (S → ℕ) → Completeness S → StIdx S → PIdx S → ℕ → List TokenSet → Type 0
 ClosesCoreBy index parts s prod dot starts =
     EachOfCore parts.sgraph.now (index s.0) (index prod.0) dot (ClosesAmong parts.grm.now (rows_of starts))

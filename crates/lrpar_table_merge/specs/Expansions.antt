@@ -17,7 +17,7 @@ pub record IsExpanded {S : Type 0} (index : S → ℕ) (g : Grammar) (kernel : L
   pub items : AreSame (IsAmong (map (core_set index) successors.items.items)) (IsInClosure g (IsAmong kernel))
   pub next : AreSuccessors index g successors
 
--- those of its own kernel
+-- the expansion has the closure of its own kernel, and the kernels to which it goes
 abbrev pub IsExpansionOf : {S : Type 0} → (S → ℕ) → Grammar → Expansion S → Type 0
 IsExpansionOf index g expansion = IsExpanded index g (map (core_set index) expansion.kernel.items) expansion.successors
 
@@ -26,7 +26,7 @@ pub record AreKept {S : Type 0} (index : S → ℕ) (g : Grammar) (expansions : 
   pub sets : AreSets g expansions.sets
   pub all : All (IsExpansionOf index g) expansions.all.items
 
--- those of the kernel are at the place
+-- at the place are the closure of the kernel, and the kernels to which it goes
 pub record IsExpandedAt {S : Type 0} (index : S → ℕ) (g : Grammar) (all : List (Expansion S)) (kernel : List CoreSet) (place : ℕ) : Type 0 where
   pub low : place < length all
   pub is : (d : Expansion S) → IsExpanded index g kernel (slice_index_or all place d).successors

@@ -30,16 +30,16 @@ module _ {S : Type 0} (index : S → ℕ) where
   abbrev pub ShareGrammarAll : {A : Type 0} → List (Vec (CoreItems S) A) → List (Vec (CoreItems S) A) → Type 0
   ShareGrammarAll kernels nexts = (g : Grammar) × AreKernelsIfFilled index g kernels × AreNoneOrKernels g (kernel_rows index nexts)
 
-  -- lists that are kernels as soon as they have an item still are so, if the other list is a kernel
+  -- if the other list is a kernel, each list is still a kernel as soon as it has an item
   abbrev pub StayKernels : {A : Type 0} → List (Vec (CoreItems S) A) → List (CoreItems S) → List (Vec (CoreItems S) A) → Type 0
   StayKernels old next new = (g : Grammar) → AreKernelsIfFilled index g old → IsKernelOf index g next → AreKernelsIfFilled index g new
 
-  -- lists that are kernels as soon as they have an item still are so, if the other list is a kernel or has no cores
+  -- if the other list is a kernel or has no cores, each list is still a kernel as soon as it has an item
   abbrev pub StayKernelsIfAny : {A : Type 0} → List (Vec (CoreItems S) A) → List (CoreItems S) → List (Vec (CoreItems S) A) → Type 0
   StayKernelsIfAny old next new =
       (g : Grammar) → AreKernelsIfFilled index g old → IsNoneOrKernel g (map (core_set index) next) → AreKernelsIfFilled index g new
 
-  -- lists that are kernels as soon as they have an item still are so, if each of the others is a kernel or has no cores
+  -- if each of the other lists is a kernel or has no cores, each list is still a kernel as soon as it has an item
   abbrev pub StayKernelsAll : {A : Type 0} → List (Vec (CoreItems S) A) → List (Vec (CoreItems S) A) → List (Vec (CoreItems S) A) → Type 0
   StayKernelsAll old nexts new =
       (g : Grammar) → AreKernelsIfFilled index g old → AreNoneOrKernels g (kernel_rows index nexts) → AreKernelsIfFilled index g new
@@ -72,7 +72,7 @@ module _ {S : Type 0} (index : S → ℕ) where
   abbrev pub PassesRow : {A : Type 0} → List (Option ℕ) → List (Vec (CoreItems S) A) → List (Vec (CoreItems S) A) → List (Vec (CoreItems S) A) → Type 0
   PassesRow row nexts old new = ArePassedAlong row (kernel_rows index nexts) (length nexts) (kernel_rows index old) (kernel_rows index new)
 
-  -- items were only added, and each state that got any waits; those that waited still do
+  -- items were only added; each state that got some waits, and each state that waited still waits
   abbrev pub AddsItems : {A : Type 0} → List (Vec (CoreItems S) A) → List Bool → List (Vec (CoreItems S) A) → List Bool → Type 0
   AddsItems old waited new waits = AreAdded (kernel_rows index old) waited (kernel_rows index new) waits
 

@@ -31,7 +31,7 @@ HasSlotsFor entries slots = All (λ entry. entry.0 < length slots) entries
 abbrev pub IsTwiceIn : List (ℕ × Precedence) → ℕ → Type 0
 IsTwiceIn entries n = 2 ≤ times_listed (keys_of entries) n
 
--- each production without a precedence took that of its last token, and each other one has what it had
+-- each production without a precedence got that of its last token, and each other one has what it had
 abbrev pub TakesLast : Grammar → List (Option Precedence) → List (Option Precedence) → List (Option Precedence) → Type 0
 TakesLast g tokens old new =
     (p : ℕ) → p < prods_len g → slot_at new p ≡ option_or (slot_at old p) (option_and_then (slot_at tokens) (last_token (symbols_of g p)))

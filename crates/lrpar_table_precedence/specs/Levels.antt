@@ -56,7 +56,7 @@ last_token (Terminal t ∷ rest) = Some (unwrap_or (last_token rest) t)
 abbrev pub declared_token : List LevelOf → ℕ → Option Precedence
 declared_token levels t = lookup (nat_eq t) (token_entries levels)
 
--- the precedence that they declare for production p
+-- the precedence that the levels declare for production p
 abbrev pub declared_prod : Grammar → List LevelOf → List (ℕ × ℕ) → ℕ → Option Precedence
 declared_prod g levels named p =
     option_or (lookup (nat_eq p) (prod_entries levels named)) (option_and_then (declared_token levels) (last_token (symbols_of g p)))

@@ -11,23 +11,25 @@ use Rattle.lrpar_table_precedence.specs.declared.precedence.Precedence.{Preceden
 use Rattle.lrpar_table_precedence.specs.declared.precedence.Resolution.{Resolution}
 use Rattle.lrpar_table_precedence.specs.declared.precedence.Resolution.TheVariants.{Shift, Reduce, Error}
 
--- at one level: if it associates to the left, the state reduces; if to the right, it shifts; if not at all, it is an error
+-- how a conflict is resolved if both have one level: by a reduction if it is left-associative, by the shift if it is right-associative,
+-- and to an error if it is nonassociative
 abbrev pub by_kind : AssocKind → Resolution
 by_kind Left = Reduce
 by_kind Right = Shift
 by_kind Nonassoc = Error
 
--- by how the production's level compares with the token's: the higher level wins
+-- how a conflict is resolved by the levels of the production and the token: the higher one wins, and at one level its associativity
+-- decides
 abbrev pub by_levels : Ordering → AssocKind → Resolution
 by_levels Less kind = Shift
 by_levels Equal kind = by_kind kind
 by_levels Greater kind = Reduce
 
--- a production's precedence against a token's
+-- how a production's precedence against a token's resolves a conflict
 abbrev pub against : Precedence → Precedence → Resolution
 against prod token = by_levels (nat_cmp prod.level token.level) token.kind
 
--- the same, if both have a precedence; otherwise nothing is decided
+-- what a production's precedence against a token's decides, if both have one; otherwise nothing is decided
 abbrev pub decided : Option Precedence → Option Precedence → Option Resolution
 decided (Some prod) (Some token) = Some (against prod token)
 decided (Some prod) None = None

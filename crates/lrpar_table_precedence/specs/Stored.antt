@@ -44,7 +44,7 @@ module _ {S : Type 0} (index : S → ℕ) where
   abbrev pub IsFaultOf : Grammar → List (Level S) → List (PIdx S × ℕ) → PrecedenceFault → Type 0
   IsFaultOf g levels named fault = IsPrecedenceFault g (levels_of levels) (names_of named) fault
 
-  -- the same, whatever productions name a level
+  -- the fault says why the levels make no precedences, whatever productions name a level
   abbrev pub IsTokenFault : Grammar → List (Level S) → PrecedenceFault → Type 0
   IsTokenFault g levels fault = (named : List (ℕ × ℕ)) → IsPrecedenceFault g (levels_of levels) named fault
 

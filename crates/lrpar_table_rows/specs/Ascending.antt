@@ -15,7 +15,7 @@ pub record IsAscending {X : Type 0} (cmp : X → X → Ordering) (xs : List X) :
   pub sorted : IsStrictlySortedBy cmp xs
   pub exact : ComparesExactly cmp
 
--- the same elements, in any order and each any number of times
+-- the lists have the same elements, in any order and each any number of times
 abbrev pub HaveSame : {X : Type 0} → List X → List X → Type 0
 HaveSame {X} xs ys = (x : X) → Contains xs x ↔ Contains ys x
 

@@ -24,7 +24,7 @@ run_items [] runs = []
 run_items (core ∷ cores) [] = []
 run_items (core ∷ cores) (run ∷ runs) = core_items core run ++ run_items cores runs
 
--- those of them that are left from the core at a place on, and from one of its lookaheads on
+-- the items of cores that are left from a core on, by its index, and from one of its lookaheads on
 abbrev pub items_left : {S : Type 0} → List (PIdx S × ℕ) → List (List (TIdx S)) → ℕ → ℕ → List (PIdx S × ℕ × TIdx S)
 items_left [] runs place token = []
 items_left (core ∷ cores) [] place token = []
@@ -39,7 +39,7 @@ tokens_of runs = map (λ run. run.items) runs
 abbrev pub items_of_rows : {S Z : Type 0} → List (PIdx S × ℕ × Vec (TIdx S) Z) → List (PIdx S × ℕ × TIdx S)
 items_of_rows rows = flat_map (λ row. core_items (row.0, row.1) row.2.items) rows
 
--- the same by their numbers
+-- the items of rows, each a core with lookaheads, by their numbers
 abbrev pub set_of_rows : {S Z : Type 0} → (S → ℕ) → List (PIdx S × ℕ × Vec (TIdx S) Z) → List ItemOf
 set_of_rows index rows = map (item_of index) (items_of_rows rows)
 

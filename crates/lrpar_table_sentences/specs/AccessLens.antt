@@ -26,7 +26,7 @@ pub record EdgeOf : Type 0 where
   pub next : ℕ
   pub len : ℕ
 
--- those of the code
+-- edges as they are stored, with numbers for their steps and states
 abbrev pub edge_of : {S : Type 0} → (S → ℕ) → Edge S → EdgeOf
 edge_of index x = record { step = step_of index x.step; next = index x.next.0; len = x.len }
 
@@ -66,7 +66,7 @@ StoresActions table s = (t : ℕ) (action : TableAction) → Contains (actions_a
 abbrev pub StoresGotos : Table → ℕ → Type 0
 StoresGotos table s = (r next : ℕ) → Contains (gotos_at table s) (r, next) ↔ (goto_of table s r ≡ Some next)
 
--- and so are both
+-- the actions and the gotos that are stored for state s are its own
 pub record IsStoredAt (table : Table) (s : ℕ) : Type 0 where
   pub actions : StoresActions table s
   pub gotos : StoresGotos table s
@@ -117,7 +117,7 @@ NoStepIsOpen most accesses edges = (e : EdgeOf) → Contains edges e → open_by
 abbrev pub HasOpenStep : ℕ → List (Option AccessOf) → List EdgeOf → ℕ → Type 0
 HasOpenStep most accesses edges len = (e : EdgeOf) × Contains edges e × (open_by most accesses e ≡ Some len)
 
--- and none has less
+-- no open step has less than this length
 abbrev pub NoStepIsLess : ℕ → List (Option AccessOf) → List EdgeOf → ℕ → Type 0
 NoStepIsLess most accesses edges len = (e : EdgeOf) (other : ℕ) → Contains edges e → open_by most accesses e ≡ Some other → len ≤ other
 
@@ -147,7 +147,7 @@ AppendsStep index choices from symbol next old new =
 abbrev pub AreSteps : {S : Type 0} → (S → ℕ) → Table → List (Option ChoiceOf) → List (Edge S) → Type 0
 AreSteps index table choices edges = AreEdges table choices (edges_of index edges)
 
--- each leads to a state of which the code can keep something
+-- each step leads to a state of which the code can keep something
 abbrev pub LeadWithin : {S : Type 0} → (S → ℕ) → List (Edge S) → List (Option (Access S)) → Type 0
 LeadWithin index edges accesses = All (λ edge. index edge.next.0 < length accesses) edges
 

@@ -17,7 +17,7 @@ added most (Some a) (Some b) = Some (min (a + b) most)
 added most (Some a) None = None
 added most None b = None
 
--- the lesser one of two numbers, as far as there are
+-- the lesser of two numbers, or the only one
 abbrev pub lesser_of : Option ℕ → Option ℕ → Option ℕ
 lesser_of (Some a) (Some b) = Some (min a b)
 lesser_of (Some a) None = Some a
@@ -57,7 +57,7 @@ NoneIsOpen g most choices = (p : ℕ) → p < prods_len g → open_len g most ch
 abbrev pub HasOpen : Grammar → ℕ → List (Option ChoiceOf) → ℕ → Type 0
 HasOpen g most choices len = (p : ℕ) × (p < prods_len g) × (open_len g most choices p ≡ Some len)
 
--- and none has less
+-- no open production has less than this length
 abbrev pub NoneIsLess : Grammar → ℕ → List (Option ChoiceOf) → ℕ → Type 0
 NoneIsLess g most choices len = (p other : ℕ) → p < prods_len g → open_len g most choices p ≡ Some other → len ≤ other
 

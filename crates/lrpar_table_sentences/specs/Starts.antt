@@ -25,23 +25,23 @@ pub record StartOf : Type 0 where
   pub prod : ℕ
   pub place : ℕ
 
--- those of the code
+-- starts as they are stored, with numbers for their productions
 abbrev pub start_of : {S : Type 0} → (S → ℕ) → Start S → StartOf
 start_of index x = record { prod = index x.prod.0; place = x.place }
 
 abbrev pub starts_of : {S : Type 0} → (S → ℕ) → List (Option (Start S)) → List (Option StartOf)
 starts_of index starts = map (option_map (start_of index)) starts
 
--- that of rule r; out of range, none
+-- how rule r can begin with the token; out of range, none
 abbrev pub start_at : List (Option StartOf) → ℕ → Option StartOf
 start_at starts r = slice_index_or starts r None
 
--- that of a symbol: a token has none
+-- how a symbol can begin with the token, if it is a rule; a token has no such start
 abbrev pub start_by : List (Option StartOf) → GrammarSymbol → Option StartOf
 start_by starts (Terminal t) = None
 start_by starts (Nonterminal r) = start_at starts r
 
--- the place, if there is a length
+-- the place, if the symbols have a length
 abbrev pub place_if : Option ℕ → Option ℕ → Option ℕ
 place_if (Some len) place = place
 place_if None place = None
@@ -83,7 +83,8 @@ abbrev mutual
   ForestStarts g choices starts first (suc place) (Cons t ts) (s ∷ ss) =
       Follows g choices t s × (width t ≡ 0) × ForestStarts g choices starts first place ts ss
 
--- how rules can begin is right as far as it goes: by a production of the rule, at one of its places; and there is a tree that does
+-- the starts are right as far as they go: each is a production of its rule and a place in it, and some tree of the rule begins with the
+-- token by it
 pub record AreStarts (g : Grammar) (choices : List (Option ChoiceOf)) (first : ℕ) (starts : List (Option StartOf)) : Type 0 where
   pub rules : length starts ≡ rules_len g
   pub within : (r : ℕ) (x : StartOf) → start_at starts r ≡ Some x
@@ -105,11 +106,11 @@ pub record AreRightStarts {S : Type 0} (index : S → ℕ) (g : Grammar) (choice
 abbrev pub CanStartBy : {S : Type 0} → (S → ℕ) → Grammar → List (Option (Choice S)) → TIdx S → List (Option (Start S)) → PIdx S → Type 0
 CanStartBy index g choices first starts prod = CanStart g MAX (choices_of index choices) (index first.0) (starts_of index starts) (index prod.0)
 
--- that is so of each production
+-- if a production has a length and a place, its rule can begin: this holds for each production
 abbrev pub AreAllStarts : {S : Type 0} → (S → ℕ) → Grammar → List (Option (Choice S)) → TIdx S → List (Option (Start S)) → Type 0
 AreAllStarts index g choices first starts = (p : ℕ) → p < prods_len g → CanStart g MAX (choices_of index choices) (index first.0) (starts_of index starts) p
 
--- this is how a symbol can begin, if it is a rule that can
+-- this is how a symbol can begin, if it is a rule that can begin with the token
 abbrev pub IsStartFor : {S : Type 0} → (S → ℕ) → List (Option (Start S)) → Symbol S → Option (Start S) → Type 0
 IsStartFor index starts symbol found = option_map (start_of index) found ≡ start_by (starts_of index starts) (symbol_of index symbol)
 
@@ -122,7 +123,7 @@ abbrev pub place_in_symbols : {S : Type 0} → (S → ℕ) → List (Option (Cho
 place_in_symbols index choices starts first symbols =
     place_of (choices_of index choices) (starts_of index starts) (index first.0) (map (symbol_of index) symbols)
 
--- that of a production, if its symbols are productive
+-- the first place in a production that can begin with the token, if its symbols are productive
 abbrev pub place_in_prod : {S : Type 0} → (S → ℕ) → Grammar → List (Option (Choice S)) → List (Option (Start S)) → TIdx S → PIdx S → Option ℕ
 place_in_prod index g choices starts first prod =
     place_if (total_len MAX (choices_of index choices) (symbols_of g (index prod.0)))
@@ -153,7 +154,7 @@ AppendsStart index g choices starts first symbol old new =
     (tree : Tree ℕ) → Starts g (choices_of index choices) (starts_of index starts) (index first.0) tree (symbol_of index symbol)
     → moves_in index new.items ≡ moves_in index old.items ++ moves_of tree
 
--- and those of trees of symbols, if they have a place at which the token can come
+-- the moves of trees of the symbols that begin with the token are appended, if there is a place in them at which the token can come
 abbrev pub AppendsStarts : {S B : Type 0} → (S → ℕ) → Grammar → List (Option (Choice S)) → List (Option (Start S)) → TIdx S → List (Symbol S)
     → Vec (Move S) B → Vec (Move S) B → Type 0
 AppendsStarts index g choices starts first symbols old new =

@@ -46,11 +46,11 @@ module _ {S : Type 0} (index : S → ℕ) (d : Viability S) (s : StIdx S) where
   abbrev pub HasCoreOf : PIdx S → ℕ → Type 0
   HasCoreOf pidx k = HasCore d.sgraph.now (index s.0) (index pidx.0) k
 
-  -- whether the marks justify that core
+  -- whether the marks justify the core of the production with k symbols before the dot
   abbrev pub by_marks : List Bool → PIdx S → ℕ → Bool
   by_marks marks pidx k = is_by_marks d.grm.now d.stable.now (index s.0) marks (index pidx.0) k
 
-  -- if they do, the rule after its dot is marked
+  -- if the marks justify the core of the production with k symbols before the dot, the rule after its dot is marked
   abbrev pub MarkAfter : List Bool → PIdx S → ℕ → Type 0
   MarkAfter marks pidx k = MarksOn d.grm.now d.stable.now (index s.0) marks (index pidx.0) k
 
