@@ -59,7 +59,7 @@ impl Drop for GrammarTable {
 
 /// The checked table of a grammar file. Warns of rules that are of no use, and of conflicts, unless the program is to be quiet. A table
 /// with another number of conflicts than the file expects is refused.
-pub fn table_of<O: Write, E: Write>(
+pub fn make_table<O: Write, E: Write>(
     alloc: Global,
     reporter: &Reporter<'_>,
     text: &str,
@@ -74,7 +74,7 @@ pub fn table_of<O: Write, E: Write>(
     };
     let avoided = avoided_tokens(alloc, &grammar, declared)?;
     let has_precedences = matches!(declared, Some(declared) if !declared.levels.is_empty());
-    let data = built_data(alloc, reporter, grammar, declared, asked, out, err)?;
+    let data = build_data(alloc, reporter, grammar, declared, asked, out, err)?;
     Ok(GrammarTable {
         data,
         avoided,
@@ -100,7 +100,7 @@ fn avoided_tokens(
 }
 
 // The checked table of a grammar whose conflicts are resolved by the precedences that its file declares, if it declares any.
-fn built_data<O: Write, E: Write>(
+fn build_data<O: Write, E: Write>(
     alloc: Global,
     reporter: &Reporter<'_>,
     grm: YaccGrammar<u32>,
