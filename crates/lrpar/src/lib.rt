@@ -17,6 +17,14 @@ pub use lrpar_parse_trees::Node;
 pub use lrpar_table::check::ParserData;
 pub use lrpar_table::{build, check, precedences, table};
 
+/// `.y` files: the grammar of one, what it declares beside the grammar, and what can be wrong with it.
+pub mod yacc {
+    pub use lrpar_grammar_yacc::declarations::{Declarations, Level, Number, Prec};
+    pub use lrpar_grammar_yacc::faults::{YaccFault, YaccText};
+    pub use lrpar_grammar_yacc::file::{YaccFile, YaccFileFault};
+    pub use lrpar_grammar_yacc::parts::YaccKind;
+}
+
 /// Spans of a text, and the numbers of rules, productions, tokens and states.
 pub mod span {
     pub use crate::storage_num::StorageNum;

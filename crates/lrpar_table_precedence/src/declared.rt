@@ -6,9 +6,10 @@ ghost use Rattle.lrpar_table_precedence.specs.Precedence.{HasNoOtherProds};
 use crate::filled::empty_slots;
 use crate::precedence::Precedence;
 use crate::precedences::{Precedences, add_last_tokens};
-use lrpar_grammar::grammar::{Declarations, Level, Prec, YaccGrammar};
+use lrpar_grammar::grammar::YaccGrammar;
 use lrpar_grammar::span::StorageIndex;
 use lrpar_grammar_words::words::Word;
+use lrpar_grammar_yacc::declarations::{Declarations, Level, Prec};
 use std::alloc::{AllocError, Global};
 use std::collections::BTreeMap;
 

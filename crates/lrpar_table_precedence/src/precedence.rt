@@ -2,7 +2,7 @@
 ghost use Rattle.std.specs.Prelude.{◌≡◌};
 ghost use Rattle.lrpar_table_precedence.specs.Precedence.{against, by_kind, decided};
 
-pub use lrpar_grammar::grammar::AssocKind;
+pub use lrpar_grammar_yacc::parts::AssocKind;
 use std::cmp::Ordering;
 
 /// A precedence: the number of a level, the weakest first, counted from 0, and how the tokens of that level associate.

@@ -2,8 +2,9 @@
 use crate::faults::of_file;
 use crate::rows::{push_conflicts, push_place};
 use crate::subject::{MAX_STATES, Tables, of_unbuilt, read_back};
-use lrpar_grammar::grammar::{YaccFile, YaccGrammar};
+use lrpar_grammar::grammar::YaccGrammar;
 use lrpar_grammar::span::{PIdx, TIdx};
+use lrpar_grammar_yacc::file::YaccFile;
 use lrpar_table::build::{Minimiser, parser_data_by};
 use lrpar_table::check::ParserData;
 use lrpar_table::precedences::{Precedences, Resolution};
@@ -55,7 +56,7 @@ fn file_of<'a>(
     case: Case<'_, '_>,
     text: &'a str,
 ) -> Result<YaccFile<'a, u32>, Fault> {
-    match YaccGrammar::new_with_kind(alloc, kind_of(case), text) {
+    match YaccFile::new_with_kind(alloc, kind_of(case), text) {
         Ok(file) => Ok(file),
         Err(fault) => Err(of_file(&fault, case.number, "the text is no grammar")),
     }

@@ -1,7 +1,7 @@
 use Rattle.std.proofs.Common.{◌≡◌, ◌++◌, map, take}
 use Rattle.lrpar_grammar_yacc.specs.Declares.{level_of}
-use Rattle.lrpar_grammar.specs.YaccFiles.{level_names}
-use Rattle.lrpar_grammar.proofs.grammar.yacc.push_levels.Given as goal
+use Rattle.lrpar_grammar_yacc.specs.YaccFiles.{level_names}
+use Rattle.lrpar_grammar_yacc.proofs.file.push_levels.Given as goal
 
 -- the names of the levels so far are appended
 abbrev pub invariant-loop-level : goal.invariant-loop-level

@@ -1,6 +1,6 @@
 use Rattle.std.proofs.Common.{◌≡◌, ◌++◌, map, take}
 use Rattle.lrpar_grammar_words.specs.Words.{placed}
-use Rattle.lrpar_grammar.proofs.grammar.yacc.push_names.Given as goal
+use Rattle.lrpar_grammar_yacc.proofs.file.push_names.Given as goal
 
 -- the names of the words so far are appended
 abbrev pub invariant-loop-word : goal.invariant-loop-word

@@ -1,6 +1,6 @@
 use Rattle.std.proofs.Common.{sym, ◌∙◌}
-use Rattle.lrpar_grammar.proofs.YaccFileLemmas.{unknown_here, unknown_later}
-use Rattle.lrpar_grammar.proofs.grammar.yacc.unknown_word.Goals as goal
+use Rattle.lrpar_grammar_yacc.proofs.YaccFileLemmas.{unknown_here, unknown_later}
+use Rattle.lrpar_grammar_yacc.proofs.file.unknown_word.Goals as goal
 
 pub returns-then-not-contains_key : goal.returns-then-not-contains_key
 returns-then-not-contains_key c = λ names known.

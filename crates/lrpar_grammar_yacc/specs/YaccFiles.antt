@@ -9,16 +9,19 @@ use Rattle.std.specs.Ordering.{nat_cmp}
 use Rattle.lrpar_grammar_places.specs.Span.{Extent}
 use Rattle.lrpar_grammar_words.specs.declared.words.Word.{Word}
 use Rattle.lrpar_grammar_words.specs.Words.{PlacedWord, placed}
-use Rattle.lrpar_grammar.specs.declared.grammar.yacc.YaccFileFault.{YaccFileFault}
-use Rattle.lrpar_grammar.specs.declared.grammar.yacc.YaccFileFault.TheVariants.{Declared, Text, UnknownToken, Memory}
+use Rattle.lrpar_grammar_yacc.specs.declared.file.YaccFileFault.{YaccFileFault}
+use Rattle.lrpar_grammar_yacc.specs.declared.file.YaccFileFault.TheVariants.{Declared, Text, UnknownToken, Memory}
+use Rattle.lrpar_grammar_yacc.specs.declared.faults.YaccFault.{YaccFault}
+use Rattle.lrpar_grammar_yacc.specs.declared.faults.YaccFault.TheVariants.{Memory as YaccMemory}
 use Rattle.lrpar_grammar_yacc.specs.declared.declarations.Declarations.{Declarations}
 use Rattle.lrpar_grammar_yacc.specs.declared.declarations.Level.{Level}
 use Rattle.lrpar_grammar_yacc.specs.declared.declarations.Prec.{Prec}
 use Rattle.lrpar_grammar_yacc.specs.declared.parts.YaccKind.{YaccKind}
 use Rattle.lrpar_grammar_yacc.specs.Declares.{TextDeclarations, TextLevel, declarations, declarations_of, level_of, prec_of}
 use Rattle.lrpar_grammar_yacc.specs.Erasure.{erasure}
-use Rattle.lrpar_grammar_yacc.specs.Faults.{first_fault, IsFaultOf as IsDeclaredFault}
+use Rattle.lrpar_grammar_yacc.specs.Faults.{first_fault}
 use Rattle.lrpar_grammar_reader.specs.declared.parts.GrammarFault.{GrammarFault}
+use Rattle.lrpar_grammar_reader.specs.declared.parts.GrammarFault.TheVariants.{Memory as GrammarMemory}
 use Rattle.lrpar_grammar_reader.specs.Grammar.{Grammar}
 use Rattle.lrpar_grammar_reader.specs.Spells.{IsFaultOf, Spells}
 use Rattle.lrpar_grammar.specs.Stored.{texts_in}
@@ -59,7 +62,7 @@ pub record IsFileOf (kind : YaccKind) (text : List ℕ) (g : Grammar) : Type 0 w
   pub spelled : Spells (erasure kind text) g
   pub known : unknown_token g (declarations kind text) ≡ None
 
--- the file has no fault, but its erasure has this one, or an allocation failed
+-- the file has no fault, but its erasure has this one
 pub record HasTextFault (limit : ℕ) (kind : YaccKind) (text : List ℕ) (fault : GrammarFault) : Type 0 where
   pub sound : first_fault kind text ≡ None
   pub fault_is : IsFaultOf limit (erasure kind text) fault
@@ -71,10 +74,21 @@ pub record HasUnknownToken (kind : YaccKind) (text : List ℕ) (span : Extent) :
   pub spelled : Spells (erasure kind text) grammar
   pub unknown : unknown_token grammar (declarations kind text) ≡ Some span
 
+-- a fault of what a grammar text doesn't have, as a fault of the file
+abbrev pub of_declared : YaccFault → YaccFileFault
+of_declared YaccMemory = Memory
+of_declared fault = Declared fault
+
+-- a fault of the erasure, as a fault of the file
+abbrev pub of_text : GrammarFault → YaccFileFault
+of_text GrammarMemory = Memory
+of_text fault = Text fault
+
 -- why there is no grammar: the first fault of the file; else the fault of its erasure; else the first unknown name. Or an
--- allocation failed.
+-- allocation failed, which no other variant says.
 abbrev pub IsFileFault : ℕ → YaccKind → List ℕ → YaccFileFault → Type 0
-IsFileFault limit kind text (Declared fault) = IsDeclaredFault kind text fault
+IsFileFault limit kind text (Declared fault) = first_fault kind text ≡ Some fault
+IsFileFault limit kind text (Text GrammarMemory) = ⊥
 IsFileFault limit kind text (Text fault) = HasTextFault limit kind text fault
 IsFileFault limit kind text (UnknownToken span) = HasUnknownToken kind text span
 IsFileFault limit kind text Memory = Unit {0}

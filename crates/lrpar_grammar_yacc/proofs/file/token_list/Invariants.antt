@@ -1,5 +1,5 @@
 use Rattle.std.proofs.Common.{◌≡◌, map, take}
-use Rattle.lrpar_grammar.proofs.grammar.yacc.token_list.Given as goal
+use Rattle.lrpar_grammar_yacc.proofs.file.token_list.Given as goal
 
 -- the names of the tokens so far
 abbrev pub invariant-loop-name : goal.invariant-loop-name

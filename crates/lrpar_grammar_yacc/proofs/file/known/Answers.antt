@@ -2,8 +2,8 @@ use Rattle.std.proofs.Common.{◌≡◌, ◌+◌, ◌++◌, ◌∷◌, [], ℕ, 
 use Rattle.std.proofs.lemmas.List.{map-append, take_more}
 use Rattle.std.proofs.lemmas.Map.Text.{btree_map_updates_str}
 use Rattle.lrpar_grammar_yacc.proofs.FaultLemmas.{seen_more}
-use Rattle.lrpar_grammar.specs.YaccFiles.{AreNames}
-use Rattle.lrpar_grammar.proofs.grammar.yacc.known.Goals as goal
+use Rattle.lrpar_grammar_yacc.specs.YaccFiles.{AreNames}
+use Rattle.lrpar_grammar_yacc.proofs.file.known.Goals as goal
 
 pub loop-name-preserved : goal.loop-name-preserved
 loop-name-preserved c =

@@ -1,6 +1,6 @@
 use Rattle.std.proofs.Common.{map, take}
-use Rattle.lrpar_grammar.specs.YaccFiles.{AreNames}
-use Rattle.lrpar_grammar.proofs.grammar.yacc.known.Given as goal
+use Rattle.lrpar_grammar_yacc.specs.YaccFiles.{AreNames}
+use Rattle.lrpar_grammar_yacc.proofs.file.known.Given as goal
 
 -- the names so far are known
 abbrev pub invariant-loop-name : goal.invariant-loop-name

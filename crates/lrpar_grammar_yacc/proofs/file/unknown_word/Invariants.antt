@@ -1,7 +1,7 @@
 use Rattle.std.proofs.Common.{◌≡◌, ℕ, List, drop, map}
 use Rattle.lrpar_grammar_words.specs.Words.{placed}
-use Rattle.lrpar_grammar.specs.YaccFiles.{AreNames, unknown_among}
-use Rattle.lrpar_grammar.proofs.grammar.yacc.unknown_word.Given as goal
+use Rattle.lrpar_grammar_yacc.specs.YaccFiles.{AreNames, unknown_among}
+use Rattle.lrpar_grammar_yacc.proofs.file.unknown_word.Given as goal
 
 -- the words so far are known
 abbrev pub invariant-loop-word : goal.invariant-loop-word

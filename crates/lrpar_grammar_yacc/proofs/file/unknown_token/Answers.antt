@@ -1,8 +1,8 @@
 use Rattle.std.proofs.Common.{◌≡◌, ◌++◌, Bor, List, ℕ, map, ap, subst, ◌∙◌}
 use Rattle.lrpar_grammar_words.specs.Words.{PlacedWord, placed}
 use Rattle.lrpar_grammar_yacc.specs.Declares.{TextPrec, level_of, prec_of}
-use Rattle.lrpar_grammar.specs.YaccFiles.{AreNames, first_of, level_names, token_names, unknown_among}
-use Rattle.lrpar_grammar.proofs.grammar.yacc.unknown_token.Goals as goal
+use Rattle.lrpar_grammar_yacc.specs.YaccFiles.{AreNames, first_of, level_names, token_names, unknown_among}
+use Rattle.lrpar_grammar_yacc.proofs.file.unknown_token.Goals as goal
 
 pub returns : goal.returns
 returns g c =

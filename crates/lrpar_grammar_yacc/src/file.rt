@@ -1,18 +1,18 @@
-//! The grammar of a `.y` file, and what the file declares beside it.
+//! `.y` files: the grammar of one, and what it declares beside the grammar.
 ghost use Rattle.std.specs.Prelude.{◌≡◌, IfErr, IfOk, OnOk, string_bytes};
-ghost use Rattle.lrpar_grammar_reader.specs.SpansFit.{SpansFit};
+ghost use Rattle.lrpar_grammar.specs.Grammar.{IsWellFormed};
+ghost use Rattle.lrpar_grammar.specs.SpansFit.{SpansFit};
 ghost use Rattle.lrpar_grammar_yacc.specs.Declares.{declarations, declarations_of};
 ghost use Rattle.lrpar_grammar_yacc.specs.Erasure.{erasure};
-ghost use Rattle.lrpar_grammar.specs.declared.grammar.yacc.YaccFileFault.TheVariants.{Declared, Memory, Text};
-ghost use Rattle.lrpar_grammar.specs.YaccFiles.{AppendsLevels, AppendsNames, ArePrecWords, AreTokenNames, FindsUnknownName, HasNames, IsUnknownToken, first_of};
+ghost use Rattle.lrpar_grammar_yacc.specs.declared.file.YaccFileFault.TheVariants.{Memory};
+ghost use Rattle.lrpar_grammar_yacc.specs.YaccFiles.{AppendsLevels, AppendsNames, ArePrecWords, AreTokenNames, FindsUnknownName, HasNames, IsFileFault, IsFileOf, IsUnknownToken, first_of, of_declared, of_text};
 
-use super::value::YaccGrammar;
+use crate::declarations::{Declarations, Level, Prec};
+use crate::faults::{YaccFault, YaccText};
+use crate::parts::YaccKind;
+use lrpar_grammar::grammar::{GrammarFault, YaccGrammar};
 use lrpar_grammar_places::span::{Span, StorageIndex};
-use lrpar_grammar_reader::parts::GrammarFault;
 use lrpar_grammar_words::words::Word;
-use lrpar_grammar_yacc::declarations::{Declarations, Level, Prec};
-use lrpar_grammar_yacc::faults::{YaccFault, YaccText};
-use lrpar_grammar_yacc::parts::YaccKind;
 use std::alloc::{AllocError, AllocFailed, Global};
 use std::collections::BTreeMap;
 use thiserror::Error;
@@ -35,6 +35,35 @@ impl<'a, StorageT: StorageIndex> Drop for YaccFile<'a, StorageT> {
 }
 
 impl<'a, StorageT: StorageIndex> YaccFile<'a, StorageT> {
+    /// Reads a `.y` file. Its grammar is that of the erased file, which has blanks in place of all that a grammar text doesn't have:
+    /// actions, types, precedences and the like. So each place is one of the file.
+    ///
+    /// A name that `%left`, `%right` or `%nonassoc` declares is a token only if a rule uses it in quotes, or if `%token`
+    /// declares it. A `%prec` may have it even if it is none.
+    ///
+    /// Fails with the first fault of what is erased, by its place; else with the fault of the erased file, as
+    /// `YaccGrammar::new_with_storaget` answers it; else with `UnknownToken` at the first unknown name; or with `Memory` if an
+    /// allocation fails. Takes memory linear in the text, and time linear in it but for names: each is looked up in logarithmic time.
+    pub fn new_with_kind(
+        alloc: Global,
+        kind: YaccKind,
+        text: &'a str,
+    ) -> Result<Self, YaccFileFault>
+        ensures file { IfOk result (λ y. IsFileOf kind text.now y.grammar) }
+        ensures well_formed { IfOk result (λ y. IsWellFormed y.grammar) }
+        ensures fits { IfOk result (λ y. SpansFit y.grammar (erasure kind text.now)) }
+        ensures erased { IfOk result (λ y. string_bytes y.text.erased ≡ erasure kind text.now) }
+        ensures declared { IfOk result (λ y. declarations_of y.text.declarations ≡ declarations kind text.now) }
+        ensures faulty { IfErr result (IsFileFault StorageT.limit kind text.now) }
+    {
+        let text = YaccText::read(alloc, kind, text)?;
+        let grammar = YaccGrammar::new_with_storaget(alloc, text.erased.as_str())?;
+        match unknown_token(alloc, &grammar, &text.declarations)? {
+            Some(span) => Err(YaccFileFault::UnknownToken(span)),
+            None => Ok(YaccFile { grammar, text }),
+        }
+    }
+
     /// The grammar, and the erased file with what it declares beside the grammar.
     pub fn into_parts(self) -> (YaccGrammar<StorageT>, YaccText<'a>)
         ensures grammar { result.0 ≡ self.entry.grammar }
@@ -45,7 +74,7 @@ impl<'a, StorageT: StorageIndex> YaccFile<'a, StorageT> {
     }
 }
 
-/// Why there is no grammar of a `.y` file.
+/// Why there is no grammar of a `.y` file. A failed allocation is always `Memory`, and never in another variant.
 #[derive(Clone, Debug, Drop, PartialEq, Eq, Error)]
 pub enum YaccFileFault {
     /// A fault of what a grammar text doesn't have.
@@ -63,18 +92,24 @@ pub enum YaccFileFault {
 }
 
 impl From<YaccFault> for YaccFileFault {
-    ghost from_gives = { λ e fault. fault ≡ Declared e };
+    ghost from_gives = { λ e fault. fault ≡ of_declared e };
 
     fn from(fault: YaccFault) -> YaccFileFault {
-        YaccFileFault::Declared(fault)
+        match fault {
+            YaccFault::Memory => YaccFileFault::Memory,
+            fault => YaccFileFault::Declared(fault),
+        }
     }
 }
 
 impl From<GrammarFault> for YaccFileFault {
-    ghost from_gives = { λ e fault. fault ≡ Text e };
+    ghost from_gives = { λ e fault. fault ≡ of_text e };
 
     fn from(fault: GrammarFault) -> YaccFileFault {
-        YaccFileFault::Text(fault)
+        match fault {
+            GrammarFault::Memory => YaccFileFault::Memory,
+            fault => YaccFileFault::Text(fault),
+        }
     }
 }
 
@@ -83,40 +118,6 @@ impl From<AllocError> for YaccFileFault {
 
     fn from(_: AllocError) -> YaccFileFault {
         YaccFileFault::Memory
-    }
-}
-
-impl<StorageT: StorageIndex> YaccGrammar<StorageT> {
-    ghost use Rattle.lrpar_grammar_reader.specs.Grammar.{IsWellFormed};
-    ghost use Rattle.lrpar_grammar.specs.YaccFiles.{IsFileFault, IsFileOf};
-
-    /// The grammar of a `.y` file, with what the file declares beside it. It is the grammar of the erased file, which has blanks
-    /// in place of all that a grammar text doesn't have: actions, types, precedences and the like. So each place is one of the file.
-    ///
-    /// A name that `%left`, `%right` or `%nonassoc` declares is a token only if a rule uses it in quotes, or if `%token`
-    /// declares it. A `%prec` may have it even if it is none.
-    ///
-    /// Fails with the first fault of what is erased, by its place; else with the fault of the erased file, as
-    /// `new_with_storaget` answers it; else with `UnknownToken` at the first unknown name; or with `Memory` if an allocation
-    /// fails. Takes memory linear in the text, and time linear in it but for names: each is looked up in logarithmic time.
-    pub fn new_with_kind<'a>(
-        alloc: Global,
-        kind: YaccKind,
-        text: &'a str,
-    ) -> Result<YaccFile<'a, StorageT>, YaccFileFault>
-        ensures file { IfOk result (λ y. IsFileOf kind text.now y.grammar) }
-        ensures well_formed { IfOk result (λ y. IsWellFormed y.grammar) }
-        ensures fits { IfOk result (λ y. SpansFit y.grammar (erasure kind text.now)) }
-        ensures erased { IfOk result (λ y. string_bytes y.text.erased ≡ erasure kind text.now) }
-        ensures declared { IfOk result (λ y. declarations_of y.text.declarations ≡ declarations kind text.now) }
-        ensures faulty { IfErr result (IsFileFault StorageT.limit kind text.now) }
-    {
-        let text = YaccText::read(alloc, kind, text)?;
-        let grammar = YaccGrammar::new_with_storaget(alloc, text.erased.as_str())?;
-        match unknown_token(alloc, &grammar, &text.declarations)? {
-            Some(span) => Err(YaccFileFault::UnknownToken(span)),
-            None => Ok(YaccFile { grammar, text }),
-        }
     }
 }
 
