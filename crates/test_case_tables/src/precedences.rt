@@ -7,8 +7,9 @@ use lrpar_grammar::span::{PIdx, TIdx};
 use lrpar_grammar_yacc::file::YaccFile;
 use lrpar_table::build::{Minimiser, parser_data_by};
 use lrpar_table::check::ParserData;
-use lrpar_table::precedences::{Precedences, Resolution};
+use lrpar_table::precedences::Resolution;
 use lrpar_table::table::StateTable;
+use lrpar_table_levels::precedences_of_declarations;
 use std::alloc::Global;
 use test_case_lines::cases::Case;
 use test_case_lines::fault::Fault;
@@ -24,7 +25,7 @@ pub fn built_by_precedences(
 ) -> Result<ParserData<u32>, Fault> {
     let cap = cap_at(case, "cap")?;
     let (grammar, text) = file_of(alloc, case, text)?.into_parts();
-    let precedences = Precedences::declared(alloc, &grammar, &text.declarations)?;
+    let precedences = precedences_of_declarations(alloc, &grammar, &text.declarations)?;
     let minimiser = match case.value_or_nothing("minimiser") {
         "pager" => Minimiser::Pager,
         _ => Minimiser::Canonical,
