@@ -15,7 +15,23 @@ pub use lrpar_parse_lexemes::{
 };
 pub use lrpar_parse_trees::Node;
 pub use lrpar_table::check::ParserData;
-pub use lrpar_table::{build, check, precedences, table};
+pub use lrpar_table::{build, check, table};
+
+/// `.y` files: the grammar of one, what it declares beside the grammar, and what can be wrong with it.
+pub mod yacc {
+    pub use lrpar_grammar_yacc::declarations::{Declarations, Level, Number, Prec};
+    pub use lrpar_grammar_yacc::faults::{YaccFault, YaccText};
+    pub use lrpar_grammar_yacc::file::{YaccFile, YaccFileFault};
+    pub use lrpar_grammar_yacc::parts::YaccKind;
+}
+
+/// Precedences of tokens and productions, what they decide, and the levels or declarations that they are made of.
+pub mod precedences {
+    pub use lrpar_table::precedences::{AssocKind, Precedence, Precedences, Resolution};
+    pub use lrpar_table_levels::{
+        Level, PrecedenceFault, precedences_of_declarations, precedences_of_levels,
+    };
+}
 
 /// Spans of a text, and the numbers of rules, productions, tokens and states.
 pub mod span {

@@ -17,4 +17,3 @@ pub mod ProdText
 pub mod SpelledFaults
 pub mod SpelledParts
 pub mod SpelledLaws
-pub mod YaccFiles

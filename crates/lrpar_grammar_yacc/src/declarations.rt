@@ -4,10 +4,11 @@ ghost use Rattle.lrpar_grammar_words.specs.Words.{placed};
 ghost use Rattle.lrpar_grammar_yacc.specs.Declares.{declared_by, names_of, number_as, number_in, number_of};
 ghost use Rattle.lrpar_grammar_yacc.specs.Erasure.{IsPartOfText};
 
-use crate::parts::{AssocKind, PartKind};
+use crate::parts::PartKind;
 use crate::text::TextPart;
 use lrpar_grammar_places::span::Span;
 use lrpar_grammar_words::words::{Word, piece_at, word_at};
+use lrpar_table_precedence::precedence::AssocKind;
 use std::alloc::{AllocError, Global};
 
 /// Names whose precedence is the same.

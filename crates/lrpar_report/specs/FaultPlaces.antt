@@ -5,8 +5,8 @@ use Rattle.lrpar_grammar_places.specs.Lines.{line_of}
 use Rattle.lrpar_grammar_places.specs.Span.{Extent}
 use Rattle.lrpar_grammar_reader.specs.declared.parts.GrammarFault.{GrammarFault}
 use Rattle.lrpar_grammar_reader.specs.declared.parts.GrammarFault.TheVariants.{BadStart, BadSymbol, Memory, NoRules, RepeatedEpp, RepeatedStart, StorageTooSmall, Syntax, TokenIsRule, UnknownRule, UnknownToken}
-use Rattle.lrpar_grammar.specs.declared.grammar.yacc.YaccFileFault.{YaccFileFault}
-use Rattle.lrpar_grammar.specs.declared.grammar.yacc.YaccFileFault.TheVariants.{Declared, Memory as FileMemory, Text, UnknownToken as UnknownName}
+use Rattle.lrpar_grammar_yacc.specs.declared.file.YaccFileFault.{YaccFileFault}
+use Rattle.lrpar_grammar_yacc.specs.declared.file.YaccFileFault.TheVariants.{Declared, Memory as FileMemory, Text, UnknownToken as UnknownName}
 use Rattle.lrpar_grammar_yacc.specs.declared.faults.YaccFault.{YaccFault}
 use Rattle.lrpar_grammar_yacc.specs.declared.faults.YaccFault.TheVariants.{BadNumber, Memory as YaccMemory, MidRuleAction, RepeatedPrec, RepeatedPrecedence}
 use Rattle.lrpar_grammar_yacc.specs.declared.parts.YaccKind.{YaccKind}

@@ -7,13 +7,15 @@ use crate::kind::GrammarKind;
 use crate::show::{fault_of_report, push_reports, write_messages};
 use crate::source::{Source, source_of};
 use crate::states::push_states;
-use lrpar_grammar::grammar::{Declarations, YaccGrammar};
+use lrpar_grammar::grammar::YaccGrammar;
 use lrpar_grammar::span::TIdx;
+use lrpar_grammar_yacc::declarations::Declarations;
 use lrpar_report::{Report, Reporter, build_report, chain_report, rule_warnings_but};
 use lrpar_table::build::{BuildFault, Minimiser, from_yacc_by};
 use lrpar_table::check::{CheckFault, ParserData, Refused};
 use lrpar_table::precedences::Precedences;
 use lrpar_table::table::{StateGraph, StateTable};
+use lrpar_table_levels::precedences_of_declarations;
 use program_files::fault::Fault;
 use program_files::tables::MAX_STATES;
 use std::alloc::{AllocError, Global};
@@ -130,7 +132,7 @@ fn precedences_of(
     declared: Option<&Declarations<'_>>,
 ) -> Result<Precedences, AllocError> {
     match declared {
-        Some(declared) => Precedences::declared(alloc, grm, declared),
+        Some(declared) => precedences_of_declarations(alloc, grm, declared),
         None => Ok(Precedences::none(alloc)),
     }
 }

@@ -1,7 +1,6 @@
 //! The kinds of grammar files, and how the kind of a file is found.
-use lrpar_grammar::grammar::YaccKind;
 use lrpar_grammar_words::word_order::Expected;
-use lrpar_grammar_yacc::parts::PartKind;
+use lrpar_grammar_yacc::parts::{PartKind, YaccKind};
 use lrpar_grammar_yacc::steps::{StepKind, step_at};
 
 /// How a grammar file is read.

@@ -1,7 +1,7 @@
 //! The words after the program's name as options and paths.
 use crate::kind::GrammarKind;
 use crate::plan::{Format, Recovery};
-use lrpar_grammar::grammar::YaccKind;
+use lrpar_grammar_yacc::parts::YaccKind;
 use lrpar_table::build::Minimiser;
 use program_files::fault::{Fault, Misuse};
 use std::alloc::Global;

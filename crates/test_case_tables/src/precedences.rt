@@ -2,12 +2,14 @@
 use crate::faults::of_file;
 use crate::rows::{push_conflicts, push_place};
 use crate::subject::{MAX_STATES, Tables, of_unbuilt, read_back};
-use lrpar_grammar::grammar::{YaccFile, YaccGrammar};
+use lrpar_grammar::grammar::YaccGrammar;
 use lrpar_grammar::span::{PIdx, TIdx};
+use lrpar_grammar_yacc::file::YaccFile;
 use lrpar_table::build::{Minimiser, parser_data_by};
 use lrpar_table::check::ParserData;
-use lrpar_table::precedences::{Precedences, Resolution};
+use lrpar_table::precedences::Resolution;
 use lrpar_table::table::StateTable;
+use lrpar_table_levels::precedences_of_declarations;
 use std::alloc::Global;
 use test_case_lines::cases::Case;
 use test_case_lines::fault::Fault;
@@ -23,7 +25,7 @@ pub fn built_by_precedences(
 ) -> Result<ParserData<u32>, Fault> {
     let cap = cap_at(case, "cap")?;
     let (grammar, text) = file_of(alloc, case, text)?.into_parts();
-    let precedences = Precedences::declared(alloc, &grammar, &text.declarations)?;
+    let precedences = precedences_of_declarations(alloc, &grammar, &text.declarations)?;
     let minimiser = match case.value_or_nothing("minimiser") {
         "pager" => Minimiser::Pager,
         _ => Minimiser::Canonical,
@@ -55,7 +57,7 @@ fn file_of<'a>(
     case: Case<'_, '_>,
     text: &'a str,
 ) -> Result<YaccFile<'a, u32>, Fault> {
-    match YaccGrammar::new_with_kind(alloc, kind_of(case), text) {
+    match YaccFile::new_with_kind(alloc, kind_of(case), text) {
         Ok(file) => Ok(file),
         Err(fault) => Err(of_file(&fault, case.number, "the text is no grammar")),
     }

@@ -3,8 +3,9 @@ use crate::expectations::{holds, same};
 use lrpar_grammar::grammar::YaccGrammar;
 use lrpar_grammar::span::{PIdx, TIdx};
 use lrpar_table::build::from_yacc_with;
-use lrpar_table::precedences::{AssocKind, Level, PrecedenceFault, Precedences, Resolution};
+use lrpar_table::precedences::{AssocKind, Resolution};
 use lrpar_table::table::StateTable;
+use lrpar_table_levels::{Level, PrecedenceFault, precedences_of_levels};
 use std::alloc::Global;
 use std::process::Abort;
 use std::test::Fail;
@@ -85,7 +86,7 @@ fn levels(rt: &impl Abort, alloc: Global) -> Vec<Level<u8>> {
 fn table(rt: &impl Abort, alloc: Global, named: &[(PIdx<u8>, usize)]) -> StateTable<u8> {
     let grm = calculator(rt, alloc);
     let levels = levels(rt, alloc);
-    let precedences = Precedences::new(alloc, &grm, &levels, named).expect(rt, "precedences");
+    let precedences = precedences_of_levels(alloc, &grm, &levels, named).expect(rt, "precedences");
     let (_, table) = from_yacc_with(alloc, &grm, &precedences, 100).expect(rt, "a table");
     table
 }
@@ -134,7 +135,7 @@ fn refusal(
             .push(level(rt, alloc, kind, tokens))
             .expect(rt, "memory");
     }
-    Precedences::new(alloc, &grm, &levels, named).err()
+    precedences_of_levels(alloc, &grm, &levels, named).err()
 }
 
 #[test]
