@@ -1,6 +1,6 @@
 //! Trees as graphs for Graphviz.
 ghost use Rattle.std.specs.Prelude.{◌≡◌, ◌+◌, IfOk};
-ghost use Rattle.lrpar_parse_errors.specs.Strings.{Pushes};
+ghost use Rattle.lrpar_parse_lexemes.specs.Strings.{Pushes};
 ghost use Rattle.lrpar_parse_trees.specs.Graph.{edge_line, label_front, leaf_shape, name_label, rule_line};
 ghost use Rattle.lrpar_parse_trees.specs.Leaves.{PushesLabel, PushesLeafLine};
 ghost use Rattle.lrpar_parse_trees.specs.StoredTrees.{WritesBelow, WritesGraph, WritesNode};
@@ -8,7 +8,7 @@ ghost use Rattle.lrpar_parse_trees.specs.Written.{WritesAll};
 
 use crate::Node;
 use crate::labels::push_label;
-use crate::node_parts::{Leaf, leaf_of, rule_name, trees_of};
+use crate::node_parts::{Leaf, leaf_of, rule_name};
 use lrpar_grammar::grammar::YaccGrammar;
 use lrpar_grammar::span::StorageIndex;
 use lrpar_parse_lexemes::lex_api::Lexeme;
@@ -34,7 +34,7 @@ pub fn write_graph<LexemeT: Lexeme<StorageT>, StorageT: StorageIndex, W: Write>(
     let mut line = String::new(alloc);
     out.write_all(b"digraph tree {\n")?;
     write_node(out, &mut line, grm, input, 0, tree)?;
-    write_below(alloc, out, &mut line, grm, input, trees_of(tree))?;
+    write_below(alloc, out, &mut line, grm, input, tree.children())?;
     out.write_all(b"}\n")
 }
 
@@ -61,7 +61,7 @@ fn write_below<LexemeT: Lexeme<StorageT>, StorageT: StorageIndex, W: Write>(
                 above.push((parent, rest))?;
                 parent = next;
                 next = number_after(next)?;
-                left = trees_of(node);
+                left = node.children();
             }
             None => match above.pop() {
                 Some((number, rest)) => {

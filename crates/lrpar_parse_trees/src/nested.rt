@@ -1,6 +1,6 @@
 //! Trees on one line: the text of a node encloses the texts of its trees.
 ghost use Rattle.std.specs.Prelude.{false};
-ghost use Rattle.lrpar_parse_errors.specs.Strings.{Pushes};
+ghost use Rattle.lrpar_parse_lexemes.specs.Strings.{Pushes};
 ghost use Rattle.lrpar_parse_trees.specs.Leaves.{PushesBracketLeaf, PushesJsonLeaf, PushesJsonPlace, PushesLeaf};
 ghost use Rattle.lrpar_parse_trees.specs.Nested.{bracket_leaf, bracket_rule, json_inserted, json_rule, name_before, rule_front};
 ghost use Rattle.lrpar_parse_trees.specs.StoredTrees.{WritesFront, WritesNested, WritesTrees};
@@ -8,7 +8,7 @@ ghost use Rattle.lrpar_parse_trees.specs.StoredTrees.{WritesFront, WritesNested,
 use crate::Node;
 use crate::escapes::push_escaped;
 use crate::form::Form;
-use crate::node_parts::{Leaf, is_rule, leaf_of, rule_name, trees_of};
+use crate::node_parts::{Leaf, is_rule, leaf_of, rule_name};
 use lrpar_grammar::grammar::YaccGrammar;
 use lrpar_grammar::span::StorageIndex;
 use lrpar_parse_lexemes::lex_api::Lexeme;
@@ -33,7 +33,7 @@ pub fn write_nested<LexemeT: Lexeme<StorageT>, StorageT: StorageIndex, W: Write>
     let mut piece = String::new(alloc);
     write_front(out, &mut piece, form, grm, input, tree)?;
     if is_rule(tree) {
-        write_trees(alloc, out, &mut piece, form, grm, input, trees_of(tree))
+        write_trees(alloc, out, &mut piece, form, grm, input, tree.children())
     } else {
         Ok(())
     }
@@ -62,7 +62,7 @@ fn write_trees<LexemeT: Lexeme<StorageT>, StorageT: StorageIndex, W: Write>(
                 is_first = is_rule(node);
                 if is_first {
                     below.push(rest)?;
-                    left = trees_of(node);
+                    left = node.children();
                 } else {
                     left = rest;
                 }

@@ -1,13 +1,12 @@
 //! The text of a tree, with a line for each node, and the test whether a tree fits a grammar and an input.
 ghost use Rattle.std.specs.Prelude.{◌≡◌, ◌↔◌, ℕ, IfOk, IsTrue};
 ghost use Rattle.lrpar_parse_trees.specs.StoredTrees.{FitIn, FitsIn, IsTextOf, PushesRoot, RootFits};
-ghost use Rattle.lrpar_parse_trees.specs.TreeText.{nodes_below};
 
 use crate::node::Node;
 use crate::node::bounded::{CALLS, have_fewer_nodes};
 use lrpar_grammar::grammar::YaccGrammar;
 use lrpar_grammar::span::{StorageIndex, TIdx};
-use lrpar_parse_errors::spaces::push_spaces;
+use lrpar_parse_lexemes::spaces::push_spaces;
 use lrpar_parse_lexemes::lex_api::Lexeme;
 use std::alloc::{AllocError, Global};
 
@@ -47,13 +46,13 @@ impl<LexemeT: Lexeme<StorageT>, StorageT: StorageIndex> Node<LexemeT, StorageT> 
         let mut out = String::new(alloc);
         push_line(&mut out, grm, input, 0, self)?;
         let mut below = Vec::new(alloc);
-        let mut left = children(self);
+        let mut left = self.children();
         loop {
             match left.split_first() {
                 Some((node, rest)) => {
                     below.push(rest)?;
                     push_line(&mut out, grm, input, below.len(), node)?;
-                    left = children(node);
+                    left = node.children();
                 }
                 None => match below.pop() {
                     Some(rest) => left = rest,
@@ -82,9 +81,9 @@ fn all_fit<'a, LexemeT: Lexeme<StorageT>, StorageT: StorageIndex>(
                     return false;
                 }
                 match left.push(rest) {
-                    Ok(()) => nodes = children(node),
+                    Ok(()) => nodes = node.children(),
                     Err(_) => {
-                        if !fit_by_calls(grm, input, children(node), CALLS) {
+                        if !fit_by_calls(grm, input, node.children(), CALLS) {
                             return false;
                         }
                         nodes = rest;
@@ -114,7 +113,7 @@ fn fit_by_calls<'a, LexemeT: Lexeme<StorageT>, StorageT: StorageIndex>(
         if !root_fits(grm, input, node) {
             return false;
         }
-        let below = children(node);
+        let below = node.children();
         if calls > 0 || have_fewer_nodes(below, rest) {
             if !fit_by_calls(grm, input, below, calls.saturating_sub(1)) {
                 return false;
@@ -128,18 +127,6 @@ fn fit_by_calls<'a, LexemeT: Lexeme<StorageT>, StorageT: StorageIndex>(
         }
     }
     true
-}
-
-// The trees of the node's symbols. A lexeme has none.
-pub(crate) fn children<LexemeT, StorageT>(
-    node: &Node<LexemeT, StorageT>,
-) -> &[Node<LexemeT, StorageT>]
-    ensures { result.now ≡ nodes_below node.now }
-{
-    match node {
-        Node::Term { lexeme: _ } => &[],
-        Node::Nonterm { ridx: _, nodes } => nodes,
-    }
 }
 
 // Whether the root of the tree fits.

@@ -4,7 +4,7 @@ ghost use Rattle.lrpar_parse_trees.specs.StoredTrees.{FitsIn, RootFitsAfter, Wri
 ghost use Rattle.lrpar_parse_trees.specs.Written.{BeginsWithSpaces, HasOnlySpaces, IsSpaces, KeepsSpaces};
 
 use crate::node::Node;
-use crate::tree_text::{children, push_node, root_fits};
+use crate::tree_text::{push_node, root_fits};
 use lrpar_grammar::grammar::YaccGrammar;
 use lrpar_grammar::span::StorageIndex;
 use lrpar_parse_lexemes::lex_api::Lexeme;
@@ -31,14 +31,14 @@ impl<LexemeT: Lexeme<StorageT>, StorageT: StorageIndex> Node<LexemeT, StorageT> 
         let mut line = String::new(alloc);
         write_line(out, &mut line, grm, input, self)?;
         let mut below = Vec::new(alloc);
-        let mut left = children(self);
+        let mut left = self.children();
         loop {
             match left.split_first() {
                 Some((node, rest)) => {
                     indent(&mut line, below.len())?;
                     below.push(rest)?;
                     write_line(out, &mut line, grm, input, node)?;
-                    left = children(node);
+                    left = node.children();
                 }
                 None => match below.pop() {
                     Some(rest) => left = rest,

@@ -36,17 +36,7 @@ impl<LexemeT: Eq, StorageT: Eq> Eq for Node<LexemeT, StorageT> {
 
 impl<LexemeT, StorageT> Node<LexemeT, StorageT> {
     ghost use Rattle.lrpar_parse_trees.specs.Visits.{visit_eq};
-    ghost use Rattle.lrpar_parse_trees.specs.Walks.{visit, children};
-
-    // The trees of the node's symbols. A lexeme has none.
-    pub(super) fn children(&self) -> &[Node<LexemeT, StorageT>]
-        ensures children { result.now ≡ children self.now }
-    {
-        match self {
-            Node::Term { lexeme: _ } => &[],
-            Node::Nonterm { ridx: _, nodes } => nodes,
-        }
-    }
+    ghost use Rattle.lrpar_parse_trees.specs.Walks.{visit};
 
     // Whether the nodes have equal lexemes, or equal rules and the same number of children.
     fn is_like(&self, other: &Self) -> bool

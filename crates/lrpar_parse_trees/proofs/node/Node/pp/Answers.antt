@@ -1,7 +1,8 @@
 use Rattle.std.proofs.Common.{◌≡◌, ◌+◌, ◌++◌, [], ◌∷◌, length, append-nil, ap, sym, ◌∙◌, subst}
 use Rattle.std.specs.List.{AllByRecursion, flat_map}
 use Rattle.std.specs.String.{string_bytes}
-use Rattle.lrpar_parse_trees.specs.TreeText.{root_at, all_met, nodes_below}
+use Rattle.lrpar_parse_trees.specs.TreeText.{root_at, all_met}
+use Rattle.lrpar_parse_trees.specs.Walks.{children}
 use Rattle.lrpar_grammar_places.proofs.FaultLemmas.{no_value}
 use Rattle.lrpar_parse_trees.proofs.FitsLemmas.{fit, line_of}
 use Rattle.lrpar_parse_trees.proofs.TreeTextLemmas.{fit_below, fit_enter, fit_first, fit_root, left_falls, left_turned, text_begins, text_ends, text_enter, turn_falls}
@@ -13,7 +14,7 @@ loop-node-init g c =
     let line = line_of g.StorageT.StorageIndex.index g.LexemeT.Lexeme.parts c.args.grm.now c.args.input.now in
     let self = c.args.self.now in
     record {
-      fits = rw (c.new-below.ensures.items, c.children-left.ensures, append-nil (all_met (0 + 1) (nodes_below self))) (fit_below P self 0 c.requires.fits);
+      fits = rw (c.new-below.ensures.items, c.children-left.ensures, append-nil (all_met (0 + 1) (children self))) (fit_below P self 0 c.requires.fits);
       whole = rw (c.new-below.ensures.items, c.children-left.ensures)
           (text_begins line self (string_bytes c.push_line.new.out) (c.in_ok-push_line.ensures ∙ ap (λ o. o ++ line (root_at 0 self)) c.new-out.ensures.bytes));
     }

@@ -3,7 +3,8 @@ use Rattle.std.specs.List.{AllByRecursion, flat_map}
 use Rattle.std.specs.Io.KnownBytes.{Appends}
 use Rattle.std.specs.String.{string_bytes}
 use Rattle.std.proofs.lemmas.List.{length_push}
-use Rattle.lrpar_parse_trees.specs.TreeText.{met_from, nodes_below, root_at}
+use Rattle.lrpar_parse_trees.specs.TreeText.{met_from, root_at}
+use Rattle.lrpar_parse_trees.specs.Walks.{children}
 use Rattle.lrpar_grammar_places.proofs.FaultLemmas.{nothing_done}
 use Rattle.lrpar_parse_trees.proofs.FitsLemmas.{fit, line_of}
 use Rattle.lrpar_parse_trees.proofs.TreeTextLemmas.{fit_begins, fit_left, fit_none, left_none, text_begins, text_enter, left_falls, left_met, left_turned, turn_falls}
@@ -16,16 +17,16 @@ loop-node-init g c =
     let line = line_of g.StorageT.StorageIndex.index g.LexemeT.Lexeme.parts c.args.grm.now c.args.input.now in
     let self = c.args.self.now in
     let contents = g.W.Write.contents in
-    let whole : line (root_at 0 self) ++ flat_map line (left_met [] (nodes_below self)) ≡ flat_map line (met_from self 0) =
+    let whole : line (root_at 0 self) ++ flat_map line (left_met [] (children self)) ≡ flat_map line (met_from self 0) =
     text_begins line self (line (root_at 0 self)) refl in
     let none : length (string_bytes c.new-line.result) ≡ 0 = ap length c.new-line.ensures.bytes in
     let first = rw none at c.in_ok-write_line.ensures.text in
     record {
       text = λ last more.
-          let rest : Appends (contents c.write_line.new.out) last (flat_map line (left_met [] (nodes_below self))) =
+          let rest : Appends (contents c.write_line.new.out) last (flat_map line (left_met [] (children self))) =
           (rw (c.new-below.ensures.items, c.children-left.ensures) at more) in
           subst (Appends (contents c.args.out.now) last) whole
-          (appends_both (contents c.args.out.now) (contents c.write_line.new.out) last (line (root_at 0 self)) (flat_map line (left_met [] (nodes_below self)))
+          (appends_both (contents c.args.out.now) (contents c.write_line.new.out) last (line (root_at 0 self)) (flat_map line (left_met [] (children self)))
           first rest);
       fits = λ all.
           fit_begins (fit g.StorageT.StorageIndex.index g.LexemeT.Lexeme.parts c.args.grm.now c.args.input.now) self (rw none at c.in_ok-write_line.ensures.fits) (rw (c.new-below.ensures.items, c.children-left.ensures) at all);
@@ -44,7 +45,7 @@ loop-node-preserved-in-Some g c =
     let below = c.loop-node.below.items in
     let rest = c.in-Some.rest in
     let node = c.in-Some.node.now in
-    let inner = left_met (below ++ rest ∷ []) (nodes_below node) in
+    let inner = left_met (below ++ rest ∷ []) (children node) in
     let indented = string_bytes c.indent.new.line in
     let here = line (root_at (length indented) node) in
     let met = fit g.StorageT.StorageIndex.index g.LexemeT.Lexeme.parts c.args.grm.now c.args.input.now in
