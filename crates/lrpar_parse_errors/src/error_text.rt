@@ -9,9 +9,9 @@ ghost use Rattle.lrpar_parse_lexemes.specs.Strings.{Pushes};
 use crate::errors::LexParseError;
 use crate::names::{ByFunction, TokenNames};
 use crate::sequence_text::push_sequence;
-use lrpar_parse_lexemes::spaces::push_spaces;
 use lrpar_grammar::span::{Span, StorageIndex, TIdx};
 use lrpar_parse_lexemes::lex_api::{LexError, Lexeme, LexerTypes, NonStreamingLexer};
+use lrpar_parse_lexemes::spaces::push_spaces;
 use lrpar_parse_lexemes::{ParseRepair, PpFault};
 use std::alloc::{AllocError, Global};
 

@@ -1,5 +1,5 @@
 //! Trees on one line: the text of a node encloses the texts of its trees.
-ghost use Rattle.std.specs.Prelude.{false};
+ghost use Rattle.std.specs.Prelude.{◌≡◌, [], false};
 ghost use Rattle.lrpar_parse_lexemes.specs.Strings.{Pushes};
 ghost use Rattle.lrpar_parse_trees.specs.Leaves.{PushesBracketLeaf, PushesJsonLeaf, PushesJsonPlace, PushesLeaf};
 ghost use Rattle.lrpar_parse_trees.specs.Nested.{bracket_leaf, bracket_rule, json_inserted, json_rule, name_before, rule_front};
@@ -33,25 +33,35 @@ pub fn write_nested<LexemeT: Lexeme<StorageT>, StorageT: StorageIndex, W: Write>
     let mut piece = String::new(alloc);
     write_front(out, &mut piece, form, grm, input, tree)?;
     if is_rule(tree) {
-        write_trees(alloc, out, &mut piece, form, grm, input, tree.children())
+        let mut below = Vec::new(alloc);
+        write_trees(
+            out,
+            &mut piece,
+            &mut below,
+            form,
+            grm,
+            input,
+            tree.children(),
+        )
     } else {
         Ok(())
     }
 }
 
-// Writes the trees of a node of a rule, and its end. `piece` is a buffer for one piece.
-fn write_trees<LexemeT: Lexeme<StorageT>, StorageT: StorageIndex, W: Write>(
-    alloc: Global,
+// Writes the trees of a node of a rule, and its end. `piece` is a buffer for one piece, and `below` holds the trees that are left, an
+// entry for each level.
+fn write_trees<'a, LexemeT: Lexeme<StorageT>, StorageT: StorageIndex, W: Write>(
     out: &mut W,
     piece: &mut String,
+    below: &mut Vec<&'a [Node<LexemeT, StorageT>]>,
     form: Form,
     grm: &YaccGrammar<StorageT>,
     input: &str,
-    nodes: &[Node<LexemeT, StorageT>],
+    nodes: &'a [Node<LexemeT, StorageT>],
 ) -> io::Result<()>
+    requires { below.old.items ≡ [] }
     ensures { WritesTrees StorageT.index LexemeT.parts grm.now input.now W.contents form nodes.now out.old out.new result }
 {
-    let mut below = Vec::new(alloc);
     let mut left = nodes;
     let mut is_first = true;
     'nodes: loop {

@@ -14,7 +14,7 @@ nodes-init g c = λ last more.
     let index = g.StorageT.StorageIndex.index in
     let facts = λ (x : g.row.LexemeT.Denot). facts_of index (g.LexemeT.Lexeme.parts x) in
     subst (Appends (g.W.Write.contents c.args.out.now) last) (left_begins facts index c.args.grm.now c.args.input.now c.args.nodes.now)
-    (rw c.new-above.ensures.items at more)
+    (rw c.requires at more)
 
 pub nodes-smaller-in-Some : goal.nodes-smaller-in-Some
 nodes-smaller-in-Some g c =

@@ -9,7 +9,7 @@ nodes-init g c = λ last more.
     let index = g.StorageT.StorageIndex.index in
     let facts = λ (x : g.row.LexemeT.Denot). facts_of index (g.LexemeT.Lexeme.parts x) in
     subst (Appends (g.W.Write.contents c.args.out.now) last)
-    (left_begins c.args.form facts index c.args.grm.now c.args.input.now c.args.nodes.now) (rw c.new-below.ensures.items at more)
+    (left_begins c.args.form facts index c.args.grm.now c.args.input.now c.args.nodes.now) (rw c.requires at more)
 
 pub nodes-smaller-then-is_first : goal.nodes-smaller-then-is_first
 nodes-smaller-then-is_first g c =
