@@ -4,14 +4,14 @@ ghost use Rattle.std.specs.Str.{IsCharBoundary};
 ghost use Rattle.lrpar_grammar.specs.SpansFit.{IsPartOf};
 ghost use Rattle.lrpar_parse_errors.specs.ErrorText.{numbering, place_text};
 ghost use Rattle.lrpar_parse_errors.specs.StoredSequences.{FitRepairs, FitSequences, FitsRepair, IsFaultOf, PushesRepairs};
-ghost use Rattle.lrpar_parse_errors.specs.Strings.{Pushes};
+ghost use Rattle.lrpar_parse_lexemes.specs.Strings.{Pushes};
 
 use crate::errors::LexParseError;
 use crate::names::{ByFunction, TokenNames};
 use crate::sequence_text::push_sequence;
-use crate::spaces::push_spaces;
 use lrpar_grammar::span::{Span, StorageIndex, TIdx};
 use lrpar_parse_lexemes::lex_api::{LexError, Lexeme, LexerTypes, NonStreamingLexer};
+use lrpar_parse_lexemes::spaces::push_spaces;
 use lrpar_parse_lexemes::{ParseRepair, PpFault};
 use std::alloc::{AllocError, Global};
 

@@ -3,7 +3,7 @@ use denote.Ref.{Bor}
 use Rattle.std.specs.Prelude.{◌≡◌, ℕ, List, Result, Some, String, slice_range}
 use Rattle.lrpar_grammar.specs.Grammar.{Grammar, rule_name, token_name}
 use Rattle.lrpar_grammar_places.specs.declared.span.RIdx.{RIdx}
-use Rattle.lrpar_parse_errors.specs.Strings.{Pushes}
+use Rattle.lrpar_parse_lexemes.specs.Strings.{Pushes}
 use Rattle.lrpar_parse_lexemes.specs.Lexemes.{LexemeParts}
 use Rattle.lrpar_parse_trees.specs.Graph.{leaf_label, leaf_line}
 use Rattle.lrpar_parse_trees.specs.Nested.{bracket_leaf, json_leaf, json_place, leaf_text}

@@ -4,8 +4,8 @@ use Rattle.std.specs.Prelude.{ℕ, List, Option, Result, String, length, string_
 use Rattle.std.specs.List.{AllByRecursion}
 use Rattle.lrpar_grammar_places.specs.Strings.{HasText}
 use Rattle.lrpar_grammar.specs.Grammar.{Grammar}
-use Rattle.lrpar_parse_errors.specs.Strings.{Pushes}
 use Rattle.lrpar_parse_lexemes.specs.Lexemes.{LexemeParts, facts_of}
+use Rattle.lrpar_parse_lexemes.specs.Strings.{Pushes}
 use Rattle.lrpar_parse_trees.specs.Fronts.{front_text, trees_text}
 use Rattle.lrpar_parse_trees.specs.Graph.{graph_text}
 use Rattle.lrpar_parse_trees.specs.Lines.{node_line, trees_lines}

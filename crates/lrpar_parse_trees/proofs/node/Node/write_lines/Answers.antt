@@ -3,33 +3,34 @@ use Rattle.std.specs.List.{AllByRecursion, flat_map}
 use Rattle.std.specs.Io.KnownBytes.{Appends}
 use Rattle.std.specs.String.{string_bytes}
 use Rattle.std.proofs.lemmas.List.{length_push}
-use Rattle.lrpar_parse_trees.specs.TreeText.{met_from, nodes_below, root_at}
+use Rattle.lrpar_parse_trees.specs.TreeText.{met_from, root_at}
+use Rattle.lrpar_parse_trees.specs.Walks.{children}
 use Rattle.lrpar_grammar_places.proofs.FaultLemmas.{nothing_done}
 use Rattle.lrpar_parse_trees.proofs.FitsLemmas.{fit, line_of}
 use Rattle.lrpar_parse_trees.proofs.TreeTextLemmas.{fit_begins, fit_left, fit_none, left_none, text_begins, text_enter, left_falls, left_met, left_turned, turn_falls}
 use Rattle.lrpar_parse_trees.proofs.IndentLemmas.{indent_less, shorter, spaces_alone, spaces_counted}
 use Rattle.lrpar_parse_trees.proofs.WriteLemmas.{appends_both, appends_nothing}
-use Rattle.lrpar_parse_trees.proofs.node.Node.write.Goals as goal
+use Rattle.lrpar_parse_trees.proofs.node.Node.write_lines.Goals as goal
 
 pub loop-node-init : goal.loop-node-init
 loop-node-init g c =
     let line = line_of g.StorageT.StorageIndex.index g.LexemeT.Lexeme.parts c.args.grm.now c.args.input.now in
     let self = c.args.self.now in
     let contents = g.W.Write.contents in
-    let whole : line (root_at 0 self) ++ flat_map line (left_met [] (nodes_below self)) ≡ flat_map line (met_from self 0) =
+    let whole : line (root_at 0 self) ++ flat_map line (left_met [] (children self)) ≡ flat_map line (met_from self 0) =
     text_begins line self (line (root_at 0 self)) refl in
-    let none : length (string_bytes c.new-line.result) ≡ 0 = ap length c.new-line.ensures.bytes in
+    let none : length (string_bytes c.args.line.now) ≡ 0 = ap length c.requires.line in
     let first = rw none at c.in_ok-write_line.ensures.text in
     record {
       text = λ last more.
-          let rest : Appends (contents c.write_line.new.out) last (flat_map line (left_met [] (nodes_below self))) =
-          (rw (c.new-below.ensures.items, c.children-left.ensures) at more) in
+          let rest : Appends (contents c.write_line.new.out) last (flat_map line (left_met [] (children self))) =
+          (rw (c.requires.below, c.children-left.ensures) at more) in
           subst (Appends (contents c.args.out.now) last) whole
-          (appends_both (contents c.args.out.now) (contents c.write_line.new.out) last (line (root_at 0 self)) (flat_map line (left_met [] (nodes_below self)))
+          (appends_both (contents c.args.out.now) (contents c.write_line.new.out) last (line (root_at 0 self)) (flat_map line (left_met [] (children self)))
           first rest);
       fits = λ all.
-          fit_begins (fit g.StorageT.StorageIndex.index g.LexemeT.Lexeme.parts c.args.grm.now c.args.input.now) self (rw none at c.in_ok-write_line.ensures.fits) (rw (c.new-below.ensures.items, c.children-left.ensures) at all);
-      indent = rw c.new-below.ensures.items refl;
+          fit_begins (fit g.StorageT.StorageIndex.index g.LexemeT.Lexeme.parts c.args.grm.now c.args.input.now) self (rw none at c.in_ok-write_line.ensures.fits) (rw (c.requires.below, c.children-left.ensures) at all);
+      indent = rw c.requires.below refl;
     }
 
 pub loop-node-smaller-in-Some : goal.loop-node-smaller-in-Some
@@ -44,7 +45,7 @@ loop-node-preserved-in-Some g c =
     let below = c.loop-node.below.items in
     let rest = c.in-Some.rest in
     let node = c.in-Some.node.now in
-    let inner = left_met (below ++ rest ∷ []) (nodes_below node) in
+    let inner = left_met (below ++ rest ∷ []) (children node) in
     let indented = string_bytes c.indent.new.line in
     let here = line (root_at (length indented) node) in
     let met = fit g.StorageT.StorageIndex.index g.LexemeT.Lexeme.parts c.args.grm.now c.args.input.now in
@@ -71,7 +72,7 @@ indent-requires g c =
     subst (λ n. take n (string_bytes c.loop-node.line) ≡ replicate n 32) (sym (c.len.ensures ∙ c.loop-node.below.ok.0)) c.loop-node.invariant.indent
 
 pub write_line-requires : goal.write_line-requires
-write_line-requires g c = spaces_alone (string_bytes c.new-line.result) 0 c.new-line.ensures.bytes
+write_line-requires g c = spaces_alone (string_bytes c.args.line.now) 0 c.requires.line
 
 pub write_line-requires-in-Some : goal.write_line-requires-in-Some
 write_line-requires-in-Some g c = spaces_alone (string_bytes c.indent.new.line) (c.len.result + 1) c.in_ok-indent-in-Some.ensures

@@ -1,11 +1,12 @@
 use Rattle.std.proofs.Common.{◌≡◌, ◌+◌, ◌++◌, [], ◌∷◌, length, append-nil, ap, sym, ◌∙◌, subst}
 use Rattle.std.specs.List.{AllByRecursion, flat_map}
 use Rattle.std.specs.String.{string_bytes}
-use Rattle.lrpar_parse_trees.specs.TreeText.{root_at, all_met, nodes_below}
-use Rattle.lrpar_grammar_places.proofs.FaultLemmas.{no_value}
+use Rattle.lrpar_parse_trees.specs.TreeText.{root_at, all_met}
+use Rattle.lrpar_parse_trees.specs.Walks.{children}
+use Rattle.lrpar_grammar_places.proofs.FaultLemmas.{nothing_done}
 use Rattle.lrpar_parse_trees.proofs.FitsLemmas.{fit, line_of}
 use Rattle.lrpar_parse_trees.proofs.TreeTextLemmas.{fit_below, fit_enter, fit_first, fit_root, left_falls, left_turned, text_begins, text_ends, text_enter, turn_falls}
-use Rattle.lrpar_parse_trees.proofs.node.Node.pp.Goals as goal
+use Rattle.lrpar_parse_trees.proofs.node.Node.push_lines.Goals as goal
 
 pub loop-node-init : goal.loop-node-init
 loop-node-init g c =
@@ -13,9 +14,9 @@ loop-node-init g c =
     let line = line_of g.StorageT.StorageIndex.index g.LexemeT.Lexeme.parts c.args.grm.now c.args.input.now in
     let self = c.args.self.now in
     record {
-      fits = rw (c.new-below.ensures.items, c.children-left.ensures, append-nil (all_met (0 + 1) (nodes_below self))) (fit_below P self 0 c.requires.fits);
-      whole = rw (c.new-below.ensures.items, c.children-left.ensures)
-          (text_begins line self (string_bytes c.push_line.new.out) (c.in_ok-push_line.ensures ∙ ap (λ o. o ++ line (root_at 0 self)) c.new-out.ensures.bytes));
+      fits = rw (c.requires.below, c.children-left.ensures, append-nil (all_met (0 + 1) (children self))) (fit_below P self 0 c.requires.fits);
+      whole = rw (c.requires.below, c.children-left.ensures)
+          (text_begins line self (string_bytes c.push_line.new.out) (c.in_ok-push_line.ensures ∙ ap (λ o. o ++ line (root_at 0 self)) c.requires.out));
     }
 
 pub loop-node-smaller-in-Some : goal.loop-node-smaller-in-Some
@@ -66,22 +67,17 @@ push_line-requires-in-Some g c =
     c.in_ok-push-in-Some.ensures.items (c.len.ensures ∙ c.push.new.self.ok.0) c.loop-node.invariant.fits
 
 pub returns-in_err-push_line : goal.returns-in_err-push_line
-returns-in_err-push_line g c = record { text = no_value c.from_residual.result _ _ c.from_residual.ensures.1 }
+returns-in_err-push_line g c = nothing_done c.from_residual.result _ _ c.from_residual.ensures.1
 
 pub returns-in_err-push-in-Some : goal.returns-in_err-push-in-Some
-returns-in_err-push-in-Some g c = record {
-  text = no_value c.from_residual-in_err-push-in-Some.result _ _ c.from_residual-in_err-push-in-Some.ensures.1;
-}
+returns-in_err-push-in-Some g c = nothing_done c.from_residual-in_err-push-in-Some.result _ _ c.from_residual-in_err-push-in-Some.ensures.1
 
 pub returns-in_err-push_line-in-Some : goal.returns-in_err-push_line-in-Some
-returns-in_err-push_line-in-Some g c = record {
-  text = no_value c.from_residual-in_err-push_line-in-Some.result _ _ c.from_residual-in_err-push_line-in-Some.ensures.1;
-}
+returns-in_err-push_line-in-Some g c = nothing_done c.from_residual-in_err-push_line-in-Some.result _ _ c.from_residual-in_err-push_line-in-Some.ensures.1
 
 pub returns-in-None-pop : goal.returns-in-None-pop
-returns-in-None-pop g c = record {
-  text = text_ends
-      (line_of g.StorageT.StorageIndex.index g.LexemeT.Lexeme.parts c.args.grm.now c.args.input.now)
-      c.loop-node.below.items c.loop-node.left.now (string_bytes c.loop-node.out) _ c.in-None.ensures.cases
-      (sym c.loop-node.below.ok.0 ∙ c.in-None-pop.ensures.cases.0) c.loop-node.invariant.whole;
-}
+returns-in-None-pop g c =
+    text_ends
+    (line_of g.StorageT.StorageIndex.index g.LexemeT.Lexeme.parts c.args.grm.now c.args.input.now)
+    c.loop-node.below.items c.loop-node.left.now (string_bytes c.loop-node.out) _ c.in-None.ensures.cases
+    (sym c.loop-node.below.ok.0 ∙ c.in-None-pop.ensures.cases.0) c.loop-node.invariant.whole

@@ -1,6 +1,6 @@
 use Rattle.std.proofs.Common.{◌≡◌, ◌++◌, replicate}
 use Rattle.std.specs.String.{string_bytes}
-use Rattle.lrpar_parse_errors.proofs.spaces.push_spaces.Given as goal
+use Rattle.lrpar_parse_lexemes.proofs.spaces.push_spaces.Given as goal
 
 -- with the spaces that are left, this number of spaces is added
 abbrev pub invariant-loop-left : goal.invariant-loop-left

@@ -1,8 +1,8 @@
 use Rattle.std.proofs.Common.{◌++◌, arith, replicate}
 use Rattle.std.specs.String.{string_bytes}
-use Rattle.lrpar_parse_errors.proofs.SpacesLemmas.{spaces_boundary, spaces_last, spaces_more}
-use Rattle.lrpar_parse_errors.specs.declared.spaces.TheConstants.{BLOCK}
-use Rattle.lrpar_parse_errors.proofs.spaces.push_spaces.Goals as goal
+use Rattle.lrpar_parse_lexemes.proofs.SpacesLemmas.{spaces_boundary, spaces_last, spaces_more}
+use Rattle.lrpar_parse_lexemes.specs.declared.spaces.TheConstants.{BLOCK}
+use Rattle.lrpar_parse_lexemes.proofs.spaces.push_spaces.Goals as goal
 
 pub loop-left-preserved : goal.loop-left-preserved
 loop-left-preserved c =

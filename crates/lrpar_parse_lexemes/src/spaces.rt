@@ -1,6 +1,6 @@
 //! Spaces: they indent the lines of trees and align the numbers of repair sequences.
 ghost use Rattle.std.specs.Prelude.{◌≡◌, replicate};
-ghost use Rattle.lrpar_parse_errors.specs.Strings.{Pushes};
+ghost use Rattle.lrpar_parse_lexemes.specs.Strings.{Pushes};
 
 use std::alloc::AllocError;
 

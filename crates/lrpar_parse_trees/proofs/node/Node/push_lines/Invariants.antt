@@ -4,7 +4,7 @@ use Rattle.std.specs.String.{string_bytes}
 use Rattle.lrpar_parse_lexemes.specs.Lexemes.{facts_of}
 use Rattle.lrpar_parse_trees.specs.TreeText.{MetFits, met_line, tree_text}
 use Rattle.lrpar_parse_trees.proofs.TreeTextLemmas.{left_met}
-use Rattle.lrpar_parse_trees.proofs.node.Node.pp.Given as goal
+use Rattle.lrpar_parse_trees.proofs.node.Node.push_lines.Given as goal
 
 -- what is left fits, and with its lines the text so far is the whole
 abbrev pub invariant-loop-node : goal.invariant-loop-node

@@ -5,7 +5,7 @@ use Rattle.std.specs.String.{string_bytes}
 use Rattle.lrpar_parse_lexemes.specs.Lexemes.{facts_of}
 use Rattle.lrpar_parse_trees.specs.TreeText.{MetFits, TreeFits, met_line, tree_text}
 use Rattle.lrpar_parse_trees.proofs.TreeTextLemmas.{left_met}
-use Rattle.lrpar_parse_trees.proofs.node.Node.write.Given as goal
+use Rattle.lrpar_parse_trees.proofs.node.Node.write_lines.Given as goal
 
 -- with the lines of what is left, the whole text is written; the tree fits if what is left does; and the last line begins with a
 -- space for each level
