@@ -1,6 +1,4 @@
-//! What the programs of the examples share: a language of a grammar and a lexer, and reports of errors.
-#![tactic(auto)]
-
+//! What the examples share: a language of a grammar and a lexer, and reports of errors.
 use lrpar::build::{Unbuilt, parser_data};
 use lrpar::grammar::{GrammarFault, SpelledFault, YaccGrammar};
 use lrpar::parser::ParseFault;
@@ -11,9 +9,9 @@ use std::alloc::{AllocError, Global};
 use std::io;
 use thiserror::Error;
 
-/// Why a program has no answer.
+/// Why an example has no answer.
 #[derive(Debug, Drop, Error)]
-pub enum Failed {
+pub(crate) enum Failed {
     #[error("streams: {0}")]
     Streams(#[from] io::Error),
     #[error("grammar: {0}")]
@@ -34,13 +32,13 @@ pub enum Failed {
 
 /// A language: the table of its grammar, and the rules of its lexer.
 #[derive(Drop)]
-pub struct Language {
-    pub data: ParserData<u32>,
-    pub rules: Vec<LexRule>,
+pub(crate) struct Language {
+    pub(crate) data: ParserData<u32>,
+    pub(crate) rules: Vec<LexRule>,
 }
 
 /// The language of these texts.
-pub fn language_of(alloc: Global, grammar: &str, lexer: &str) -> Result<Language, Failed> {
+pub(crate) fn language_of(alloc: Global, grammar: &str, lexer: &str) -> Result<Language, Failed> {
     let grm = YaccGrammar::<u32>::new_with_storaget(alloc, grammar)?;
     let rules = rules_of(alloc, &grm, lexer)?;
     let data = parser_data(alloc, grm, 10_000, 1_000)?;
@@ -48,7 +46,7 @@ pub fn language_of(alloc: Global, grammar: &str, lexer: &str) -> Result<Language
 }
 
 /// Adds the report of each error of a parse of the reporter's text.
-pub fn push_errors(
+pub(crate) fn push_errors(
     out: &mut String,
     alloc: Global,
     language: &Language,

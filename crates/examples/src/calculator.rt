@@ -1,19 +1,15 @@
-//! A calculator. It reads lines from standard input, and prints for each its errors with their repairs, and then its value, or that it
-//! has none.
-#![tactic(auto)]
-
+//! A calculator: for each line of a text its errors with their repairs, and then its value, or that it has none.
 ghost use Rattle.std.specs.Prelude.{◌↔◌, IfOk, IsTrue};
 
-use example_language::{Failed, Language, language_of, push_errors};
-use lrpar::RTParserBuilder;
+use crate::language::{Failed, Language, language_of, push_errors};
 use lrpar::parser::AStackType::ActionType;
 use lrpar::parser::{AStackType, Actions};
 use lrpar::repair::CpctPlus;
 use lrpar::span::{PIdx, RIdx, Span, Symbol};
-use lrpar_lexer::{RuleLexer, Token};
+use lrpar::{LexParseError, RTParserBuilder};
+use lrpar_lexer::{RuleLexer, Token, TokenTypes};
 use lrpar_report::{Look, Reporter};
 use std::alloc::{AllocError, Global};
-use std::io;
 
 const GRAMMAR: &str = "%% Expr: Expr '+' Term | Term;
     Term: Term '*' Factor | Factor;
@@ -26,6 +22,8 @@ const LEXER: &str = r"
     \( '('
     \) ')'
     [ \t\r]+ ;";
+
+type Parsed = (Option<u64>, Vec<LexParseError<u32, TokenTypes>>);
 
 /// The values of a line: a number, or nothing if it is too large, or a repair inserted it.
 #[derive(Drop)]
@@ -75,27 +73,32 @@ impl<'a, 'rules, 'input> Actions<u32, Token<u32>, RuleLexer<'rules, 'input>> for
     }
 }
 
-fn main(rt: HostRuntime) -> Result<(), Failed> {
-    let text = io::read_to_string(rt.alloc(), rt.stdin())?;
-    let calc = language_of(rt.alloc(), GRAMMAR, LEXER)?;
-    for line in text.as_str().split_terminator('\n') {
-        let out = calculated(rt.alloc(), &calc, line)?;
-        print!(rt; "{out}")?;
+/// The errors of each line of the text, and its value.
+pub(crate) fn run(alloc: Global, text: &str) -> Result<String, Failed> {
+    let sums = language_of(alloc, GRAMMAR, LEXER)?;
+    let mut out = String::new(alloc);
+    for line in text.split_terminator('\n') {
+        push_line(&mut out, alloc, &sums, line)?;
+    }
+    Ok(out)
+}
+
+// Adds the errors of a line, and its value.
+fn push_line(out: &mut String, alloc: Global, sums: &Language, line: &str) -> Result<(), Failed> {
+    let (value, errors) = parse(alloc, sums, line)?;
+    let reporter = Reporter::new(alloc, line, "line", Look::Plain)?;
+    push_errors(out, alloc, sums, &reporter, line, &errors)?;
+    match value {
+        Some(number) => writeln!(out, "{line} = {number}")?,
+        None => writeln!(out, "{line} has no value")?,
     }
     Ok(())
 }
 
-// The errors of a line, and its value.
-fn calculated<'a>(alloc: Global, calc: &'a Language, line: &'a str) -> Result<String, Failed> {
-    let lexer = RuleLexer::new(alloc, &calc.rules, line)?;
-    let parser = RTParserBuilder::new(&calc.data).recoverer(CpctPlus::new(10_000));
+// The value of a line, if it has one, and its errors.
+fn parse(alloc: Global, sums: &Language, line: &str) -> Result<Parsed, Failed> {
+    let lexer = RuleLexer::new(alloc, &sums.rules, line)?;
+    let parser = RTParserBuilder::new(&sums.data).recoverer(CpctPlus::new(10_000));
     let (value, errors) = parser.parse_actions(alloc, &lexer, &Calculation { line }, &())?;
-    let mut out = String::new(alloc);
-    let reporter = Reporter::new(alloc, line, "line", Look::Plain)?;
-    push_errors(&mut out, alloc, calc, &reporter, line, &errors)?;
-    match value.unwrap_or(None) {
-        Some(number) => writeln!(out, "{line} = {number}")?,
-        None => writeln!(out, "{line} has no value")?,
-    }
-    Ok(out)
+    Ok((value.unwrap_or(None), errors))
 }

@@ -1,13 +1,9 @@
-//! A formatter of settings. It reads them from standard input, and prints one a line, with one space at each side of `=`; or the errors of
-//! the text, if it has any.
-#![tactic(auto)]
-
-use example_language::{Failed, Language, language_of, push_errors};
+//! A formatter of settings: one a line, with one space at each side of `=`; or the errors of the text, if it has any.
+use crate::language::{Failed, Language, language_of, push_errors};
 use lrpar::{Lexeme, Lexer, RTParserBuilder};
 use lrpar_lexer::RuleLexer;
 use lrpar_report::{Look, Reporter};
 use std::alloc::Global;
-use std::io;
 
 const GRAMMAR: &str =
     "%% File: | File Setting; Setting: 'NAME' '=' Value ';'; Value: 'NUMBER' | 'TEXT';";
@@ -20,26 +16,29 @@ const LEXER: &str = r#"
     "[^"]*" 'TEXT'
     [ \t\r\n]+ ;"#;
 
-fn main(rt: HostRuntime) -> Result<(), Failed> {
-    let text = io::read_to_string(rt.alloc(), rt.stdin())?;
-    let settings = language_of(rt.alloc(), GRAMMAR, LEXER)?;
-    let out = formatted(rt.alloc(), &settings, text.as_str())?;
-    print!(rt; "{out}")?;
-    Ok(())
+/// The settings of the text, one a line; or its errors.
+pub(crate) fn run(alloc: Global, text: &str) -> Result<String, Failed> {
+    let settings = language_of(alloc, GRAMMAR, LEXER)?;
+    let mut out = String::new(alloc);
+    push_formatted(&mut out, alloc, &settings, text)?;
+    Ok(out)
 }
 
-// The settings, one a line; or the errors.
-fn formatted<'a>(alloc: Global, settings: &'a Language, text: &'a str) -> Result<String, Failed> {
+// Adds the settings of the text, or its errors.
+fn push_formatted(
+    out: &mut String,
+    alloc: Global,
+    settings: &Language,
+    text: &str,
+) -> Result<(), Failed> {
     let lexer = RuleLexer::new(alloc, &settings.rules, text)?;
     let errors = RTParserBuilder::new(&settings.data).parse_noaction(alloc, &lexer)?;
-    let mut out = String::new(alloc);
     if errors.is_empty() {
-        push_settings(&mut out, alloc, &lexer, text)?;
+        push_settings(out, alloc, &lexer, text)
     } else {
         let reporter = Reporter::new(alloc, text, "input", Look::Plain)?;
-        push_errors(&mut out, alloc, settings, &reporter, text, &errors)?;
+        Ok(push_errors(out, alloc, settings, &reporter, text, &errors)?)
     }
-    Ok(out)
 }
 
 // Adds the settings of a text that has no error.

@@ -1,8 +1,5 @@
-//! A linter of JSON. It reads a text from standard input, and prints reports of its errors, with repairs, and of keys that are twice in an
-//! object; and how deep the text nests.
-#![tactic(auto)]
-
-use example_language::{Failed, Language, language_of, push_errors};
+//! A linter of JSON: reports of the errors of a text, with repairs, and of keys that are twice in an object; and how deep the text nests.
+use crate::language::{Failed, Language, language_of, push_errors};
 use lrpar::repair::CpctPlus;
 use lrpar::span::TextRange;
 use lrpar::{Lexeme, Lexer, RTParserBuilder};
@@ -10,7 +7,6 @@ use lrpar_lexer::RuleLexer;
 use lrpar_report::{Look, Report, Reporter};
 use std::alloc::{AllocError, Global};
 use std::collections::BTreeMap;
-use std::io;
 
 const GRAMMAR: &str = "%% Value: Object | Array | 'STRING' | 'NUMBER' | 'WORD';
     Object: '{' '}' | '{' Members '}';
@@ -31,24 +27,28 @@ const LEXER: &str = r#"
     : ':'
     [ \t\r\n]+ ;"#;
 
-fn main(rt: HostRuntime) -> Result<(), Failed> {
-    let text = io::read_to_string(rt.alloc(), rt.stdin())?;
-    let json = language_of(rt.alloc(), GRAMMAR, LEXER)?;
-    let out = linted(rt.alloc(), &json, text.as_str())?;
-    print!(rt; "{out}")?;
-    Ok(())
+/// The reports about the text, on its errors and on what its lexemes show.
+pub(crate) fn run(alloc: Global, text: &str) -> Result<String, Failed> {
+    let json = language_of(alloc, GRAMMAR, LEXER)?;
+    let mut out = String::new(alloc);
+    push_reports(&mut out, alloc, &json, text)?;
+    Ok(out)
 }
 
-// The reports about the text, on its errors and on what its lexemes show.
-fn linted<'a>(alloc: Global, json: &'a Language, text: &'a str) -> Result<String, Failed> {
+// Adds the reports about the text.
+fn push_reports(
+    out: &mut String,
+    alloc: Global,
+    json: &Language,
+    text: &str,
+) -> Result<(), Failed> {
     let lexer = RuleLexer::new(alloc, &json.rules, text)?;
     let parser = RTParserBuilder::new(&json.data).recoverer(CpctPlus::new(10_000));
     let errors = parser.parse_noaction(alloc, &lexer)?;
     let reporter = Reporter::new(alloc, text, "input", Look::Plain)?;
-    let mut out = String::new(alloc);
-    push_errors(&mut out, alloc, json, &reporter, text, &errors)?;
-    push_lints(&mut out, alloc, &lexer, &reporter, text)?;
-    Ok(out)
+    push_errors(out, alloc, json, &reporter, text, &errors)?;
+    push_lints(out, alloc, &lexer, &reporter, text)?;
+    Ok(())
 }
 
 // Adds a warning for each key that its object already has, and a line for how deep the lexemes nest.

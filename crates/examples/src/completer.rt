@@ -1,12 +1,8 @@
-//! A completer for sums. It reads lines from standard input. For each beginning of a line that ends with a lexeme it prints the tokens that
-//! may come next.
-#![tactic(auto)]
-
-use example_language::{Failed, Language, language_of};
+//! A completer for sums: for each beginning of a line that ends with a lexeme, the tokens that may come next.
+use crate::language::{Failed, Language, language_of};
 use lrpar::{Lexeme, Lexer, RTParserBuilder};
 use lrpar_lexer::{RuleLexer, TokenTypes};
 use std::alloc::Global;
-use std::io;
 
 const GRAMMAR: &str = "%% Sum: Sum '+' Term | Term; Term: '(' Sum ')' | 'INT';";
 
@@ -17,29 +13,28 @@ const LEXER: &str = r"
     \) ')'
     [ \t\r]+ ;";
 
-fn main(rt: HostRuntime) -> Result<(), Failed> {
-    let text = io::read_to_string(rt.alloc(), rt.stdin())?;
-    let sums = language_of(rt.alloc(), GRAMMAR, LEXER)?;
-    for line in text.as_str().split_terminator('\n') {
-        let out = completed(rt.alloc(), &sums, line)?;
-        print!(rt; "{out}")?;
+/// What may come next after each beginning of each line of the text.
+pub(crate) fn run(alloc: Global, text: &str) -> Result<String, Failed> {
+    let sums = language_of(alloc, GRAMMAR, LEXER)?;
+    let mut out = String::new(alloc);
+    for line in text.split_terminator('\n') {
+        push_line(&mut out, alloc, &sums, line)?;
     }
-    Ok(())
+    Ok(out)
 }
 
-// What may come next after each beginning of a line, the empty one first, a line each. If a beginning has an error, it is what may come
-// in place of the lexeme at the error.
-fn completed(alloc: Global, sums: &Language, line: &str) -> Result<String, Failed> {
+// Adds what may come next after each beginning of a line, the empty one first, a line each. If a beginning has an error, it is what may
+// come in place of the lexeme at the error.
+fn push_line(out: &mut String, alloc: Global, sums: &Language, line: &str) -> Result<(), Failed> {
+    push_next(out, alloc, sums, "")?;
     let lexer = RuleLexer::new(alloc, &sums.rules, line)?;
-    let mut out = String::new(alloc);
-    push_next(&mut out, alloc, sums, "")?;
     for lexeme in lexer.iter(alloc)? {
         if let Ok(lexeme) = lexeme {
             let front = line.get(..lexeme.span().end()).unwrap_or("");
-            push_next(&mut out, alloc, sums, front)?;
+            push_next(out, alloc, sums, front)?;
         }
     }
-    Ok(out)
+    Ok(())
 }
 
 // Adds a text, and the tokens that may come after it.

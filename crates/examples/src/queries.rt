@@ -1,28 +1,23 @@
-//! A linter of queries. It reads a file from standard input, and prints its errors, with repairs, and what may be wrong with the statements.
-#![tactic(auto)]
-
+//! A linter of queries: the errors of a file, with repairs, and what may be wrong with its statements.
 mod language;
 mod lints;
 mod tree;
 mod values;
 
-use crate::language::{GRAMMAR, LEXER};
-use crate::lints::lints;
-use crate::values::{EXPR_PRODS, QUERY_PRODS, Queries, Value};
-use example_language::{Failed, Language, language_of, push_errors};
+use crate::language::{Failed, Language, language_of, push_errors};
+use crate::queries::language::{GRAMMAR, LEXER};
+use crate::queries::lints::lints;
+use crate::queries::values::{EXPR_PRODS, QUERY_PRODS, Queries, Value};
 use lrpar::RTParserBuilder;
 use lrpar::repair::CpctPlus;
 use lrpar_lexer::RuleLexer;
 use lrpar_report::{Look, Reporter};
 use std::alloc::Global;
-use std::io;
 
-fn main(rt: HostRuntime) -> Result<(), Failed> {
-    let text = io::read_to_string(rt.alloc(), rt.stdin())?;
-    let queries = language_of(rt.alloc(), GRAMMAR, LEXER)?;
-    let out = linted(rt.alloc(), &queries, text.as_str())?;
-    print!(rt; "{out}")?;
-    Ok(())
+/// The reports about the file.
+pub(crate) fn run(alloc: Global, text: &str) -> Result<String, Failed> {
+    let queries = language_of(alloc, GRAMMAR, LEXER)?;
+    linted(alloc, &queries, text)
 }
 
 // The reports about a file: its errors, and what may be wrong with the statements of the file as repaired.

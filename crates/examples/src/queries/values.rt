@@ -1,7 +1,7 @@
 //! The values of queries: the syntax tree.
-use crate::tree::Operator::{And, Equal, Less, Minus, Or, Over, Plus, Times};
-use crate::tree::{Atom, Expr, Name, Operator, Query, Stage};
-use example_language::Failed;
+use crate::language::Failed;
+use crate::queries::tree::Operator::{And, Equal, Less, Minus, Or, Over, Plus, Times};
+use crate::queries::tree::{Atom, Expr, Name, Operator, Query, Stage};
 use lrpar::Lexeme;
 use lrpar::grammar::SpelledParts;
 use lrpar::parser::{Args, Values};
