@@ -15,7 +15,8 @@ pub use lrpar_parse_lexemes::{
 };
 pub use lrpar_parse_trees::Node;
 pub use lrpar_table::check::ParserData;
-pub use lrpar_table::{build, check, precedences, table};
+pub use lrpar_table::{check, table};
+pub use lrpar_table_precedence::precedences;
 
 /// Spans of a text, and the numbers of rules, productions, tokens and states.
 pub mod span {
@@ -24,6 +25,12 @@ pub mod span {
         Numbered, PIdx, RIdx, Span, Spanned, SpansKind, StIdx, StorageIndex, Symbol, TIdx,
     };
     pub use lrpar_grammar::text_range::TextRange;
+}
+
+/// Builders of tables: of a grammar alone, and with options.
+pub mod build {
+    pub use lrpar_table::build::{BuildFault, Unbuilt, from_yacc, parser_data};
+    pub use lrpar_table_options::{Minimiser, TableOptions};
 }
 
 /// Recoverers: what a parse passes to one at an error point, the steps of the sequences that it returns, and the recoverers of the library.
