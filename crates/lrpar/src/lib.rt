@@ -15,7 +15,7 @@ pub use lrpar_parse_lexemes::{
 };
 pub use lrpar_parse_trees::Node;
 pub use lrpar_table::check::ParserData;
-pub use lrpar_table::{build, check, table};
+pub use lrpar_table::{check, table};
 
 /// `.y` files: the grammar of one, what it declares beside the grammar, and what can be wrong with it.
 pub mod yacc {
@@ -27,10 +27,10 @@ pub mod yacc {
 
 /// Precedences of tokens and productions, what they decide, and the levels or declarations that they are made of.
 pub mod precedences {
-    pub use lrpar_table::precedences::{AssocKind, Precedence, Precedences, Resolution};
     pub use lrpar_table_levels::{
         Level, PrecedenceFault, precedences_of_declarations, precedences_of_levels,
     };
+    pub use lrpar_table_precedence::precedences::{AssocKind, Precedence, Precedences, Resolution};
 }
 
 /// Spans of a text, and the numbers of rules, productions, tokens and states.
@@ -40,6 +40,12 @@ pub mod span {
         Numbered, PIdx, RIdx, Span, Spanned, SpansKind, StIdx, StorageIndex, Symbol, TIdx,
     };
     pub use lrpar_grammar::text_range::TextRange;
+}
+
+/// Builders of tables: of a grammar alone, and with options.
+pub mod build {
+    pub use lrpar_table::build::{BuildFault, Unbuilt, from_yacc, parser_data};
+    pub use lrpar_table_options::{Minimiser, TableOptions};
 }
 
 /// Recoverers: what a parse passes to one at an error point, the steps of the sequences that it returns, and the recoverers of the library.

@@ -2,11 +2,8 @@
 use Rattle.std.specs.Prelude.{◌≡◌, ◌≤◌, ℕ}
 use Rattle.lrpar_grammar.specs.Grammar.{Grammar}
 use Rattle.lrpar_table_rows.specs.Graph.{graph_len}
-use Rattle.lrpar_table_precedence.specs.Precedence.{PrecedenceLists}
 use Rattle.lrpar_table_build.specs.Built.{IsBuildRefusal, IsBuilt}
 use Rattle.lrpar_table_check.specs.Checked.{Checked, IsChainFault, IsChecked, Unchecked}
-use Rattle.lrpar_table_merge.specs.declared.build.Minimiser.TheVariants.{Canonical}
-use Rattle.lrpar_table.specs.MergedParserData.{IsMinimisedData, IsRefusedMinimised, IsUnminimised}
 use Rattle.lrpar_table.specs.TableLaws.{IsCompleteWithoutConflicts}
 use Rattle.lrpar_table.specs.declared.build.Unbuilt.{Unbuilt}
 use Rattle.lrpar_table.specs.declared.build.Unbuilt.TheVariants.{Chains, Table}
@@ -32,15 +29,3 @@ pub record IsRefusedBuilt (g : Grammar) (most cap : ℕ) (refused : Unchecked) :
 abbrev pub IsUnbuilt : {S : Type 0} → ℕ → Grammar → ℕ → ℕ → Unbuilt S → Type 0
 IsUnbuilt limit g most bound (Table fault grm) = (grm ≡ g) × IsBuildRefusal g most limit fault
 IsUnbuilt limit g most bound (Chains refused) = IsRefusedBuilt g most bound refused
-
--- a checked table that was built of the grammar, by the precedences; nothing is said on whether it is complete
-abbrev pub IsParserDataBy : Grammar → PrecedenceLists → ℕ → ℕ → Checked → Type 0
-IsParserDataBy g precedences most cap = IsMinimisedData Canonical g precedences most cap
-
--- a table that was built of the grammar, by the precedences, and is refused for its chains
-abbrev pub IsRefusedBuiltBy : Grammar → PrecedenceLists → ℕ → ℕ → Unchecked → Type 0
-IsRefusedBuiltBy g precedences most cap = IsRefusedMinimised Canonical g precedences most cap
-
--- why there is no checked table by the precedences: none is built; or its chains are too long, or an allocation failed
-abbrev pub IsUnbuiltBy : {S : Type 0} → ℕ → Grammar → PrecedenceLists → ℕ → ℕ → Unbuilt S → Type 0
-IsUnbuiltBy limit g precedences most bound = IsUnminimised Canonical limit g precedences most bound

@@ -1,14 +1,11 @@
 //! The table builder, and the checked table of a grammar alone.
 ghost use Rattle.std.specs.Prelude.{IfErr, IfOk};
-ghost use Rattle.lrpar_table.specs.MergedParserData.{IsMergedData, IsMinimisedData, IsUnmerged, IsUnminimised};
-ghost use Rattle.lrpar_table.specs.ParserData.{IsParserDataBy, IsParserDataOf, IsUnbuilt, IsUnbuiltBy};
+ghost use Rattle.lrpar_table.specs.ParserData.{IsParserDataOf, IsUnbuilt};
 
 use lrpar_grammar::grammar::YaccGrammar;
 use lrpar_grammar::span::StorageIndex;
-pub use lrpar_table_build::build::{BuildFault, from_yacc, from_yacc_with};
+pub use lrpar_table_build::build::{BuildFault, from_yacc};
 use lrpar_table_check::check::{ParserData, Refused};
-pub use lrpar_table_merge::build::{Minimiser, from_yacc_by};
-use lrpar_table_precedence::precedences::Precedences;
 use std::alloc::Global;
 use std::error::Error;
 use std::fmt;
@@ -51,76 +48,7 @@ pub fn parser_data<StorageT: StorageIndex>(
     ensures built { IfOk result (IsParserDataOf grm max_states cap) }
     ensures refused { IfErr result (IsUnbuilt StorageT.limit grm max_states cap) }
 {
-    // The proof needs that the grammar is well-formed.
-    let _start = grm.start_prod();
-    let precedences = Precedences::none(alloc);
-    parser_data_by(
-        alloc,
-        grm,
-        &precedences,
-        Minimiser::Canonical,
-        max_states,
-        cap,
-    )
-}
-
-/// The same by precedences: the checked table of the grammar that `from_yacc_with` builds. It is safe, so all that holds of a
-/// checked table holds of it, but where a conflict was resolved it isn't complete.
-///
-/// The faults are those of `from_yacc_with`, and then as for `parser_data`.
-pub fn parser_data_with<StorageT: StorageIndex>(
-    alloc: Global,
-    grm: YaccGrammar<StorageT>,
-    precedences: &Precedences,
-    max_states: usize,
-    cap: u16,
-) -> Result<ParserData<StorageT>, Unbuilt<StorageT>>
-    ensures built { IfOk result (IsParserDataBy grm precedences.now max_states cap) }
-    ensures refused { IfErr result (IsUnbuiltBy StorageT.limit grm precedences.now max_states cap) }
-{
-    parser_data_by(
-        alloc,
-        grm,
-        precedences,
-        Minimiser::Canonical,
-        max_states,
-        cap,
-    )
-}
-
-/// The checked table of the grammar with merged item sets, at most `max_states` of them, as `from_yacc_by` builds it with
-/// `Minimiser::Pager` and without precedences. It is safe and viable; and it is complete exactly if it has no conflicts. It is about as
-/// small as an LALR(1) table: for a language like C it has a quarter of the states of the canonical one.
-///
-/// The faults are those of `from_yacc_by`, and then as for `parser_data`.
-pub fn merged_parser_data<StorageT: StorageIndex>(
-    alloc: Global,
-    grm: YaccGrammar<StorageT>,
-    max_states: usize,
-    cap: u16,
-) -> Result<ParserData<StorageT>, Unbuilt<StorageT>>
-    ensures built { IfOk result (IsMergedData grm max_states cap) }
-    ensures refused { IfErr result (IsUnmerged grm max_states cap) }
-{
-    let precedences = Precedences::none(alloc);
-    parser_data_by(alloc, grm, &precedences, Minimiser::Pager, max_states, cap)
-}
-
-/// The checked table of the grammar by precedences and a minimiser, as `from_yacc_by` builds it.
-///
-/// The faults are those of `from_yacc_by`, and then as for `parser_data`.
-pub fn parser_data_by<StorageT: StorageIndex>(
-    alloc: Global,
-    grm: YaccGrammar<StorageT>,
-    precedences: &Precedences,
-    minimiser: Minimiser,
-    max_states: usize,
-    cap: u16,
-) -> Result<ParserData<StorageT>, Unbuilt<StorageT>>
-    ensures built { IfOk result (IsMinimisedData minimiser grm precedences.now max_states cap) }
-    ensures refused { IfErr result (IsUnminimised minimiser StorageT.limit grm precedences.now max_states cap) }
-{
-    match from_yacc_by(alloc, &grm, precedences, minimiser, max_states) {
+    match from_yacc(alloc, &grm, max_states) {
         Err(fault) => Err(Unbuilt::Table(fault, grm)),
         Ok((sgraph, stable)) => match ParserData::of_safe(alloc, grm, sgraph, stable, cap) {
             Ok(data) => Ok(data),

@@ -5,5 +5,4 @@ pub mod build;
 pub mod laws;
 
 pub use lrpar_table_check::check;
-pub use lrpar_table_precedence::precedences;
 pub use lrpar_table_rows::table;

@@ -9,8 +9,8 @@ use lrpar_conflict_examples::examples::{
 };
 use lrpar_grammar::grammar::YaccGrammar;
 use lrpar_report::{Level, Report, Reporter, conflict_reports, push_token};
-use lrpar_table::precedences::Precedences;
 use lrpar_table::table::StateTable;
+use lrpar_table_precedence::precedences::Precedences;
 use program_files::tables::MAX_STATES;
 use std::alloc::{AllocError, Global};
 

@@ -11,11 +11,12 @@ use lrpar_grammar::grammar::YaccGrammar;
 use lrpar_grammar::span::TIdx;
 use lrpar_grammar_yacc::declarations::Declarations;
 use lrpar_report::{Report, Reporter, build_report, chain_report, rule_warnings_but};
-use lrpar_table::build::{BuildFault, Minimiser, from_yacc_by};
+use lrpar_table::build::BuildFault;
 use lrpar_table::check::{CheckFault, ParserData, Refused};
-use lrpar_table::precedences::Precedences;
 use lrpar_table::table::{StateGraph, StateTable};
 use lrpar_table_levels::precedences_of_declarations;
+use lrpar_table_options::{Minimiser, TableOptions};
+use lrpar_table_precedence::precedences::Precedences;
 use program_files::fault::Fault;
 use program_files::tables::MAX_STATES;
 use std::alloc::{AllocError, Global};
@@ -112,7 +113,11 @@ fn build_data<O: Write, E: Write>(
     err: &mut E,
 ) -> Result<ParserData<u32>, Fault> {
     let precedences = precedences_of(alloc, &grm, declared)?;
-    match from_yacc_by(alloc, &grm, &precedences, asked.minimiser, MAX_STATES) {
+    let options = TableOptions::new()
+        .precedences(&precedences)
+        .minimiser(asked.minimiser)
+        .max_states(MAX_STATES);
+    match options.state_table(alloc, &grm) {
         Ok((sgraph, stable)) => {
             if !asked.is_quiet {
                 let notes = notes_of(alloc, reporter, &grm, declared, &precedences, &stable)?;

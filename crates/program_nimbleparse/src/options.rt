@@ -2,7 +2,7 @@
 use crate::kind::GrammarKind;
 use crate::plan::{Format, Recovery};
 use lrpar_grammar_yacc::parts::YaccKind;
-use lrpar_table::build::Minimiser;
+use lrpar_table_options::Minimiser;
 use program_files::fault::{Fault, Misuse};
 use std::alloc::Global;
 

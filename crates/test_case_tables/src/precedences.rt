@@ -5,11 +5,11 @@ use crate::subject::{MAX_STATES, Tables, of_unbuilt, read_back};
 use lrpar_grammar::grammar::YaccGrammar;
 use lrpar_grammar::span::{PIdx, TIdx};
 use lrpar_grammar_yacc::file::YaccFile;
-use lrpar_table::build::{Minimiser, parser_data_by};
 use lrpar_table::check::ParserData;
-use lrpar_table::precedences::Resolution;
 use lrpar_table::table::StateTable;
 use lrpar_table_levels::precedences_of_declarations;
+use lrpar_table_options::{Minimiser, TableOptions};
+use lrpar_table_precedence::precedences::Resolution;
 use std::alloc::Global;
 use test_case_lines::cases::Case;
 use test_case_lines::fault::Fault;
@@ -30,7 +30,12 @@ pub fn built_by_precedences(
         "pager" => Minimiser::Pager,
         _ => Minimiser::Canonical,
     };
-    match parser_data_by(alloc, grammar, &precedences, minimiser, MAX_STATES, cap) {
+    let options = TableOptions::new()
+        .precedences(&precedences)
+        .minimiser(minimiser)
+        .max_states(MAX_STATES)
+        .cap(cap);
+    match options.build(alloc, grammar) {
         Ok(data) => Ok(data),
         Err(unbuilt) => Err(of_unbuilt(&unbuilt, case.number)),
     }

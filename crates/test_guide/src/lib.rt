@@ -14,6 +14,8 @@ mod guide;
 #[cfg(test)]
 mod lrpar_files;
 #[cfg(test)]
+mod options;
+#[cfg(test)]
 mod placed;
 #[cfg(test)]
 mod small;

@@ -1,5 +1,5 @@
 //! A tree by the files of an lrpar project, as a user writes it.
-use lrpar::build::{Unbuilt, parser_data_with};
+use lrpar::build::{TableOptions, Unbuilt};
 use lrpar::parser::ParseFault;
 use lrpar::precedences::precedences_of_declarations;
 use lrpar::yacc::{YaccFile, YaccFileFault, YaccKind};
@@ -59,7 +59,8 @@ fn table_of(alloc: Global, text: &str) -> Result<ParserData<u32>, Failed> {
     let file = YaccFile::<u32>::new_with_kind(alloc, YaccKind::Grmtools, text)?;
     let (grammar, text) = file.into_parts();
     let precedences = precedences_of_declarations(alloc, &grammar, &text.declarations)?;
-    Ok(parser_data_with(alloc, grammar, &precedences, 10_000, 1_000)?)
+    let options = TableOptions::new().precedences(&precedences);
+    Ok(options.build(alloc, grammar)?)
 }
 
 // The tree of an input by the rules of a `.l` file, if there is one.

@@ -1,8 +1,7 @@
 //! A table with merged item sets, and where it differs from the canonical one.
-use lrpar::build::{BuildFault, Minimiser, Unbuilt, from_yacc_by, merged_parser_data};
+use lrpar::build::{BuildFault, Minimiser, TableOptions, Unbuilt};
 use lrpar::grammar::{GrammarFault, YaccGrammar};
 use lrpar::parser::ParseFault;
-use lrpar::precedences::Precedences;
 use lrpar::{LexParseError, ParserData, RTParserBuilder};
 use std::alloc::{AllocError, Global};
 use std::process::Abort;
@@ -30,7 +29,8 @@ const LETTERS: &str = "%% S: 'a' A 'd' | 'a' B | 'b' A 'e' | 'b' B; A: 'c'; B: '
 /// The checked table with merged item sets of a grammar text.
 fn small_table(alloc: Global, text: &str) -> Result<ParserData<u32>, Failed> {
     let grm = YaccGrammar::new_with_storaget(alloc, text)?;
-    Ok(merged_parser_data(alloc, grm, 10_000, 1_000)?)
+    let options = TableOptions::new().minimiser(Minimiser::Pager);
+    Ok(options.build(alloc, grm)?)
 }
 
 /// The tokens that are expected in the state of the first error, a line each.
@@ -99,8 +99,10 @@ fn states_are_fewer(
 // Why no table with at most this number of merged states is built, if none is.
 fn refusal(alloc: Global, text: &str, most: usize) -> Result<Option<BuildFault>, Failed> {
     let grm = YaccGrammar::<u8>::new_with_storaget(alloc, text)?;
-    let none = Precedences::none(alloc);
-    Ok(from_yacc_by(alloc, &grm, &none, Minimiser::Pager, most).err())
+    let options = TableOptions::new()
+        .minimiser(Minimiser::Pager)
+        .max_states(most);
+    Ok(options.state_table(alloc, &grm).err())
 }
 
 #[test]

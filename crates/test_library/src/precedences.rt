@@ -2,10 +2,10 @@
 use crate::expectations::{holds, same};
 use lrpar_grammar::grammar::YaccGrammar;
 use lrpar_grammar::span::{PIdx, TIdx};
-use lrpar_table::build::from_yacc_with;
-use lrpar_table::precedences::{AssocKind, Resolution};
 use lrpar_table::table::StateTable;
 use lrpar_table_levels::{Level, PrecedenceFault, precedences_of_levels};
+use lrpar_table_options::TableOptions;
+use lrpar_table_precedence::precedences::{AssocKind, Resolution};
 use std::alloc::Global;
 use std::process::Abort;
 use std::test::Fail;
@@ -87,7 +87,10 @@ fn table(rt: &impl Abort, alloc: Global, named: &[(PIdx<u8>, usize)]) -> StateTa
     let grm = calculator(rt, alloc);
     let levels = levels(rt, alloc);
     let precedences = precedences_of_levels(alloc, &grm, &levels, named).expect(rt, "precedences");
-    let (_, table) = from_yacc_with(alloc, &grm, &precedences, 100).expect(rt, "a table");
+    let options = TableOptions::new()
+        .precedences(&precedences)
+        .max_states(100);
+    let (_, table) = options.state_table(alloc, &grm).expect(rt, "a table");
     table
 }
 
