@@ -87,7 +87,7 @@ pub mod laws {
         completions_always_repair, completions_always_repair_over_viable_tables,
     };
     pub use lrpar_parse_cpctplus::laws::{
-        cheapest_repairs_are_chains, cheapest_repairs_have_one_answer,
+        cheapest_repairs_are_paths, cheapest_repairs_have_one_answer,
         last_steps_give_the_least_cost, no_sequence_is_cheaper_than_repairs,
     };
     pub use lrpar_parse_lexemes::laws::{
@@ -103,7 +103,7 @@ pub mod laws {
         precedences_keep_apart, tables_by_precedence_are_safe,
     };
     pub use lrpar_table_check::laws::{
-        complete_tables_expect_sentences, complete_tables_take_sentences,
+        complete_tables_accept_sentences, complete_tables_expect_sentences,
     };
     pub use lrpar_table_merge::laws::{
         built_by_tables_are_merged_by, built_tables_are_merged, canonical_sets_are_merged,

@@ -251,8 +251,8 @@ abbrev pub IsStepLink : {S : Type 0} → (S → ℕ) → Grammar → TIdx S → 
 IsStepLink index g token link = IsOwnStep g (index token.0) (link_of index link)
 
 -- the production's rule is reachable
-abbrev pub IsOfReached : {S : Type 0} → (S → ℕ) → Grammar → PIdx S → Type 0
-IsOfReached index g prod = IsReachableRule g (rule_of g (index prod.0))
+abbrev pub HasReachableRule : {S : Type 0} → (S → ℕ) → Grammar → PIdx S → Type 0
+HasReachableRule index g prod = IsReachableRule g (rule_of g (index prod.0))
 
 -- the links lead up to kernel items
 abbrev pub LeadUp : {S : Type 0} → (S → ℕ) → Grammar → TIdx S → List (Link S) → Type 0
@@ -332,8 +332,8 @@ abbrev pub HasNoMarks : {A : Type 0} → Vec Bool A → Type 0
 HasNoMarks marks = (r : ℕ) → has marks.items r ≡ false
 
 -- one of the marks is for the link's rule
-abbrev pub HasPlaceFor : {S A : Type 0} → (S → ℕ) → Vec Bool A → Link S → Type 0
-HasPlaceFor index marks link = index link.rule.0 < length marks.items
+abbrev pub HasMarkForLink : {S A : Type 0} → (S → ℕ) → Vec Bool A → Link S → Type 0
+HasMarkForLink index marks link = index link.rule.0 < length marks.items
 
 -- of this number of rules those with links are marked
 abbrev pub AreMarkedOf : {S : Type 0} → (S → ℕ) → ℕ → Found S → Type 0

@@ -1,7 +1,7 @@
 -- Counterexamples of the conflicts of a table with merged item sets.
 use Rattle.std.specs.Prelude.{◌≡◌, ℕ, List, [], ◌∷◌, ◌++◌, Contains, IsPermutation, map}
 use Rattle.lrpar_grammar.specs.Grammar.{Grammar}
-use Rattle.lrpar_conflict_examples.specs.Conflicts.{AreAlike, ConflictExampleOf, ConflictOf, IsReady, listed_of, unmet_in, unmet_of}
+use Rattle.lrpar_conflict_examples.specs.Conflicts.{AreAlike, ConflictExampleOf, ConflictOf, IsReady, table_conflicts, unmet_in, unmet_of}
 use Rattle.lrpar_conflict_examples.specs.declared.merged.Canonical.{Canonical}
 use Rattle.lrpar_conflict_examples.specs.declared.merged.MergedConflicts.{MergedConflicts}
 use Rattle.lrpar_conflict_examples.specs.declared.unresolved.UnmetConflict.{UnmetConflict}
@@ -26,7 +26,7 @@ AddsExample x old new = new.examples.items ≡ old.examples.items ++ x ∷ []
 -- the canonical table of the grammar, its conflicts, and what their counterexamples need
 pub record IsCanonicalOf {S : Type 0} (index : S → ℕ) (g : Grammar) (largest : ℕ) (canonical : Canonical S) : Type 0 where
   pub ready : IsReady g canonical.sgraph canonical.stable largest canonical.shared
-  pub listed : unmet_in index canonical.listed.items ≡ listed_of canonical.stable
+  pub listed : unmet_in index canonical.listed.items ≡ table_conflicts canonical.stable
 
 -- a listed conflict at the same token, with the same moves
 pub record IsLike {S : Type 0} (index : S → ℕ) (listed : List (UnmetConflict S)) (conflict own : UnmetConflict S) : Type 0 where

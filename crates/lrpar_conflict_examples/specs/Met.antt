@@ -35,20 +35,20 @@ loses_shift (Some Reduce) = true
 loses_shift (Some Error) = true
 
 -- the conflict is in state s at token t, and precedences take its shift away
-abbrev pub takes_away : PrecedenceLists → ℕ → ℕ → ShiftReduce → Bool
-takes_away precedences s t x = loses_shift (resolution_of precedences x.prod x.token) && ((x.state == s) && (x.token == t))
+abbrev pub loses_shift_at : PrecedenceLists → ℕ → ℕ → ShiftReduce → Bool
+loses_shift_at precedences s t x = loses_shift (resolution_of precedences x.prod x.token) && ((x.state == s) && (x.token == t))
 
 -- whether precedences take away the shift of token t in state s, by one of these conflicts
-abbrev pub take_away : PrecedenceLists → List ShiftReduce → ℕ → ℕ → Bool
-take_away precedences conflicts s t = list_any (takes_away precedences s t) conflicts
+abbrev pub shift_is_lost : PrecedenceLists → List ShiftReduce → ℕ → ℕ → Bool
+shift_is_lost precedences conflicts s t = list_any (loses_shift_at precedences s t) conflicts
 
 -- whether precedences take away the shift of token t in state s
-abbrev pub is_taken_away : PrecedenceLists → Table → ℕ → ℕ → Bool
-is_taken_away precedences table s t = take_away precedences (lists_in table.conflicts).shift_reduce s t
+abbrev pub is_shift_lost : PrecedenceLists → Table → ℕ → ℕ → Bool
+is_shift_lost precedences table s t = shift_is_lost precedences (lists_in table.conflicts).shift_reduce s t
 
 -- a step from state s to state next: a shift that precedences leave, or a goto
 pub data IsStep (precedences : PrecedenceLists) (table : Table) (s next : ℕ) : Type 0 where
-  Shifts : (t : ℕ) → action_of table s t ≡ ShiftTo next → is_taken_away precedences table s t ≡ false → IsStep precedences table s next
+  Shifts : (t : ℕ) → action_of table s t ≡ ShiftTo next → is_shift_lost precedences table s t ≡ false → IsStep precedences table s next
   Goes : (r : ℕ) → goto_of table s r ≡ Some next → IsStep precedences table s next
 
 -- the least set of states that has the start and, with a state, each one that a step leads to
@@ -153,18 +153,18 @@ abbrev pub AddsToken : ℕ → ℕ → List TokenSet → List TokenSet → Type 
 AddsToken state token old new = AddsTokens (rows_of old) (rows_of new) (λ s t. (state == s) && (token == t))
 
 -- the tokens of the conflicts whose shift precedences take away were added to the sets of their states
-abbrev pub AddsTaken : {S : Type 0} → (S → ℕ) → PrecedenceLists → List (TIdx S × PIdx S × StIdx S) → List TokenSet → List TokenSet → Type 0
-AddsTaken index precedences conflicts old new =
-    AddsTokens (rows_of old) (rows_of new) (take_away precedences (map (shift_reduce_of index) conflicts))
+abbrev pub AddsLostShifts : {S : Type 0} → (S → ℕ) → PrecedenceLists → List (TIdx S × PIdx S × StIdx S) → List TokenSet → List TokenSet → Type 0
+AddsLostShifts index precedences conflicts old new =
+    AddsTokens (rows_of old) (rows_of new) (shift_is_lost precedences (map (shift_reduce_of index) conflicts))
 
 -- for each state the tokens whose shift precedences take away
-pub record AreTakenAway (precedences : PrecedenceLists) (table : Table) (rows : List (List Bool)) : Type 0 where
+pub record AreLostShifts (precedences : PrecedenceLists) (table : Table) (rows : List (List Bool)) : Type 0 where
   pub states : length rows ≡ states_len table
-  pub exact : (s t : ℕ) → s < states_len table → t < table.tokens → has (row_at rows s) t ≡ is_taken_away precedences table s t
+  pub exact : (s t : ℕ) → s < states_len table → t < table.tokens → has (row_at rows s) t ≡ is_shift_lost precedences table s t
 
 -- the vector has for each state the set of the tokens whose shift precedences take away
-abbrev pub TakesAway : {A : Type 0} → PrecedenceLists → Table → Vec TokenSet A → Type 0
-TakesAway precedences table = λ sets. AreTakenAway precedences table (rows_of sets.items)
+abbrev pub HasLostShifts : {A : Type 0} → PrecedenceLists → Table → Vec TokenSet A → Type 0
+HasLostShifts precedences table = λ sets. AreLostShifts precedences table (rows_of sets.items)
 
 -- the step by an action at a token, if it is a shift that isn't taken away
 abbrev pub shift_step : List Bool → ℕ → ℕ → TableAction → List (ℕ × ℕ)
@@ -217,13 +217,13 @@ abbrev pub other_ones : List Bool → List ConflictOf → List ConflictOf
 other_ones marks conflicts = filter (λ (x : ConflictOf). not (is_marked marks x.state)) conflicts
 
 -- precedences don't resolve the conflict: it is one between two reductions, or they have no answer
-abbrev pub is_left_between : PrecedenceLists → MoveOf → MoveOf → Bool
-is_left_between precedences (Makes p) (Takes t) = is_none (resolution_of precedences p t)
-is_left_between precedences (Makes p) (Makes q) = true
-is_left_between precedences (Takes t) second = true
+abbrev pub is_unresolved_between : PrecedenceLists → MoveOf → MoveOf → Bool
+is_unresolved_between precedences (Makes p) (Takes t) = is_none (resolution_of precedences p t)
+is_unresolved_between precedences (Makes p) (Makes q) = true
+is_unresolved_between precedences (Takes t) second = true
 
-abbrev pub is_left : PrecedenceLists → ConflictOf → Bool
-is_left precedences x = is_left_between precedences x.first x.second
+abbrev pub is_unresolved : PrecedenceLists → ConflictOf → Bool
+is_unresolved precedences x = is_unresolved_between precedences x.first x.second
 
 -- the conflicts that precedences leave are in two lists: those in states that are marked, and the others
 pub record AreParted {S : Type 0} (index : S → ℕ) (precedences : PrecedenceLists) (table : Table) (marks : List Bool) (first second : List (UnmetConflict S)) : Type 0 where

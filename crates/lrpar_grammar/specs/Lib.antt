@@ -10,7 +10,7 @@ pub mod SpansFit
 pub mod Tokens
 pub mod Printed
 pub mod Spelled
-pub mod Chains
+pub mod SameProds
 pub mod Matching
 pub mod SymbolNames
 pub mod ProdText

@@ -5,7 +5,7 @@ use Rattle.lrpar_grammar.specs.declared.grammar.spelled_fault.SpelledFault.{Spel
 use Rattle.lrpar_grammar.specs.declared.grammar.spelled_fault.SpelledFault.TheVariants.{Unknown, Repeated, Missing, Memory}
 use Rattle.lrpar_grammar.specs.ProdText.{prod_text}
 use Rattle.lrpar_grammar.specs.SpelledParts.{IsListingInParts}
-use Rattle.lrpar_grammar.specs.Spelled.{HasProduction, HasText, IsListing, NamedSymbols, SpellEach, SpellsNumbers, count_of, listed_prods, named_symbols, numbers_at}
+use Rattle.lrpar_grammar.specs.Spelled.{HasProduction, HasText, IsListing, NamedSymbols, SpellEach, SpellsNumbers, count_of, numbered_prods, named_symbols, numbers_at}
 
 -- each of the texts is of a production
 pub record GoWell (n : NamedSymbols) (prods texts : List (List ℕ)) : Type 0 where
@@ -47,8 +47,8 @@ IsTextFault n prods texts Memory = Unit {0}
 -- Why the texts don't list the productions: the first text that is wrong or, if none is, the first production without a text; or an
 -- allocation failed.
 abbrev pub IsSpelledFault : Grammar → List (List ℕ) → SpelledFault → Type 0
-IsSpelledFault g texts (Missing text) = (p : ℕ) × IsMissingAt (named_symbols g) (listed_prods g) texts p × (string_bytes text ≡ prod_text g p)
-IsSpelledFault g texts fault = IsTextFault (named_symbols g) (listed_prods g) texts fault
+IsSpelledFault g texts (Missing text) = (p : ℕ) × IsMissingAt (named_symbols g) (numbered_prods g) texts p × (string_bytes text ≡ prod_text g p)
+IsSpelledFault g texts fault = IsTextFault (named_symbols g) (numbered_prods g) texts fault
 
 -- the fault of that text and place, or a failed allocation
 abbrev pub IsUnknownOf : List ℕ → ℕ → SpelledFault → Type 0

@@ -60,8 +60,8 @@ abbrev pub line_table : List ℕ → LineTable
 line_table text = record { starts = filter (starts_line text) (range_with_len 1 (length text)); counts = char_counts text; len = length text }
 
 -- in a text with these lines, this number of line feeds comes before the byte
-abbrev pub AreFeedsBefore : LineTable → ℕ → ℕ → Type 0
-AreFeedsBefore lines byte feeds = (text : List ℕ) → lines ≡ line_table text → feeds ≡ count_by is_line_feed (take byte text)
+abbrev pub AreLineFeedsBefore : LineTable → ℕ → ℕ → Type 0
+AreLineFeedsBefore lines byte feeds = (text : List ℕ) → lines ≡ line_table text → feeds ≡ count_by is_line_feed (take byte text)
 
 -- in a text with these lines, the byte is on the line with this number, if there is one
 abbrev pub IsLineOf : LineTable → ℕ → Option ℕ → Type 0

@@ -206,11 +206,11 @@ pub record ReadsWithFault (text : List ℕ) (fault : GrammarFault) : Type 0 wher
 -- Why a text gives no grammar. `Syntax`: it has no outline, and reading it is stuck at this place. `StorageTooSmall`: the
 -- storage type is too small for the grammar that it spells. `Memory`: an allocation failed. Any other: this is the first
 -- fault of its declarations and rules.
-abbrev pub IsFaultOf : ℕ → List ℕ → GrammarFault → Type 0
-IsFaultOf limit text (Syntax place) = IsUnreadableAt text place
-IsFaultOf limit text StorageTooSmall = SpellsTooMany limit text
-IsFaultOf limit text Memory = Unit {0}
-IsFaultOf limit text fault = ReadsWithFault text fault
+abbrev pub IsGrammarFaultOf : ℕ → List ℕ → GrammarFault → Type 0
+IsGrammarFaultOf limit text (Syntax place) = IsUnreadableAt text place
+IsGrammarFaultOf limit text StorageTooSmall = SpellsTooMany limit text
+IsGrammarFaultOf limit text Memory = Unit {0}
+IsGrammarFaultOf limit text fault = ReadsWithFault text fault
 
 -- the text can't be read on from this place, or an allocation failed
 abbrev pub IsOutlineFault : List ℕ → GrammarFault → Type 0

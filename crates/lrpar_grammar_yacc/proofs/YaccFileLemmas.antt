@@ -7,13 +7,13 @@ use Rattle.lrpar_grammar_words.specs.declared.words.Word.{Word}
 use Rattle.lrpar_grammar_words.specs.Words.{PlacedWord, placed}
 use Rattle.lrpar_grammar_reader.specs.declared.parts.GrammarFault.{GrammarFault}
 use Rattle.lrpar_grammar_reader.specs.declared.parts.GrammarFault.TheVariants.{BadStart, BadSymbol, Memory as GrammarMemory, NoRules, RepeatedEpp, RepeatedStart, StorageTooSmall, Syntax, TokenIsRule, UnknownRule, UnknownToken}
-use Rattle.lrpar_grammar_reader.specs.Spells.{IsFaultOf as IsTextFault}
+use Rattle.lrpar_grammar_reader.specs.Spells.{IsGrammarFaultOf as IsTextFault}
 use Rattle.lrpar_grammar_yacc.specs.declared.faults.YaccFault.{YaccFault}
 use Rattle.lrpar_grammar_yacc.specs.declared.faults.YaccFault.TheVariants.{BadNumber, Memory, MidRuleAction, RepeatedPrec, RepeatedPrecedence}
 use Rattle.lrpar_grammar_yacc.specs.declared.file.YaccFileFault.{YaccFileFault}
 use Rattle.lrpar_grammar_yacc.specs.declared.parts.YaccKind.{YaccKind}
 use Rattle.lrpar_grammar_yacc.specs.Erasure.{erasure}
-use Rattle.lrpar_grammar_yacc.specs.Faults.{IsFaultOf, first_fault}
+use Rattle.lrpar_grammar_yacc.specs.Faults.{IsYaccFaultOf, first_fault}
 use Rattle.lrpar_grammar_yacc.specs.YaccFiles.{IsFileFault, of_declared, of_text, unknown_among}
 
 -- the rest of the words, by the first of them
@@ -47,14 +47,14 @@ error_same (Err f) P e is holds = subst P (sym is) holds
 
 module _ {T : Type 0} (limit : ℕ) (kind : YaccKind) (text : List ℕ) where
   -- a fault of what a grammar text doesn't have
-  declared_fault : (e : YaccFault) → IsFaultOf kind text e → IsFileFault limit kind text (of_declared e)
+  declared_fault : (e : YaccFault) → IsYaccFaultOf kind text e → IsFileFault limit kind text (of_declared e)
   declared_fault (RepeatedPrec span) is = is
   declared_fault (RepeatedPrecedence span) is = is
   declared_fault (MidRuleAction span) is = is
   declared_fault (BadNumber span) is = is
   declared_fault Memory is = tt
 
-  pub declared_refused : (result : Result T YaccFileFault) (e : YaccFault) → IsErrAnd result (λ f. f ≡ of_declared e) → IsFaultOf kind text e
+  pub declared_refused : (result : Result T YaccFileFault) (e : YaccFault) → IsErrAnd result (λ f. f ≡ of_declared e) → IsYaccFaultOf kind text e
       → IfErr result (IsFileFault limit kind text)
   declared_refused result e is fault = error_same result (IsFileFault limit kind text) (of_declared e) is (declared_fault e fault)
 

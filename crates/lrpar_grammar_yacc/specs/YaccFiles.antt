@@ -23,7 +23,7 @@ use Rattle.lrpar_grammar_yacc.specs.Faults.{first_fault}
 use Rattle.lrpar_grammar_reader.specs.declared.parts.GrammarFault.{GrammarFault}
 use Rattle.lrpar_grammar_reader.specs.declared.parts.GrammarFault.TheVariants.{Memory as GrammarMemory}
 use Rattle.lrpar_grammar_reader.specs.Grammar.{Grammar}
-use Rattle.lrpar_grammar_reader.specs.Spells.{IsFaultOf, Spells}
+use Rattle.lrpar_grammar_reader.specs.Spells.{IsGrammarFaultOf, Spells}
 use Rattle.lrpar_grammar.specs.Stored.{texts_in}
 
 -- the names of all tokens
@@ -65,7 +65,7 @@ pub record IsFileOf (kind : YaccKind) (text : List ℕ) (g : Grammar) : Type 0 w
 -- the file has no fault, but its erasure has this one
 pub record HasTextFault (limit : ℕ) (kind : YaccKind) (text : List ℕ) (fault : GrammarFault) : Type 0 where
   pub sound : first_fault kind text ≡ None
-  pub fault_is : IsFaultOf limit (erasure kind text) fault
+  pub fault_is : IsGrammarFaultOf limit (erasure kind text) fault
 
 -- the name at this place is the first that the grammar of the file doesn't know
 pub record HasUnknownToken (kind : YaccKind) (text : List ℕ) (span : Extent) : Type 0 where

@@ -92,7 +92,7 @@ impl<'input, RulesT: TextRules<StorageT>, StorageT: StorageIndex> TextLexer<
     }
 
     // The line and the column of a byte.
-    fn place(&self, byte: usize) -> (usize, usize)
+    fn position(&self, byte: usize) -> (usize, usize)
         requires { IsCharBoundary self.now.input.now byte }
         ensures line { result.0 ≡ line_of self.now.input.now byte }
         ensures column { result.1 ≡ column_of self.now.input.now byte }
@@ -128,7 +128,7 @@ impl<'input, RulesT: TextRules<StorageT>, StorageT: StorageIndex> NonStreamingLe
     }
 
     fn line_col(&self, span: Span) -> ((usize, usize), (usize, usize)) {
-        (self.place(span.start()), self.place(span.end()))
+        (self.position(span.start()), self.position(span.end()))
     }
 }
 

@@ -4,7 +4,7 @@ use Rattle.std.specs.Prelude.{◌≡◌, ◌≢◌, ◌+◌, ◌↔◌, ℕ, Lis
 use Rattle.std.specs.List.{AllPairs, Contains}
 use Rattle.lrpar_parse_repair.specs.Asked.{Asked}
 use Rattle.lrpar_parse_repair.specs.Sequences.{PlainStep}
-use Rattle.lrpar_parse_cpctplus.specs.Chains.{IsLastStep, IsLink}
+use Rattle.lrpar_parse_cpctplus.specs.LinkPaths.{IsLastStep, IsLink}
 use Rattle.lrpar_parse_cpctplus.specs.Configurations.{Configured, IsNearer, root_of}
 use Rattle.lrpar_parse_cpctplus.specs.Reaching.{Reaches}
 

@@ -222,16 +222,16 @@ module _ {S X : Type 0} (index : S → ℕ) (parts : X → LexemeParts S) (searc
   IsNotFound = IsNothingFound (token_by index parts) search.terms.now.costs search.point.now search.terms.now.limit
 
   -- these last steps are found with the graph, or nothing is found
-  abbrev pub IsResult : {A : Type 0} → Shared → Graph S → Option (Vec (Ending S) A) → Type 0
-  IsResult stacks graph None = IsNotFound
-  IsResult stacks graph (Some endings) =
+  abbrev pub IsSearchResult : {A : Type 0} → Shared → Graph S → Option (Vec (Ending S) A) → Type 0
+  IsSearchResult stacks graph None = IsNotFound
+  IsSearchResult stacks graph (Some endings) =
       IsFoundBy (token_by index parts) search.terms.now.costs search.point.now search.terms.now.limit (nodes_of stacks graph)
       (plain_links index graph.links.items) (plain_endings index endings.items)
 
   -- what is found
   abbrev pub IsFoundIn : Option (Found S) → Type 0
   IsFoundIn None = IsNotFound
-  IsFoundIn (Some found) = IsResult found.stacks found.graph (Some found.endings)
+  IsFoundIn (Some found) = IsSearchResult found.stacks found.graph (Some found.endings)
 
 -- how many configurations there are in what is found, the links between them, and the last steps
 pub record AreLinksOf {S : Type 0} (found : Found S) (linked : Linked S) : Type 0 where

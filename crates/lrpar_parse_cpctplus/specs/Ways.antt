@@ -2,7 +2,7 @@
 use Rattle.std.specs.Prelude.{◌≡◌, ◌||◌, ℕ, Bool, true, false, List, [], ◌∷◌, slice_index_or}
 use Rattle.lrpar_parse_repair.specs.Asked.{Asked}
 use Rattle.lrpar_parse_repair.specs.Sequences.{PlainStep, PlainInsert, PlainDelete, PlainShift}
-use Rattle.lrpar_parse_cpctplus.specs.Chains.{IsChain, IsEnd}
+use Rattle.lrpar_parse_cpctplus.specs.LinkPaths.{IsLinkPath, IsEnd}
 use Rattle.lrpar_parse_cpctplus.specs.Configurations.{Configured}
 
 -- whether the step is a Delete
@@ -27,7 +27,7 @@ pub record IsWay {X : Type 0} (token : X → ℕ) (costs : List ℕ) (at : Asked
   pub fits : FitAfter deleted steps
   pub end : Configured
   pub ends : IsEnd token costs at c end
-  pub chain : IsChain token costs at c v steps end
+  pub chain : IsLinkPath token costs at c v steps end
 
 -- whether the step inserts a token that is to be avoided
 abbrev pub is_avoided : List Bool → PlainStep → Bool

@@ -74,5 +74,5 @@ module _ {S X : Type 0} (index : S → ℕ) (parts : X → LexemeParts S) where
     IsFaultIn sequence = IsPpFault index names (inserted (sequence_parts index (λ x. (parts x).span) sequence.items))
 
     -- the fault names the first token of the sequences for which nothing is printed, or is `Memory`
-    abbrev pub IsFaultOf : {B : Type 0} → List (Vec (ParseRepair X S) B) → PpFault S → Type 0
-    IsFaultOf sequences = IsPpFault index names (tokens_of (λ x. (parts x).span) (repairs_of index sequences))
+    abbrev pub IsPpFaultOf : {B : Type 0} → List (Vec (ParseRepair X S) B) → PpFault S → Type 0
+    IsPpFaultOf sequences = IsPpFault index names (tokens_of (λ x. (parts x).span) (repairs_of index sequences))

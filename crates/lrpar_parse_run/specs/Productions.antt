@@ -9,8 +9,8 @@ use Rattle.lrpar_parse_trees.specs.declared.node.Node.{Node}
 
 module _ {S : Type 0} (index : S → ℕ) (g : Grammar) (prod : PIdx S) where
   -- the production isn't the start production
-  abbrev pub IsListed : Type 0
-  IsListed = index prod.0 < start_prod g
+  abbrev pub IsNotStart : Type 0
+  IsNotStart = index prod.0 < start_prod g
 
   -- the builder can make an entry of the production from the n top entries
   abbrev pub CanReduceBy : {X E : Type 0} → Building X E → ℕ → List E → Type 0

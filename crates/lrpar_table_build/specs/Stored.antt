@@ -49,8 +49,8 @@ module _ {S : Type 0} (index : S → ℕ) where
       → ¬ (let state = state_at (states_of states) s in IsAcceptReduce g state.cores state.shifts t)
 
   -- the fault names a state that has an accept/reduce conflict, or an allocation failed
-  abbrev pub IsFaultOf : Grammar → List (State S) → BuildFault → Type 0
-  IsFaultOf g states fault = IsRefusalOf (length states) (IsRefusedState g (states_of states)) fault
+  abbrev pub IsTableFaultOf : Grammar → List (State S) → BuildFault → Type 0
+  IsTableFaultOf g states fault = IsRefusalOf (length states) (IsRefusedState g (states_of states)) fault
 
   -- the rows have the actions of the states by the precedences
   abbrev pub AreActions : {A B : Type 0} → PrecedenceLists → Grammar → List (State S) → Vec (Vec (TIdx S × Action S) A) B → Type 0

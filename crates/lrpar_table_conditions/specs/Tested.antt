@@ -116,8 +116,8 @@ PutsStart index parts s prod dot old new =
     ⊎ ((index prod.0 ≡ q) × (dot ≡ 0) × HasItem parts.sgraph.now (index s.0) q 0 t))
 
 -- if the dot is 0, the set of the production is empty, and nothing is added to a set
-abbrev pub TakesStart : {S : Type 0} → (S → ℕ) → PIdx S → ℕ → List TokenSet → List TokenSet → Type 0
-TakesStart index prod dot old new =
+abbrev pub ClearsStart : {S : Type 0} → (S → ℕ) → PIdx S → ℕ → List TokenSet → List TokenSet → Type 0
+ClearsStart index prod dot old new =
     (q t : ℕ) → IsTrue (has (row_at (rows_of new) q) t) → IsTrue (has (row_at (rows_of old) q) t) × (index prod.0 ≡ q → dot ≢ 0)
 
 -- the lookaheads of the state's items with this core are added to the set, and nothing else is

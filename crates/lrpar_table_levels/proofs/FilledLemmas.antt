@@ -10,7 +10,7 @@ use Rattle.std.proofs.lemmas.List.Sums.{sum_by-append, sum_by-cons}
 use Rattle.lrpar_table_precedence.specs.declared.precedence.Precedence.{Precedence}
 use Rattle.lrpar_table_precedence.specs.Precedence.{slot_at}
 use Rattle.lrpar_table_levels.specs.Filled.{AreFilled}
-use Rattle.lrpar_table_levels.specs.Levels.{times_listed}
+use Rattle.lrpar_table_levels.specs.Levels.{count_in}
 
 -- a key in entries, and in one more
 pub lookup_push : {K : Type 0} (test : K → Bool) (es : List (K × Precedence)) (e : K × Precedence)
@@ -29,18 +29,18 @@ or_none (Some x) = refl
 
 -- how often a number is in entries, one after another
 times_append : (n : ℕ) (es fs : List (ℕ × Precedence))
-    → times_listed (keys_of (es ++ fs)) n ≡ times_listed (keys_of es) n + times_listed (keys_of fs) n
+    → count_in (keys_of (es ++ fs)) n ≡ count_in (keys_of es) n + count_in (keys_of fs) n
 times_append n es fs =
-    ap (λ ks. times_listed ks n) (map-append (λ e. e.0) es fs) ∙ sum_by-append (λ k. cond (k == n) 1 0) (keys_of es) (keys_of fs)
+    ap (λ ks. count_in ks n) (map-append (λ e. e.0) es fs) ∙ sum_by-append (λ k. cond (k == n) 1 0) (keys_of es) (keys_of fs)
 
-times_same : (n : ℕ) (e : ℕ × Precedence) (es : List (ℕ × Precedence)) → e.0 ≡ n → times_listed (keys_of (e ∷ es)) n ≡ 1 + times_listed (keys_of es) n
+times_same : (n : ℕ) (e : ℕ × Precedence) (es : List (ℕ × Precedence)) → e.0 ≡ n → count_in (keys_of (e ∷ es)) n ≡ 1 + count_in (keys_of es) n
 times_same n e es same =
-    sum_by-cons (λ k. cond (k == n) 1 0) e.0 (keys_of es) ∙ ap (λ b. cond b 1 0 + times_listed (keys_of es) n) (eq-eqb e.0 n same)
+    sum_by-cons (λ k. cond (k == n) 1 0) e.0 (keys_of es) ∙ ap (λ b. cond b 1 0 + count_in (keys_of es) n) (eq-eqb e.0 n same)
 
-times_other : (n : ℕ) (e : ℕ × Precedence) (es : List (ℕ × Precedence)) → e.0 ≢ n → times_listed (keys_of (e ∷ es)) n ≡ times_listed (keys_of es) n
+times_other : (n : ℕ) (e : ℕ × Precedence) (es : List (ℕ × Precedence)) → e.0 ≢ n → count_in (keys_of (e ∷ es)) n ≡ count_in (keys_of es) n
 times_other n e es other =
-    sum_by-cons (λ k. cond (k == n) 1 0) e.0 (keys_of es) ∙ ap (λ b. cond b 1 0 + times_listed (keys_of es) n) (ne_eqb e.0 n other)
-    ∙ zero-add (times_listed (keys_of es) n)
+    sum_by-cons (λ k. cond (k == n) 1 0) e.0 (keys_of es) ∙ ap (λ b. cond b 1 0 + count_in (keys_of es) n) (ne_eqb e.0 n other)
+    ∙ zero-add (count_in (keys_of es) n)
 
 -- before the first entry
 pub fill_none : (slots : List (Option Precedence)) → ((n : ℕ) → slot_at slots n ≡ None) → AreFilled [] slots
@@ -68,12 +68,12 @@ fill_more es k x slots within empty filled = record {
       let both = times_append n es ((k, x) ∷ []) in
       elim (cases_eq n k) [
         | inl same ↦
-            let before : times_listed (keys_of es) n ≡ 0 = filled.once n ∙ ap (λ o. cond (is_some o) 1 0) (ap (slot_at slots) same ∙ empty) in
-            both ∙ ap (λ m. m + times_listed (keys_of ((k, x) ∷ [])) n) before ∙ zero-add (times_listed (keys_of ((k, x) ∷ [])) n)
+            let before : count_in (keys_of es) n ≡ 0 = filled.once n ∙ ap (λ o. cond (is_some o) 1 0) (ap (slot_at slots) same ∙ empty) in
+            both ∙ ap (λ m. m + count_in (keys_of ((k, x) ∷ [])) n) before ∙ zero-add (count_in (keys_of ((k, x) ∷ [])) n)
             ∙ times_same n (k, x) [] (sym same) ∙ sym (ap (λ o. cond (is_some o) 1 0) (get_or-set_at slots k n (Some x) None same within))
         | inr other ↦
             let differs : k ≢ n = λ is. other (sym is) in
-            both ∙ ap (λ m. times_listed (keys_of es) n + m) (times_other n (k, x) [] differs) ∙ add-zero (times_listed (keys_of es) n) ∙ filled.once n
+            both ∙ ap (λ m. count_in (keys_of es) n + m) (times_other n (k, x) [] differs) ∙ add-zero (count_in (keys_of es) n) ∙ filled.once n
             ∙ sym (ap (λ o. cond (is_some o) 1 0) (get_or-set_other slots k n (Some x) None other))
       ];
 }
@@ -94,22 +94,22 @@ module _ (entries : List (ℕ × Precedence)) (i : ℕ) (d : ℕ × Precedence) 
       (fill_more (take i entries) e.0 e.1 slots below (empty_from_test (slot_at slots e.0) empty) filled)
 
   -- the next entry, whose slot is full
-  pub fill_twice : is_some (slot_at slots (slice_index_or entries i d).0) ≡ true → 2 ≤ times_listed (keys_of entries) (slice_index_or entries i d).0
+  pub fill_twice : is_some (slot_at slots (slice_index_or entries i d).0) ≡ true → 2 ≤ count_in (keys_of entries) (slice_index_or entries i d).0
   fill_twice full =
       let e = slice_index_or entries i d in
       let same : i + 1 ≡ suc i = omega arith in
       let later = drop (suc i) entries in
       let parts : take i entries ++ e ∷ later ≡ entries =
       ap (λ s. take i entries ++ s) (sym (drop-cons entries i d within)) ∙ take-append-drop i entries in
-      let before : times_listed (keys_of (take i entries)) e.0 ≡ 1 = filled.once e.0 ∙ ap (λ b. cond b 1 0) full in
+      let before : count_in (keys_of (take i entries)) e.0 ≡ 1 = filled.once e.0 ∙ ap (λ b. cond b 1 0) full in
       let here = times_same e.0 e later refl in
       let both = times_append e.0 (take i entries) (e ∷ later) in
-      let all = ap (λ es. times_listed (keys_of es) e.0) parts in
+      let all = ap (λ es. count_in (keys_of es) e.0) parts in
       omega (arith, before, here, both, all)
 
 -- each number is there at most once
 pub filled_once : (entries : List (ℕ × Precedence)) (slots : List (Option Precedence)) → AreFilled entries slots → (n : ℕ)
-    → times_listed (keys_of entries) n ≤ 1
+    → count_in (keys_of entries) n ≤ 1
 filled_once entries slots filled n =
     let P : ℕ → Type 0 = λ m. m ≤ 1 in
     subst P (sym (filled.once n)) (elim (is_some (slot_at slots n)) as (λ b. cond b 1 0 ≤ 1) [ true ↦ omega arith | false ↦ omega arith ])

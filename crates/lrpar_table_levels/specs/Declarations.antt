@@ -37,7 +37,7 @@ abbrev pub AreNamePrecedences : {A : Type 0} → Grammar → BTreeMap (Bor (List
 AreNamePrecedences g names tokens = tokens.items ≡ map (precedence_in names) (map (λ token. token.name) g.tokens)
 
 -- each production with a `%prec` got the precedence of its name, and each other one has what it had
-abbrev pub TakesPrecs : BTreeMap (Bor (List ℕ)) Precedence → List Prec → List (Option Precedence) → List (Option Precedence) → Type 0
-TakesPrecs names precs old new =
+abbrev pub AssignsPrecs : BTreeMap (Bor (List ℕ)) Precedence → List Prec → List (Option Precedence) → List (Option Precedence) → Type 0
+AssignsPrecs names precs old new =
     (p : ℕ) → p < length old
     → slot_at new p ≡ option_map_or (λ x. precedence_in names x.name.name) (prec_of_prod (map prec_of precs) p) (slot_at old p)

@@ -73,18 +73,18 @@ pub record AreWithin (g : Grammar) (levels : List LevelOf) (named : List (ℕ ×
   pub levels_known : All (λ entry. entry.1 < length levels) named
 
 -- how often the number is listed
-abbrev pub times_listed : List ℕ → ℕ → ℕ
-times_listed numbers n = count_by (λ k. k == n) numbers
+abbrev pub count_in : List ℕ → ℕ → ℕ
+count_in numbers n = count_by (λ k. k == n) numbers
 
 -- no token is in the levels twice, and no production names two levels
 pub record AreOnce (levels : List LevelOf) (named : List (ℕ × ℕ)) : Type 0 where
-  pub tokens : (t : ℕ) → times_listed (keys_of (token_entries levels)) t ≤ 1
-  pub prods : (p : ℕ) → times_listed (keys_of named) p ≤ 1
+  pub tokens : (t : ℕ) → count_in (keys_of (token_entries levels)) t ≤ 1
+  pub prods : (p : ℕ) → count_in (keys_of named) p ≤ 1
 
 -- why there are no precedences: a number is out of range; the levels have the token twice; the production names two levels; or an
 -- allocation failed
 abbrev pub IsPrecedenceFault : Grammar → List LevelOf → List (ℕ × ℕ) → PrecedenceFault → Type 0
 IsPrecedenceFault g levels named BadIndex = ¬ (AreWithin g levels named)
-IsPrecedenceFault g levels named (TokenTwice t) = 2 ≤ times_listed (keys_of (token_entries levels)) t
-IsPrecedenceFault g levels named (ProdTwice p) = 2 ≤ times_listed (keys_of named) p
+IsPrecedenceFault g levels named (TokenTwice t) = 2 ≤ count_in (keys_of (token_entries levels)) t
+IsPrecedenceFault g levels named (ProdTwice p) = 2 ≤ count_in (keys_of named) p
 IsPrecedenceFault g levels named Memory = Unit {0}

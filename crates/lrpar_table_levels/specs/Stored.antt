@@ -41,8 +41,8 @@ module _ {S : Type 0} (index : S → ℕ) where
       (p : ℕ) → p < prods_len g → prod_precedence made p ≡ declared_prod g (levels_of levels) (names_of named) p
 
   -- the fault says why the levels make no precedences
-  abbrev pub IsFaultOf : Grammar → List (Level S) → List (PIdx S × ℕ) → PrecedenceFault → Type 0
-  IsFaultOf g levels named fault = IsPrecedenceFault g (levels_of levels) (names_of named) fault
+  abbrev pub IsLevelsFaultOf : Grammar → List (Level S) → List (PIdx S × ℕ) → PrecedenceFault → Type 0
+  IsLevelsFaultOf g levels named fault = IsPrecedenceFault g (levels_of levels) (names_of named) fault
 
   -- the fault says why the levels make no precedences, whatever productions name a level
   abbrev pub IsTokenFault : Grammar → List (Level S) → PrecedenceFault → Type 0

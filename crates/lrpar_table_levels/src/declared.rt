@@ -1,6 +1,6 @@
 //! The precedences that a `.y` file declares, by names.
 ghost use Rattle.std.specs.Prelude.{IfOk, OnOk};
-ghost use Rattle.lrpar_table_levels.specs.Declarations.{AddsNames, AreNamePrecedences, HasNamesOf, HasProdsByName, HasTokensByName, TakesPrecs};
+ghost use Rattle.lrpar_table_levels.specs.Declarations.{AddsNames, AreNamePrecedences, HasNamesOf, HasProdsByName, HasTokensByName, AssignsPrecs};
 ghost use Rattle.lrpar_table_levels.specs.Levels.{HasNoOtherProds};
 
 use crate::filled::empty_slots;
@@ -34,7 +34,7 @@ pub fn precedences_of_declarations<StorageT: StorageIndex>(
     let tokens = tokens_by_name(alloc, grm, &names)?;
     let mut prods = empty_slots(alloc, grm.prods_len())?;
     add_last_tokens(grm, &tokens, &mut prods);
-    take_precs(&mut prods, &declarations.precs, &names);
+    assign_precs(&mut prods, &declarations.precs, &names);
     Ok(Precedences::from_slots(tokens, prods))
 }
 
@@ -90,12 +90,12 @@ fn tokens_by_name<StorageT: StorageIndex>(
 }
 
 // Gives each production with a `%prec` the precedence of its name. Of two for one production the first counts.
-fn take_precs(
+fn assign_precs(
     prods: &mut [Option<Precedence>],
     precs: &[Prec<'_>],
     names: &BTreeMap<&str, Precedence>,
 )
-    ensures { TakesPrecs names.now precs.now prods.old prods.new }
+    ensures { AssignsPrecs names.now precs.now prods.old prods.new }
 {
     let mut left = precs.len();
     while left > 0 {

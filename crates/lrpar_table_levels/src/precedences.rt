@@ -1,9 +1,9 @@
 //! The precedences that levels of tokens declare for a grammar.
 ghost use Rattle.std.specs.Prelude.{◌≡◌, ◌↔◌, IfErr, IfOk, IsErrOf, length};
 ghost use Rattle.lrpar_grammar.specs.Grammar.{prods_len};
-ghost use Rattle.lrpar_table_levels.specs.Filled.{AreProdSlots, TakesLast};
+ghost use Rattle.lrpar_table_levels.specs.Filled.{AreProdSlots, AssignsLast};
 ghost use Rattle.lrpar_table_levels.specs.Levels.{HasNoOtherProds};
-ghost use Rattle.lrpar_table_levels.specs.Stored.{AreDeclaredOnce, AreKnown, AreTokensKnown, HasProds, HasTokens, HaveNamed, HaveTokens, IsFaultOf, IsLastToken, IsTokenFault, last_precedence};
+ghost use Rattle.lrpar_table_levels.specs.Stored.{AreDeclaredOnce, AreKnown, AreTokensKnown, HasProds, HasTokens, HaveNamed, HaveTokens, IsLevelsFaultOf, IsLastToken, IsTokenFault, last_precedence};
 ghost use Rattle.lrpar_table_levels.specs.declared.fault.PrecedenceFault.TheVariants.{BadIndex};
 
 use crate::fault::PrecedenceFault;
@@ -36,7 +36,7 @@ pub fn precedences_of_levels<StorageT: StorageIndex>(
     ensures others { IfOk result (HasNoOtherProds grm.now) }
     ensures once { IfOk result (λ _. AreDeclaredOnce StorageT.index levels.now named.now) }
     ensures bad_index { IsErrOf result BadIndex ↔ ¬ (AreKnown StorageT.index grm.now levels.now named.now) }
-    ensures refused { IfErr result (IsFaultOf StorageT.index grm.now levels.now named.now) }
+    ensures refused { IfErr result (IsLevelsFaultOf StorageT.index grm.now levels.now named.now) }
 {
     if !are_within(grm, levels, named) {
         return Err(PrecedenceFault::BadIndex);
@@ -56,7 +56,7 @@ fn made<StorageT: StorageIndex>(
     ensures prods { IfOk result (HasProds StorageT.index grm.now levels.now named.now) }
     ensures others { IfOk result (HasNoOtherProds grm.now) }
     ensures once { IfOk result (λ _. AreDeclaredOnce StorageT.index levels.now named.now) }
-    ensures refused { IfErr result (IsFaultOf StorageT.index grm.now levels.now named.now) }
+    ensures refused { IfErr result (IsLevelsFaultOf StorageT.index grm.now levels.now named.now) }
 {
     let tokens = token_slots(alloc, grm, levels)?;
     let mut prods = prod_slots(alloc, grm, levels, named)?;
@@ -92,7 +92,7 @@ fn prod_slots<StorageT: StorageIndex>(
     requires { AreKnown StorageT.index grm.now levels.now named.now }
     ensures filled { IfOk result (HaveNamed StorageT.index levels.now named.now) }
     ensures len { IfOk result (AreProdSlots grm.now) }
-    ensures refused { IfErr result (IsFaultOf StorageT.index grm.now levels.now named.now) }
+    ensures refused { IfErr result (IsLevelsFaultOf StorageT.index grm.now levels.now named.now) }
 {
     let entries = entries_of_prods(alloc, levels, named)?;
     let mut slots = empty_slots(alloc, grm.prods_len())?;
@@ -109,7 +109,7 @@ pub(crate) fn add_last_tokens<StorageT: StorageIndex>(
     prods: &mut [Option<Precedence>],
 )
     requires { length prods.old ≡ prods_len grm.now }
-    ensures each { TakesLast grm.now tokens.now prods.old prods.new }
+    ensures each { AssignsLast grm.now tokens.now prods.old prods.new }
 {
     for number in 0..grm.prods_len() {
         let pidx = PIdx(StorageT::from_index(number).unwrap());

@@ -36,8 +36,8 @@ abbrev pub IsKeptAt : {S : Type 0} → (S → ℕ) → Grammar → Expansions S 
 IsKeptAt index g expansions kernel place = IsExpandedAt index g expansions.all.items (map (core_set index) kernel) place
 
 -- if each item set is that of its kernel, the one of this kernel is at the place
-abbrev pub IsPlaceOf : {S : Type 0} → (S → ℕ) → Expansions S → List (CoreItems S) → ℕ → Type 0
-IsPlaceOf index expansions kernel place = (g : Grammar) → All (IsExpansionOf index g) expansions.all.items → IsKeptAt index g expansions kernel place
+abbrev pub IsIndexOf : {S : Type 0} → (S → ℕ) → Expansions S → List (CoreItems S) → ℕ → Type 0
+IsIndexOf index expansions kernel place = (g : Grammar) → All (IsExpansionOf index g) expansions.all.items → IsKeptAt index g expansions kernel place
 
 -- these are the closure and the kernels of any kernel whose place this is
 abbrev pub IsReadAt : {S : Type 0} → (S → ℕ) → Expansions S → ℕ → Successors S → Type 0

@@ -9,7 +9,7 @@ use Rattle.lrpar_grammar.specs.Symbols.{symbol_of}
 use Rattle.lrpar_grammar.specs.Tree.{Tree, Forest, Leaf, Branch, Nil, Cons}
 use Rattle.lrpar_table_sentences.specs.Reachable.{HasTree}
 use Rattle.lrpar_table_sentences.specs.Texts.{IsShortestIfAny, IsTreeOf, width}
-use Rattle.lrpar_table_sentences.specs.declared.settle.Choice.{Choice}
+use Rattle.lrpar_table_sentences.specs.declared.minimal_sentences.Choice.{Choice}
 
 -- a number of tokens, and a production
 pub record ChoiceOf : Type 0 where
@@ -88,8 +88,8 @@ abbrev pub RightSoFar : {S : Type 0} → (S → ℕ) → Grammar → List (Optio
 RightSoFar index g choices = AreRight g MAX (choices_of index choices)
 
 -- what the code keeps of rules is right, and something is kept of each rule that has a tree
-abbrev pub AreSettled : {S : Type 0} → (S → ℕ) → Grammar → List (Option (Choice S)) → Type 0
-AreSettled index g choices = AreShortest g MAX (choices_of index choices)
+abbrev pub AreShortestKept : {S : Type 0} → (S → ℕ) → Grammar → List (Option (Choice S)) → Type 0
+AreShortestKept index g choices = AreShortest g MAX (choices_of index choices)
 
 -- this is what the code keeps of the rule; out of range, nothing
 abbrev pub IsChoiceFor : {S : Type 0} → (S → ℕ) → List (Option (Choice S)) → RIdx S → Option (Choice S) → Type 0

@@ -8,7 +8,7 @@ use Rattle.lrpar_grammar.specs.Tree.{Tree, Forest}
 use Rattle.lrpar_table_sentences.specs.Choices.{RightSoFar, ChoiceOf, Follows, ForestFollows, choices_of}
 use Rattle.lrpar_table_sentences.specs.Moves.{MoveOf, Makes, forest_moves, moves_in, moves_of}
 use Rattle.lrpar_table_sentences.specs.declared.moves.Move.{Move}
-use Rattle.lrpar_table_sentences.specs.declared.settle.Choice.{Choice}
+use Rattle.lrpar_table_sentences.specs.declared.minimal_sentences.Choice.{Choice}
 use Rattle.lrpar_table_sentences.specs.declared.unfold.Frame.{Frame}
 
 -- a production, and how many of its symbols were done

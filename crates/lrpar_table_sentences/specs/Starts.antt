@@ -12,12 +12,12 @@ use Rattle.lrpar_grammar.specs.Symbols.{symbol_of}
 use Rattle.lrpar_grammar.specs.Tree.{Tree, Forest, Leaf, Branch, Nil, Cons}
 use Rattle.lrpar_table_sentences.specs.Choices.{RightSoFar, ChoiceOf, Follows, ForestFollows, choices_of}
 use Rattle.lrpar_table_sentences.specs.Frames.{FrameOf, Unfold, frames_of}
-use Rattle.lrpar_table_sentences.specs.Lens.{len_at, total_len}
+use Rattle.lrpar_table_sentences.specs.Lens.{len_at, sum_of_lens}
 use Rattle.lrpar_table_sentences.specs.Moves.{MoveOf, forest_moves, moves_in, moves_of}
 use Rattle.lrpar_table_sentences.specs.Texts.{width}
 use Rattle.lrpar_table_sentences.specs.declared.begins.Start.{Start}
 use Rattle.lrpar_table_sentences.specs.declared.moves.Move.{Move}
-use Rattle.lrpar_table_sentences.specs.declared.settle.Choice.{Choice}
+use Rattle.lrpar_table_sentences.specs.declared.minimal_sentences.Choice.{Choice}
 use Rattle.lrpar_table_sentences.specs.declared.unfold.Frame.{Frame}
 
 -- a production, and a place in it
@@ -42,9 +42,9 @@ start_by starts (Terminal t) = None
 start_by starts (Nonterminal r) = start_at starts r
 
 -- the place, if the symbols have a length
-abbrev pub place_if : Option ℕ → Option ℕ → Option ℕ
-place_if (Some len) place = place
-place_if None place = None
+abbrev pub index_if : Option ℕ → Option ℕ → Option ℕ
+index_if (Some len) place = place
+index_if None place = None
 
 -- one place further
 abbrev pub further : Option ℕ → Option ℕ
@@ -61,10 +61,10 @@ begins starts first (Terminal t) = t == first
 begins starts first (Nonterminal r) = is_some (start_at starts r)
 
 -- the first place in symbols that can begin with the token, if the symbols before it are nullable
-abbrev pub place_of : List (Option ChoiceOf) → List (Option StartOf) → ℕ → List GrammarSymbol → Option ℕ
-place_of choices starts first [] = None
-place_of choices starts first (s ∷ ss) =
-    if begins starts first s then Some 0 else (if is_zero (len_at choices s) then further (place_of choices starts first ss) else None)
+abbrev pub begin_index : List (Option ChoiceOf) → List (Option StartOf) → ℕ → List GrammarSymbol → Option ℕ
+begin_index choices starts first [] = None
+begin_index choices starts first (s ∷ ss) =
+    if begins starts first s then Some 0 else (if is_zero (len_at choices s) then further (begin_index choices starts first ss) else None)
 
 -- a tree of the symbol that begins with the token by the starts; the trees before and after it follow the choices, and those
 -- before it have no tokens
@@ -94,7 +94,7 @@ pub record AreStarts (g : Grammar) (choices : List (Option ChoiceOf)) (first : �
 -- if production p has a length and a place, its rule can begin
 abbrev pub CanStart : Grammar → ℕ → List (Option ChoiceOf) → ℕ → List (Option StartOf) → ℕ → Type 0
 CanStart g most choices first starts p =
-    (len place : ℕ) → total_len most choices (symbols_of g p) ≡ Some len → place_of choices starts first (symbols_of g p) ≡ Some place
+    (len place : ℕ) → sum_of_lens most choices (symbols_of g p) ≡ Some len → begin_index choices starts first (symbols_of g p) ≡ Some place
     → (x : StartOf) × (start_at starts (rule_of g p) ≡ Some x)
 
 -- what the code keeps of rules is right, and so is how they can begin with the token
@@ -119,15 +119,15 @@ abbrev pub begins_with : {S : Type 0} → (S → ℕ) → List (Option (Start S)
 begins_with index starts first symbol = begins (starts_of index starts) (index first.0) (symbol_of index symbol)
 
 -- the first place in symbols of the code that can begin with the token, if the symbols before it are nullable
-abbrev pub place_in_symbols : {S : Type 0} → (S → ℕ) → List (Option (Choice S)) → List (Option (Start S)) → TIdx S → List (Symbol S) → Option ℕ
-place_in_symbols index choices starts first symbols =
-    place_of (choices_of index choices) (starts_of index starts) (index first.0) (map (symbol_of index) symbols)
+abbrev pub begin_index_in : {S : Type 0} → (S → ℕ) → List (Option (Choice S)) → List (Option (Start S)) → TIdx S → List (Symbol S) → Option ℕ
+begin_index_in index choices starts first symbols =
+    begin_index (choices_of index choices) (starts_of index starts) (index first.0) (map (symbol_of index) symbols)
 
 -- the first place in a production that can begin with the token, if its symbols are productive
-abbrev pub place_in_prod : {S : Type 0} → (S → ℕ) → Grammar → List (Option (Choice S)) → List (Option (Start S)) → TIdx S → PIdx S → Option ℕ
-place_in_prod index g choices starts first prod =
-    place_if (total_len MAX (choices_of index choices) (symbols_of g (index prod.0)))
-    (place_of (choices_of index choices) (starts_of index starts) (index first.0) (symbols_of g (index prod.0)))
+abbrev pub begin_index_of_prod : {S : Type 0} → (S → ℕ) → Grammar → List (Option (Choice S)) → List (Option (Start S)) → TIdx S → PIdx S → Option ℕ
+begin_index_of_prod index g choices starts first prod =
+    index_if (sum_of_lens MAX (choices_of index choices) (symbols_of g (index prod.0)))
+    (begin_index (choices_of index choices) (starts_of index starts) (index first.0) (symbols_of g (index prod.0)))
 
 -- how many rules can't begin yet
 abbrev pub starts_open : List (Option StartOf) → ℕ
@@ -158,7 +158,7 @@ AppendsStart index g choices starts first symbol old new =
 abbrev pub AppendsStarts : {S B : Type 0} → (S → ℕ) → Grammar → List (Option (Choice S)) → List (Option (Start S)) → TIdx S → List (Symbol S)
     → Vec (Move S) B → Vec (Move S) B → Type 0
 AppendsStarts index g choices starts first symbols old new =
-    (k : ℕ) (trees : Forest ℕ) → place_in_symbols index choices starts first symbols ≡ Some k
+    (k : ℕ) (trees : Forest ℕ) → begin_index_in index choices starts first symbols ≡ Some k
     → ForestStarts g (choices_of index choices) (starts_of index starts) (index first.0) k trees (map (symbol_of index) symbols)
     → moves_in index new.items ≡ moves_in index old.items ++ forest_moves trees
 

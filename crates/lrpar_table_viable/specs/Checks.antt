@@ -17,8 +17,8 @@ pub record AreSound {S : Type 0} (d : Viability S) : Type 0 where
   pub shape : HasShape d.grm.now d.sgraph.now d.stable.now
 
 -- what is wrong with the table, or nothing: it is viable
-abbrev pub IsFaultOf : {S : Type 0} → Viability S → Option ViableFault → Type 0
-IsFaultOf d found = MatchOption found (IsViable d.grm.now d.sgraph.now d.stable.now) (IsViableFault d.grm.now d.sgraph.now d.stable.now)
+abbrev pub IsViableFaultOf : {S : Type 0} → Viability S → Option ViableFault → Type 0
+IsViableFaultOf d found = MatchOption found (IsViable d.grm.now d.sgraph.now d.stable.now) (IsViableFault d.grm.now d.sgraph.now d.stable.now)
 
 module _ {S : Type 0} (index : S → ℕ) (d : Viability S) (s : StIdx S) where
   -- s is a state of the table

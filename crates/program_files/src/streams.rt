@@ -74,7 +74,10 @@ fn answer_after(answer: Result<Status, Fault>, flushed: io::Result<()>) -> Resul
 }
 
 /// The exit status of a program. A fault is written to `err` first, with a line feed after it, as far as that can be done.
-pub fn exit_status<FaultT: Display + Drop, E: Write>(ending: Result<Status, FaultT>, err: &mut E) -> u8
+pub fn exit_status<FaultT: Display + Drop, E: Write>(
+    ending: Result<Status, FaultT>,
+    err: &mut E,
+) -> u8
     ensures status { IfOk ending (λ status. result ≡ status_code status) }
     ensures fault { OnErr ending (result ≡ 2) }
     ensures range { result ≤ 2 }

@@ -55,7 +55,7 @@ fn seen_by(kind: YaccKind, text: &str) -> Seen {
     seen
 }
 
-// The same, after what begins where the text can't be read on: a type, an action, `%prec` or `%grmtools` that isn't whole.
+// What is seen, with what begins where the text can't be read on: a type, an action, `%prec` or `%grmtools` that isn't whole.
 fn with_beginning(seen: Seen, expected: Expected, rest: &[u8]) -> Seen {
     let is_type = matches!(expected, Expected::RuleColon) && rest.starts_with(b"->");
     let is_part = match expected {

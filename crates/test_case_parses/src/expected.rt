@@ -36,7 +36,7 @@ pub fn outcome(
     Ok(())
 }
 
-// The same by one table.
+// Adds what is expected by this table.
 fn expected_by(
     out: &mut Printed,
     alloc: Global,

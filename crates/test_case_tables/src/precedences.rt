@@ -123,7 +123,7 @@ fn push_pairs(out: &mut Printed, grm: &YaccGrammar<u32>, table: &StateTable<u32>
     }
 }
 
-// The same of one token and one production, if they have any.
+// Adds what is decided of one token and one production, if both have a precedence.
 fn push_pair(
     out: &mut Printed,
     grm: &YaccGrammar<u32>,

@@ -2,7 +2,7 @@
 //! reductions under one lookahead.
 ghost use Rattle.std.specs.Prelude.{IfErr, IfOk};
 ghost use Rattle.lrpar_table_build.specs.Built.{AreBuilt, IsBuildRefusal};
-ghost use Rattle.lrpar_table_check.specs.Checked.{LacksMemory};
+ghost use Rattle.lrpar_table_check.specs.Checked.{IsRefusedForMemory};
 ghost use Rattle.lrpar_table_check.specs.CheckedStacks.{HasStack, IsListSettled, IsTokenOf};
 ghost use Rattle.lrpar_table_rows.specs.Safe.{IsSafe};
 ghost use Rattle.lrpar_table_stacks.specs.Chain.{AreChainsShort};
@@ -38,7 +38,7 @@ pub fn checked_table<StorageT: StorageIndex>(
 ) -> Result<ParserData<StorageT>, Refused<StorageT>>
     ensures safe { IfOk result (λ made. IsSafe made.grammar made.graph made.table) }
     ensures chains { IfOk result (λ made. AreChainsShort made.grammar made.table cap) }
-    ensures exact { IsSafe grm sgraph stable → AreChainsShort grm stable cap → IfErr result LacksMemory }
+    ensures exact { IsSafe grm sgraph stable → AreChainsShort grm stable cap → IfErr result IsRefusedForMemory }
 {
     ParserData::new(alloc, grm, sgraph, stable, cap)
 }

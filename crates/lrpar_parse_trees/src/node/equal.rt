@@ -113,7 +113,7 @@ fn are_equal<'a, LexemeT: PartialEq, StorageT: PartialEq>(
     }
 }
 
-// The same without a list. After a node, the trees below it and those beside it are left: a recursive call compares the ones, and the
+// Compares the trees without a list of those that are left. After a node, the trees below it and those beside it are left: a recursive call compares the ones, and the
 // loop goes on with the others. Down to the depth `calls` a call takes the trees below the node; deeper, it takes those that have
 // fewer nodes.
 fn equal_by_calls<'a, LexemeT: PartialEq, StorageT: PartialEq>(

@@ -1,7 +1,7 @@
 use Rattle.std.proofs.Common.{◌≡◌, ◌≤◌, ◌∙◌, ap, subst, arith, length, map}
 use Rattle.std.proofs.lemmas.List.{with_items_is}
 use Rattle.lrpar_table_precedence.specs.Precedence.{slot_at}
-use Rattle.lrpar_table_levels.specs.Levels.{level_of, named_of, prod_entries, times_listed, token_entries}
+use Rattle.lrpar_table_levels.specs.Levels.{level_of, named_of, prod_entries, count_in, token_entries}
 use Rattle.lrpar_table_levels.proofs.FilledLemmas.{filled_once}
 use Rattle.lrpar_table_levels.proofs.LevelLemmas.{declared_is, error_same, prod_keys}
 use Rattle.lrpar_table_levels.proofs.precedences.made.Goals as goal
@@ -29,6 +29,6 @@ returns-clause-once g c =
     record {
       tokens = filled_once (token_entries levels) c.in_ok-tokens.tokens.items c.in_ok-tokens.ensures.filled;
       prods = λ p.
-          subst (λ keys. times_listed keys p ≤ 1) (prod_keys levels named)
+          subst (λ keys. count_in keys p ≤ 1) (prod_keys levels named)
           (filled_once (prod_entries levels named) c.in_ok-prods.prods.items c.in_ok-prods.ensures.filled p);
     }

@@ -19,8 +19,8 @@ returns-in_ok-reach g c =
     let index = g.StorageT.StorageIndex.index in
     let token = token_by index g.LexemeT.Lexeme.parts in
     let at = c.args.self.now.point.now in
-    let mid = c.taken.new.stacks in
-    let late = c.goes_on.new.stacks in
+    let mid = c.try_step.new.stacks in
+    let late = c.can_go_on.new.stacks in
     let held = rw c.in-Some.is at c.in_ok-reached.ensures.leads.held in
     let same = configured_stays at.checked.table (length at.lexemes) mid late c.in_ok-goes_on.ensures.extends c.in-Some.reached held.within in
     record {
@@ -39,7 +39,7 @@ returns-else-branch-clause-reach g c =
     let index = g.StorageT.StorageIndex.index in
     let token = token_by index g.LexemeT.Lexeme.parts in
     let at = c.args.self.now.point.now in
-    let mid = c.taken.new.stacks in
+    let mid = c.try_step.new.stacks in
     let own = rw c.in-Some.is at c.in_ok-reached.ensures.leads.leads in
     λ v edge on.
     let same = edge_one token at (configured_at c.args.stacks.now.stacks c.args.at) v (configured_at mid.stacks c.in-Some.reached) (plain_step index c.args.step) edge own in
