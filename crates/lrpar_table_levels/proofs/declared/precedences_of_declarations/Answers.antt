@@ -1,4 +1,4 @@
-use Rattle.std.proofs.Common.{◌≡◌, ◌<◌, ◌∙◌, ℕ, List, None, arith, ap, bytes_eq, length, map, slice_index_or}
+use Rattle.std.proofs.Common.{◌≡◌, ◌<◌, ◌∙◌, ℕ, List, arith, ap, bytes_eq, length, map}
 use Rattle.std.specs.Map.{lookup}
 use Rattle.std.specs.Option.{option_and_then, option_map_or, option_or}
 use Rattle.std.specs.Vec.{with_items}
@@ -15,7 +15,7 @@ use Rattle.lrpar_table_levels.proofs.declared.precedences_of_declarations.Goals 
 pub returns-clause-tokens : goal.returns-clause-tokens
 returns-clause-tokens g c = λ t.
     let levels = map level_of c.args.declarations.now.levels.items in
-    ap (λ s. slice_index_or s t None) c.in_ok-tokens.ensures
+    ap (λ s. slot_at s t) (c.from_slots.ensures.tokens ∙ c.in_ok-tokens.ensures)
     ∙ slot_of_token (precedence_in c.in_ok-names.names) (precedence_of_name levels)
     (λ q. c.in_ok-names.ensures q ∙ ap (λ ls. lookup (bytes_eq q) (name_entries (map level_of ls))) c.deref.ensures.value)
     (c.args.grm.now).tokens t
@@ -42,7 +42,7 @@ returns-clause-prods g c = λ p below.
     ∙ ap (λ s. option_or (slot_at s p) (option_and_then (slot_at c.deref-2.result.now) last)) c.deref_mut.ensures.value
     ∙ ap (λ o. option_or o (option_and_then (slot_at c.deref-2.result.now) last)) (c.in_ok-prods.ensures.empty p)
     ∙ and_then_same (slot_at c.deref-2.result.now) (token_by_name grm levels) tokens last in
-    ap (λ s. slot_at s p) (with_items_is inner second len_too) ∙ c.assign_precs.ensures p low
+    ap (λ s. slot_at s p) (c.from_slots.ensures.prods ∙ with_items_is inner second len_too) ∙ c.assign_precs.ensures p low
     ∙ ap (λ precs. option_map_or (λ x. precedence_in c.in_ok-names.names x.name.name) (prec_of_prod (map prec_of precs) p) (slot_at c.deref_mut-2.result.now p)) c.deref-3.ensures.value
     ∙ named_or (precedence_in c.in_ok-names.names) (precedence_of_name levels) has (prec_of_prod (map prec_of c.args.declarations.now.precs.items) p) (slot_at c.deref_mut-2.result.now p)
     (option_and_then (token_by_name grm levels) last) slots

@@ -16,7 +16,7 @@ returns-clause-prods g c = λ p below.
     let index = g.StorageT.StorageIndex.index in
     let len : length c.add_last_tokens.new.prods ≡ c.in_ok-prods.prods.len =
     omega (arith, c.add_last_tokens.auto.prods, c.deref_mut.ensures.len, c.in_ok-prods.prods.ok.0) in
-    ap (λ slots. slot_at slots p) (with_items_is c.in_ok-prods.prods c.add_last_tokens.new.prods len)
+    ap (λ slots. slot_at slots p) (c.from_slots.ensures.prods ∙ with_items_is c.in_ok-prods.prods c.add_last_tokens.new.prods len)
     ∙ declared_is c.args.grm.now (map (level_of index) c.args.levels.now) (map (named_of index) c.args.named.now) c.in_ok-tokens.tokens.items
     c.in_ok-prods.prods.items c.deref.result.now c.deref_mut.result.now c.add_last_tokens.new.prods c.deref.ensures.value c.deref_mut.ensures.value
     c.in_ok-tokens.ensures.filled c.in_ok-prods.ensures.filled p (c.add_last_tokens.ensures.each p below)
