@@ -3,7 +3,7 @@ ghost use Rattle.std.specs.Prelude.{IfOk};
 ghost use Rattle.lrpar_table_items.specs.StoredRows.{AreItemSets};
 
 use crate::items::core_rows;
-use crate::make_item_set::State;
+use crate::item_set::State;
 use lrpar_grammar::grammar::YaccGrammar;
 use lrpar_grammar::span::StorageIndex;
 use lrpar_table_rows::table::ItemSet;

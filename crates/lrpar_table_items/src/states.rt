@@ -13,7 +13,7 @@ use crate::closure::close_kernel;
 use crate::cores::CoreItems;
 use crate::fault::BuildFault;
 use crate::kernels::Kernels;
-use crate::make_item_set::State;
+use crate::item_set::State;
 use crate::numbers::number;
 use crate::sets::Sets;
 use crate::successors::Successors;
