@@ -11,7 +11,7 @@ README = ROOT / "README.md"
 # The paragraph of ARCHITECTURE that names the crates for users.
 FOR_USERS = "Some users name further crates"
 PROGRAMS = {"lrpar_program"}
-CRATE = re.compile(r"\b(?:(?:lrpar|program|example|test)(?:_[a-z]+)+|lrpar|nimbleparse)\b")
+CRATE = re.compile(r"\b(?:(?:lrpar|program|example|test)(?:_[a-z]+)+|lrpar|nimbleparse)\b|\bexamples(?=  |`)")
 
 
 def subjects():
