@@ -23,6 +23,7 @@ const LEXER: &str = r"
     \) ')'
     [ \t\r]+ ;";
 
+/// The value of a line, if it has one, and its errors.
 type Parsed = (Option<u64>, Vec<LexParseError<u32, TokenTypes>>);
 
 /// The values of a line: a number, or nothing if it is too large, or a repair inserted it.
