@@ -34,8 +34,8 @@ returns g c =
       parse = inr (
         c.in_ok-answers.answers.items,
         c.in_ok-answers.ensures.allowed,
-        run_is_parse _ _ _ c.in_ok-answers.answers.items c.in-Ok.lexemes.items c.in_ok-ran-in-None.field-0 lexed.0 lexed.1
+        run_is_parse _ _ _ c.in_ok-answers.answers.items c.in-Ok.lexemes.items c.in_ok-run-in-None.field-0 lexed.0 lexed.1
             (rw (c.deref.ensures.value, c.grm.ensures, grammar) at c.in-None.ensures)
-            (rw (c.deref-in-None.ensures.value) at c.in_ok-ran-in-None.ensures.ran),
+            (rw (c.deref-in-None.ensures.value) at c.in_ok-run-in-None.ensures.ran),
       );
     }
