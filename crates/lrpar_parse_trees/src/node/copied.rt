@@ -16,7 +16,7 @@ impl<LexemeT: Copy, StorageT: Copy> Node<LexemeT, StorageT> {
             Node::Term { lexeme } => Ok(Node::Term { lexeme: *lexeme }),
             Node::Nonterm { ridx, nodes } => {
                 let mut below = Vec::new(alloc);
-                copied(alloc, &mut below, *ridx, nodes)
+                copy_nodes(alloc, &mut below, *ridx, nodes)
             }
         }
     }
@@ -31,7 +31,7 @@ struct Growing<'a, LexemeT, StorageT> {
 }
 
 // The node of the rule over clones of these trees. `below` holds the rules around the current tree, an entry for each level.
-fn copied<'a, LexemeT: Copy, StorageT: Copy>(
+fn copy_nodes<'a, LexemeT: Copy, StorageT: Copy>(
     alloc: Global,
     below: &mut Vec<Growing<'a, LexemeT, StorageT>>,
     mut ridx: RIdx<StorageT>,

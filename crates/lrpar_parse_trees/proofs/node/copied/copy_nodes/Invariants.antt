@@ -3,7 +3,7 @@ use Rattle.lrpar_parse_trees.specs.Visits.{Entered}
 use Rattle.lrpar_parse_trees.specs.Walks.{walks}
 use Rattle.lrpar_parse_trees.proofs.WeightLemmas.{weights}
 use Rattle.lrpar_parse_trees.proofs.GrowingLemmas.{whole, later}
-use Rattle.lrpar_parse_trees.proofs.node.copied.copied.Given as goal
+use Rattle.lrpar_parse_trees.proofs.node.copied.copy_nodes.Given as goal
 
 -- what is made and what is left have the walk through the tree
 abbrev pub invariant-loop-node : goal.invariant-loop-node

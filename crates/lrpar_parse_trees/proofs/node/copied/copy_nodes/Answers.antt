@@ -4,7 +4,7 @@ use Rattle.lrpar_parse_trees.specs.Walks.{walk}
 use Rattle.lrpar_parse_trees.specs.declared.node.Node.TheVariants.{Term, Nonterm}
 use Rattle.lrpar_parse_trees.proofs.WeightLemmas.{weight_nonterm}
 use Rattle.lrpar_parse_trees.proofs.GrowingLemmas.{later_push, whole_made, whole_entered, whole_turned, walk_rule, walk_lexeme, whole_ended}
-use Rattle.lrpar_parse_trees.proofs.node.copied.copied.Goals as goal
+use Rattle.lrpar_parse_trees.proofs.node.copied.copy_nodes.Goals as goal
 
 pub loop-node-preserved-in-Term : goal.loop-node-preserved-in-Term
 loop-node-preserved-in-Term g c =
