@@ -44,6 +44,7 @@ impl<'a, StorageT: StorageIndex> YaccFile<'a, StorageT> {
     /// Fails with the first fault of what is erased, by its place; else with the fault of the erased file, as
     /// `YaccGrammar::new_with_storaget` answers it; else with `UnknownToken` at the first unknown name; or with `Memory` if an
     /// allocation fails. Takes memory linear in the text, and time linear in it but for names: each is looked up in logarithmic time.
+    #[tactic(auto, using(crate::proofs::YaccFileLemmas::declared_refused, crate::proofs::YaccFileLemmas::text_refused))]
     pub fn new_with_kind(
         alloc: Global,
         kind: YaccKind,
