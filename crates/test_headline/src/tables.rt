@@ -2,7 +2,7 @@
 //! reductions under one lookahead.
 ghost use Rattle.std.specs.Prelude.{IfErr, IfOk};
 ghost use Rattle.lrpar_table_build.specs.Built.{AreBuilt, IsBuildRefusal};
-ghost use Rattle.lrpar_table_check.specs.Checked.{IsRefusedForMemory};
+ghost use Rattle.lrpar_table_check.specs.Checked.{HoldsParts, IsChecked, IsRefusedForMemory};
 ghost use Rattle.lrpar_table_check.specs.CheckedStacks.{HasStack, IsListSettled, IsTokenOf};
 ghost use Rattle.lrpar_table_rows.specs.Safe.{IsSafe};
 ghost use Rattle.lrpar_table_stacks.specs.Chain.{AreChainsShort};
@@ -36,8 +36,8 @@ pub fn checked_table<StorageT: StorageIndex>(
     stable: StateTable<StorageT>,
     cap: u16,
 ) -> Result<ParserData<StorageT>, Refused<StorageT>>
-    ensures safe { IfOk result (λ made. IsSafe made.grammar made.graph made.table) }
-    ensures chains { IfOk result (λ made. AreChainsShort made.grammar made.table cap) }
+    ensures made { IfOk result (HoldsParts grm sgraph stable cap) }
+    ensures checked { IfOk result IsChecked }
     ensures exact { IsSafe grm sgraph stable → AreChainsShort grm stable cap → IfErr result IsRefusedForMemory }
 {
     ParserData::new(alloc, grm, sgraph, stable, cap)
