@@ -1,6 +1,6 @@
 -- What fits, of the trees that a loop has left.
 use denote.Ref.{Bor}
-use Rattle.std.proofs.Common.{rules, ◌≡◌, ◌↔◌, ℕ, zero, suc, ◌+◌, ◌*◌, ◌<◌, ◌≤◌, Bool, false, IsTrue, List, [], ◌∷◌, ◌++◌, Vec, length, refl, ap, sym, ◌∙◌, arith, append_assoc, append-nil, subst}
+use Rattle.std.proofs.Common.{rules, ◌≡◌, ◌↔◌, ℕ, zero, suc, ◌+◌, ◌*◌, ◌<◌, ◌≤◌, Bool, false, IsTrue, List, [], ◌∷◌, ◌++◌, Vec, length, ap, sym, ◌∙◌, arith, append_assoc, append-nil, subst}
 use Rattle.std.specs.List.{AllByRecursion}
 use Rattle.std.specs.Str.{IsCharBoundary}
 use Rattle.std.specs.declared.alloc.Global.{Global}
@@ -18,7 +18,7 @@ use Rattle.lrpar_parse_trees.specs.declared.node.Node.TheOpen.{Node-F}
 use Rattle.lrpar_parse_trees.specs.declared.node.Node.TheVariants.{Term, Nonterm}
 use Rattle.lrpar_parse_trees.specs.declared.node.Node.TheViews.{out-Node, the_lemmas}
 use Rattle.lrpar_parse_trees.specs.TreeText.{Met, LeafAt, RuleAt, MetFits, met_from, met_line, layer_met, root_at, all_met}
-use Rattle.lrpar_parse_trees.specs.Walks.{children, layer_children}
+use Rattle.lrpar_parse_trees.specs.Walks.{children}
 use Rattle.lrpar_parse_trees.proofs.TreeTextLemmas.{fit_root, fit_below, fit_whole}
 use Rattle.lrpar_grammar_places.proofs.ListLemmas.{all_front, all_back, all_both}
 use Rattle.lrpar_parse_trees.proofs.WeightLemmas.{weight_out, weights, weights_fall, weights_turn}
