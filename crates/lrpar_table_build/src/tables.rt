@@ -13,8 +13,8 @@ use lrpar_grammar::span::{RIdx, StIdx, StorageIndex, TIdx};
 use lrpar_table_items::fault::BuildFault;
 use lrpar_table_items::item_rows::item_sets;
 use lrpar_table_items::item_set::State;
-use lrpar_table_items::state_row::make_state_row;
 use lrpar_table_items::resolution::{FoundConflicts, ReduceReduce, ShiftReduce};
+use lrpar_table_items::state_row::make_state_row;
 use lrpar_table_precedence::precedences::Precedences;
 use lrpar_table_rows::table::{
     Action, Conflicts, Resolved, SparseRows, StateGraph, StateTable, TableFault,

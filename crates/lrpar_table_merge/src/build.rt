@@ -10,8 +10,8 @@ ghost use Rattle.lrpar_table_merge.specs.StoredStates.{AreStatesOf};
 
 use crate::expansions::Expansions;
 use crate::held::{HeldFault, Transitions};
-use crate::merged_states::make_merged_states;
 use crate::merge::merge;
+use crate::merged_states::make_merged_states;
 use crate::merged_table::table_of_merged;
 use crate::propagate::propagate;
 use lrpar_grammar::grammar::YaccGrammar;
