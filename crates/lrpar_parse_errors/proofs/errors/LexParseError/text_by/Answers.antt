@@ -7,26 +7,26 @@ use Rattle.lrpar_grammar_places.proofs.FaultLemmas.{no_value}
 use Rattle.lrpar_parse_errors.proofs.LexParseTextLemmas.{lexing_text, parsing_fault, parsing_text}
 use Rattle.lrpar_parse_errors.proofs.errors.LexParseError.text_by.Goals as goal
 
-pub returns-in_err-push_place-in-LexError-clause-text : goal.returns-in_err-push_place-in-LexError-clause-text
-returns-in_err-push_place-in-LexError-clause-text g c = no_value c.from_residual.result _ _ c.from_residual.ensures.1
+pub returns-in_err-push_position-in-LexError-clause-text : goal.returns-in_err-push_position-in-LexError-clause-text
+returns-in_err-push_position-in-LexError-clause-text g c = no_value c.from_residual.result _ _ c.from_residual.ensures.1
 
-pub returns-in_err-push_place-in-LexError-clause-fault : goal.returns-in_err-push_place-in-LexError-clause-fault
-returns-in_err-push_place-in-LexError-clause-fault g c = err_same c.from_residual.result _ Memory c.from_residual.ensures.1 tt
+pub returns-in_err-push_position-in-LexError-clause-fault : goal.returns-in_err-push_position-in-LexError-clause-fault
+returns-in_err-push_position-in-LexError-clause-fault g c = err_same c.from_residual.result _ Memory c.from_residual.ensures.1 tt
 
-pub returns-in_ok-push_place-in-LexError-clause-text : goal.returns-in_ok-push_place-in-LexError-clause-text
-returns-in_ok-push_place-in-LexError-clause-text g c =
+pub returns-in_ok-push_position-in-LexError-clause-text : goal.returns-in_ok-push_position-in-LexError-clause-text
+returns-in_ok-push_position-in-LexError-clause-text g c =
     lexing_text (λ x. (g.LexemeT.Lexeme.parts x).span) (g.N.TokenNames.prints c.args.names.now)
     g.ErrorT.LexError.place (g.L.NonStreamingLexer.text c.args.lexer.now) c.args.self.now c.in-LexError.error c.span.result
-    (string_bytes c.new-out.result) (string_bytes c.push_place.new.out) c.in-LexError.is c.span.ensures.place c.new-out.ensures.bytes
-    c.in_ok-push_place-in-LexError.ensures
+    (string_bytes c.new-out.result) (string_bytes c.push_position.new.out) c.in-LexError.is c.span.ensures.place c.new-out.ensures.bytes
+    c.in_ok-push_position-in-LexError.ensures
 
-pub returns-in_err-push_place-in-ParseError-clause-text : goal.returns-in_err-push_place-in-ParseError-clause-text
-returns-in_err-push_place-in-ParseError-clause-text g c =
-    no_value c.from_residual-in_err-push_place-in-ParseError.result _ _ c.from_residual-in_err-push_place-in-ParseError.ensures.1
+pub returns-in_err-push_position-in-ParseError-clause-text : goal.returns-in_err-push_position-in-ParseError-clause-text
+returns-in_err-push_position-in-ParseError-clause-text g c =
+    no_value c.from_residual-in_err-push_position-in-ParseError.result _ _ c.from_residual-in_err-push_position-in-ParseError.ensures.1
 
-pub returns-in_err-push_place-in-ParseError-clause-fault : goal.returns-in_err-push_place-in-ParseError-clause-fault
-returns-in_err-push_place-in-ParseError-clause-fault g c =
-    err_same c.from_residual-in_err-push_place-in-ParseError.result _ Memory c.from_residual-in_err-push_place-in-ParseError.ensures.1 tt
+pub returns-in_err-push_position-in-ParseError-clause-fault : goal.returns-in_err-push_position-in-ParseError-clause-fault
+returns-in_err-push_position-in-ParseError-clause-fault g c =
+    err_same c.from_residual-in_err-push_position-in-ParseError.result _ Memory c.from_residual-in_err-push_position-in-ParseError.ensures.1 tt
 
 pub returns-in_err-push_repairs-in-ParseError-clause-text : goal.returns-in_err-push_repairs-in-ParseError-clause-text
 returns-in_err-push_repairs-in-ParseError-clause-text g c =
@@ -46,6 +46,6 @@ returns-in_ok-push_repairs-in-ParseError-clause-text g c =
     parsing_text (λ x. (g.LexemeT.Lexeme.parts x).span) (g.N.TokenNames.prints c.args.names.now)
     g.ErrorT.LexError.place (g.L.NonStreamingLexer.text c.args.lexer.now) c.args.self.now c.in-ParseError.error c.lexeme.result.now
     (repairs_of g.StorageT.StorageIndex.index c.deref.result.now) c.span-in-ParseError.result (string_bytes c.new-out.result)
-    (string_bytes c.push_place-in-ParseError.new.out) (string_bytes c.push_repairs.new.out) c.in-ParseError.is c.span-in-ParseError.ensures.span
+    (string_bytes c.push_position-in-ParseError.new.out) (string_bytes c.push_repairs.new.out) c.in-ParseError.is c.span-in-ParseError.ensures.span
     c.lexeme.ensures.lexeme (ap (repairs_of g.StorageT.StorageIndex.index) c.deref.ensures.value ∙ c.repairs.ensures.repairs) c.new-out.ensures.bytes
-    c.in_ok-push_place-in-ParseError.ensures c.in_ok-push_repairs-in-ParseError.ensures.text
+    c.in_ok-push_position-in-ParseError.ensures c.in_ok-push_repairs-in-ParseError.ensures.text

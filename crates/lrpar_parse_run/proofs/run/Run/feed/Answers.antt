@@ -4,8 +4,8 @@ use Rattle.lrpar_parse_lexemes.specs.Views.{facts_by}
 use Rattle.lrpar_parse_run.proofs.MovesLemmas.{feeds_not_sticks}
 use Rattle.lrpar_parse_run.proofs.run.Run.feed.Goals as goal
 
-pub take-requires-clause-lexeme : goal.take-requires-clause-lexeme
-take-requires-clause-lexeme g c =
+pub feed_lexeme-requires-clause-lexeme : goal.feed_lexeme-requires-clause-lexeme
+feed_lexeme-requires-clause-lexeme g c =
     let d = c.args.self.now.checked.now in
     let less = c.requires.feeds.token in
     let all : d.table.tokens ≡ tokens_len d.grammar = c.stable-table.ensures.checked.safe.shape.tokens in
@@ -16,8 +16,8 @@ unreachable-requires g c =
     let facts = facts_by g.StorageT.StorageIndex.index g.LexemeT.Lexeme.parts in
     let d = c.args.self.now.checked.now in
     let builds = g.B.Build.builds c.args.self.now.build.now in
-    feeds_not_sticks facts builds d (facts c.args.lexeme).token c.args.stack.now c.take.new.stack
-    c.requires.feeds.works.0 c.requires.feeds.works.1 c.requires.feeds.works.2 (c.in_ok-take.ensures.sticks c.if-not-branch.true)
+    feeds_not_sticks facts builds d (facts c.args.lexeme).token c.args.stack.now c.feed_lexeme.new.stack
+    c.requires.feeds.works.0 c.requires.feeds.works.1 c.requires.feeds.works.2 (c.in_ok-feed_lexeme.ensures.sticks c.if-not-branch.true)
 
 pub returns : goal.returns
-returns g c = record { run_stack = c.in_ok-take.ensures.run_stack; shifts = c.in_ok-take.ensures.shifts c.if-not-branch.false }
+returns g c = record { run_stack = c.in_ok-feed_lexeme.ensures.run_stack; shifts = c.in_ok-feed_lexeme.ensures.shifts c.if-not-branch.false }

@@ -35,8 +35,8 @@ returns-in_ok-keep_row-in-Some-clause-counts g c =
     let longest = c.in-Some.longest in
     let found = longest_found d.grm.now d.stable.now d.cap (s ∷ next ∷ []) c.args.from c.in_ok-found.found longest c.in_ok-found.ensures.longest c.in-Some.is in
     let right = if_some_of c.in_ok-found.found longest _ c.in_ok-found.ensures.row c.in-Some.is in
-    let as_long : length c.longest_from.new.row ≡ length counts.row.items = omega (arith, c.longest_from.auto.row, c.deref_mut.ensures.len, counts.row.ok.0) in
+    let as_long : length c.find_longest_from.new.row ≡ length counts.row.items = omega (arith, c.find_longest_from.auto.row, c.deref_mut.ensures.len, counts.row.ok.0) in
     counts_kept d.grm.now d.stable.now c.args.from longest s (index c.args.rule.0) next c.from-place.result counts.rows.len counts.row.len counts.rows.items
-    c.deref_mut-in-Some.result.now c.keep_row.new.rows counts.row.items c.longest_from.new.row c.deref-in-Some.result.now c.requires.counts found.above
+    c.deref_mut-in-Some.result.now c.keep_row.new.rows counts.row.items c.find_longest_from.new.row c.deref-in-Some.result.now c.requires.counts found.above
     c.requires.goto c.from-place.ensures c.deref_mut-in-Some.ensures.value c.keep_row.auto.rows counts.rows.ok.0 counts.row.ok.0 as_long right
     c.deref-in-Some.ensures.value c.in_ok-keep_row-in-Some.ensures.kept c.keep_row.ensures.others

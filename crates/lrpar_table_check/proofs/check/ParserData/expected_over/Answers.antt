@@ -19,14 +19,14 @@ actions_of-requires g c =
 pub new-probe-requires : goal.new-probe-requires
 new-probe-requires g c = some_state c.args.self.now.table (overlaid c.args.overlay.now) c.requires.stack
 
-pub takes-requires-clause-stack : goal.takes-requires-clause-stack
-takes-requires-clause-stack g c =
+pub try_token-requires-clause-stack : goal.try_token-requires-clause-stack
+try_token-requires-clause-stack g c =
     let states : overlaid c.set_back.new.self ≡ overlaid c.args.overlay.now =
     ap overlaid c.set_back.ensures ∙ laid_over_states c.loop-token.probe.base c.loop-token.probe.room ∙ c.loop-token.invariant.base in
     subst (λ (st : List ℕ). IsStack c.args.self.now.table st) (sym states) c.requires.stack
 
-pub takes-requires-clause-token : goal.takes-requires-clause-token
-takes-requires-clause-token g c =
+pub try_token-requires-clause-token : goal.try_token-requires-clause-token
+try_token-requires-clause-token g c =
     let index = g.StorageT.StorageIndex.index in
     let d = c.args.self.now in
     let at = c.actions_of.ensures in
@@ -44,8 +44,8 @@ returns-in_err-takes-clause-short_of_memory g c =
     let st = overlaid c.args.overlay.now in
     let from : c.set_back.new.self ≡ laid_over st c.loop-token.probe.room =
     c.set_back.ensures ∙ ap (λ (l : List ℕ). laid_over l c.loop-token.probe.room) c.loop-token.invariant.base in
-    let short = subst (λ (o : Overlaid). IsShortOfMemoryOver d.grammar d.table t o c.takes.new.states) from c.in_err-takes.ensures.short_of_memory in
-    on_err_always c.from_residual.result _ (t, inr (record { room = c.loop-token.probe.room; new = c.takes.new.states; short = short }))
+    let short = subst (λ (o : Overlaid). IsShortOfMemoryOver d.grammar d.table t o c.try_token.new.states) from c.in_err-takes.ensures.short_of_memory in
+    on_err_always c.from_residual.result _ (t, inr (record { room = c.loop-token.probe.room; new = c.try_token.new.states; short = short }))
 
 pub returns-in_err-push-clause-short_of_memory : goal.returns-in_err-push-clause-short_of_memory
 returns-in_err-push-clause-short_of_memory g c =

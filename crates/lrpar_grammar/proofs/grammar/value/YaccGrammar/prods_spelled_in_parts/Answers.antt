@@ -27,6 +27,6 @@ pub returns-clause-listed : goal.returns-clause-listed
 returns-clause-listed g c =
     let grm = c.args.self.now in
     let whole = joined_texts _ (λ x y same. same) c.args.parts.now c.in_ok-texts.texts.items c.deref.result.now c.in_ok-texts.ensures.ok c.deref.ensures.value in
-    let are = rw c.in_ok-places.was at c.places_of.ensures in
+    let are = rw c.in_ok-places.was at c.positions_of.ensures in
     listed_in_parts grm _ c.in_ok-places.places.items c.in_ok-spelled.spelled are
     (subst (λ texts. IsListing grm texts c.in_ok-spelled.spelled) whole c.in_ok-spelled.ensures.listed)

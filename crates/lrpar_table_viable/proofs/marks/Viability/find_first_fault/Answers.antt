@@ -9,7 +9,7 @@ loop-s-preserved g c =
     let index = g.StorageT.StorageIndex.index in
     let number : index c.unwrap.result ≡ c.loop-s.s = rw c.unwrap.ensures at c.from_index.ensures.back in
     let Holds = IsViableAt c.args.self.now.grm.now c.args.self.now.sgraph.now c.args.self.now.stable.now in
-    (c.fault_at.ensures.rules, below_more Holds c.loop-s.s c.loop-s.invariant.1 (subst Holds number c.in_default.ensures.fault))
+    (c.find_fault_at.ensures.rules, below_more Holds c.loop-s.s c.loop-s.invariant.1 (subst Holds number c.in_default.ensures.fault))
 
 pub returns-in-Some-clause-fault : goal.returns-in-Some-clause-fault
 returns-in-Some-clause-fault g c =

@@ -11,8 +11,8 @@ returns-clause-longest g c =
     let s = index c.args.s.0 in
     let at = c.gotos_of.ensures in
     let len = gotos_len index d.stable.now c.args.s _ _ at.entries at.states in
-    last_alone d.grm.now d.stable.now d.cap s (gotos_at d.stable.now s) c.args.from c.loop-place.place c.loop-place.longest _ c.longest_from.result at.exact
-    (omega (arith, len, c.loop-place-test.false)) c.loop-place.invariant.longest c.longest_from.ensures.longest
+    last_alone d.grm.now d.stable.now d.cap s (gotos_at d.stable.now s) c.args.from c.loop-place.place c.loop-place.longest _ c.find_longest_from.result at.exact
+    (omega (arith, len, c.loop-place-test.false)) c.loop-place.invariant.longest c.find_longest_from.ensures.longest
 
 pub loop-place-preserved : goal.loop-place-preserved
 loop-place-preserved g c =
@@ -29,8 +29,8 @@ loop-place-preserved g c =
       counts = if_some_of c.in_ok-more.field-0 c.in-Some.more _ c.in_ok-more.ensures.counts c.in-Some.is;
     }
 
-pub longest_with-requires-clause-goto : goal.longest_with-requires-clause-goto
-longest_with-requires-clause-goto g c =
+pub find_longest_with-requires-clause-goto : goal.find_longest_with-requires-clause-goto
+find_longest_with-requires-clause-goto g c =
     let index = g.StorageT.StorageIndex.index in
     let at = c.gotos_of.ensures in
     let stored =

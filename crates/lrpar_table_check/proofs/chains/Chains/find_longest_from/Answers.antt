@@ -14,8 +14,8 @@ loop-place-init g c =
     chain_begins index d.grm.now d.stable.now d.cap c.args.s c.unwrap_or-top.result c.args.above c.unwrap_or-top.ensures c.args.from c.actions_of.ensures.exact
     c.clear_row.new.row c.clear_row.ensures c.requires.from
 
-pub made_at-requires-clause-token : goal.made_at-requires-clause-token
-made_at-requires-clause-token g c =
+pub count_made_at-requires-clause-token : goal.count_made_at-requires-clause-token
+count_made_at-requires-clause-token g c =
     let index = g.StorageT.StorageIndex.index in
     let at = c.actions_of.ensures in
     let stored =
@@ -23,14 +23,14 @@ made_at-requires-clause-token g c =
     c.requires.sound.fits c.in-Reduce.is in
     stored.token
 
-pub made_at-requires-clause-counted : goal.made_at-requires-clause-counted
-made_at-requires-clause-counted g c =
+pub count_made_at-requires-clause-counted : goal.count_made_at-requires-clause-counted
+count_made_at-requires-clause-counted g c =
     let index = g.StorageT.StorageIndex.index in
     let d = c.args.self.now in
     rows_at d.grm.now d.stable.now c.args.from d.cap (index c.args.s.0) c.args.rows.now c.requires.from c.requires.counts.counted
 
-pub made_at-requires-clause-action : goal.made_at-requires-clause-action
-made_at-requires-clause-action g c =
+pub count_made_at-requires-clause-action : goal.count_made_at-requires-clause-action
+count_made_at-requires-clause-action g c =
     let index = g.StorageT.StorageIndex.index in
     let at = c.actions_of.ensures in
     let stored =

@@ -10,9 +10,9 @@ use Rattle.lrpar_grammar.proofs.grammar.value.YaccGrammar.text_positions.Goals a
 pub missing-requires : goal.missing-requires
 missing-requires g c =
     let grm = c.args.self.now in
-    let m = c.take_texts.new.matching in
-    let prods : prods_of m ≡ numbered_prods grm = c.in_ok-take_texts.ensures.prods ∙ c.in_ok-matching.ensures.prods ∙ c.requires.prods in
-    let matched = c.in_ok-take_texts.ensures.matched in
+    let m = c.match_texts.new.matching in
+    let prods : prods_of m ≡ numbered_prods grm = c.in_ok-match_texts.ensures.prods ∙ c.in_ok-matching.ensures.prods ∙ c.requires.prods in
+    let matched = c.in_ok-match_texts.ensures.matched in
     let below : c.in-Some.prod < length m.places.items = c.in-Some.ensures.first.within in
     let len : length m.places.items ≡ start_prod grm = matched.texts_len ∙ ap length prods ∙ listed_len grm in
     let within : c.in-Some.prod < start_prod grm = omega arith in
@@ -21,19 +21,19 @@ missing-requires g c =
 pub returns-in-Some-clause-faulty : goal.returns-in-Some-clause-faulty
 returns-in-Some-clause-faulty g c =
     let grm = c.args.self.now in
-    let m = c.take_texts.new.matching in
+    let m = c.match_texts.new.matching in
     let texts = map (λ text. text.now) c.args.texts.now in
-    let prods : prods_of m ≡ numbered_prods grm = c.in_ok-take_texts.ensures.prods ∙ c.in_ok-matching.ensures.prods ∙ c.requires.prods in
-    let spell = subst (λ n. SpellEach n texts (texts_of m)) c.in_ok-names.ensures c.in_ok-take_texts.ensures.spell in
-    let bad = missing_at (named_symbols grm) (prods_of m) (texts_of m) m.first m.next.items m.free.items m.places.items c.in_ok-take_texts.ensures.matched texts spell c.in-Some.prod c.in-Some.ensures.first in
+    let prods : prods_of m ≡ numbered_prods grm = c.in_ok-match_texts.ensures.prods ∙ c.in_ok-matching.ensures.prods ∙ c.requires.prods in
+    let spell = subst (λ n. SpellEach n texts (texts_of m)) c.in_ok-names.ensures c.in_ok-match_texts.ensures.spell in
+    let bad = missing_at (named_symbols grm) (prods_of m) (texts_of m) m.first m.next.items m.free.items m.places.items c.in_ok-match_texts.ensures.matched texts spell c.in-Some.prod c.in-Some.ensures.first in
     missing_fault grm texts c.in-Some.prod (subst (λ ps. IsMissingAt (named_symbols grm) ps texts c.in-Some.prod) prods bad) c.missing.result c.missing.ensures
 
 pub returns-clause-listed : goal.returns-clause-listed
 returns-clause-listed g c =
     let grm = c.args.self.now in
-    let m = c.take_texts.new.matching in
+    let m = c.match_texts.new.matching in
     let texts = map (λ text. text.now) c.args.texts.now in
-    let prods : prods_of m ≡ numbered_prods grm = c.in_ok-take_texts.ensures.prods ∙ c.in_ok-matching.ensures.prods ∙ c.requires.prods in
-    let spell = subst (λ n. SpellEach n texts (texts_of m)) c.in_ok-names.ensures c.in_ok-take_texts.ensures.spell in
-    let list = listing grm (prods_of m) texts (texts_of m) m.first m.next.items m.free.items m.places.items prods c.in_ok-take_texts.ensures.matched spell c.in-None.ensures.all in
-    subst (λ v. IsListing grm texts v.items) (sym c.into_places.ensures) list
+    let prods : prods_of m ≡ numbered_prods grm = c.in_ok-match_texts.ensures.prods ∙ c.in_ok-matching.ensures.prods ∙ c.requires.prods in
+    let spell = subst (λ n. SpellEach n texts (texts_of m)) c.in_ok-names.ensures c.in_ok-match_texts.ensures.spell in
+    let list = listing grm (prods_of m) texts (texts_of m) m.first m.next.items m.free.items m.places.items prods c.in_ok-match_texts.ensures.matched spell c.in-None.ensures.all in
+    subst (λ v. IsListing grm texts v.items) (sym c.into_positions.ensures) list

@@ -25,8 +25,8 @@ loop-at-init g c =
       come = come_none facts (g.B.Build.builds self.build.now) self.checked.now c.args.lexemes.now c.args.stack.now c.args.place;
     }
 
-pub take-requires : goal.take-requires
-take-requires g c =
+pub feed_lexeme-requires : goal.feed_lexeme-requires
+feed_lexeme-requires g c =
     let facts = facts_by g.StorageT.StorageIndex.index g.LexemeT.Lexeme.parts in
     let d = c.args.self.now.checked.now in
     let lexemes = c.args.lexemes.now in
@@ -51,13 +51,13 @@ returns-then-not-branch g c =
     let l = c.loop-at in
     let x = c.index-lexemes-at.result in
     let is = slice_get_read lexemes (length lexemes) l.at x refl c.loop-at-test.true c.index-lexemes-at.is in
-    let sticks = c.in_ok-take.ensures.sticks c.if-not-branch.true in
+    let sticks = c.in_ok-feed_lexeme.ensures.sticks c.if-not-branch.true in
     record {
-      run_stack = c.in_ok-take.ensures.run_stack;
-      there = run_on c.requires c.in_ok-take.ensures.run_stack
-          (rise_by_settle facts builds d (g.met.B.Build.rising self.build.now d.grammar) (facts x).token (start_at (map facts lexemes) l.at) l.stack c.take.new.stack sticks.settles l.invariant.there.rises)
+      run_stack = c.in_ok-feed_lexeme.ensures.run_stack;
+      there = run_on c.requires c.in_ok-feed_lexeme.ensures.run_stack
+          (rise_by_settle facts builds d (g.met.B.Build.rising self.build.now d.grammar) (facts x).token (start_at (map facts lexemes) l.at) l.stack c.feed_lexeme.new.stack sticks.settles l.invariant.there.rises)
           l.invariant.there.within;
-      far = come_to_stop facts builds d lexemes c.args.stack.now c.args.place l.stack l.at l.invariant.come c.take.new.stack x is sticks;
+      far = come_to_stop facts builds d lexemes c.args.stack.now c.args.place l.stack l.at l.invariant.come c.feed_lexeme.new.stack x is sticks;
     }
 
 pub loop-at-preserved : goal.loop-at-preserved
@@ -69,13 +69,13 @@ loop-at-preserved g c =
     let x = c.index-lexemes-at.result in
     let lexemes = c.args.lexemes.now in
     let is = slice_get_read lexemes (length lexemes) l.at x refl c.loop-at-test.true c.index-lexemes-at.is in
-    let shifts = c.in_ok-take.ensures.shifts c.if-not-branch.false in
+    let shifts = c.in_ok-feed_lexeme.ensures.shifts c.if-not-branch.false in
     record {
-      there = run_on c.requires c.in_ok-take.ensures.run_stack
-          (rise_to_next facts builds d (g.met.B.Build.rising c.args.self.now.build.now d.grammar) lexemes l.at x l.stack c.take.new.stack c.requires.starts is shifts l.invariant.there.rises)
+      there = run_on c.requires c.in_ok-feed_lexeme.ensures.run_stack
+          (rise_to_next facts builds d (g.met.B.Build.rising c.args.self.now.build.now d.grammar) lexemes l.at x l.stack c.feed_lexeme.new.stack c.requires.starts is shifts l.invariant.there.rises)
           (omega (arith, c.loop-at-test.true));
       past = omega (arith, l.invariant.past);
-      come = come_more facts builds d lexemes c.args.stack.now c.args.place l.stack l.at l.invariant.come c.take.new.stack x l.invariant.past is shifts;
+      come = come_more facts builds d lexemes c.args.stack.now c.args.place l.stack l.at l.invariant.come c.feed_lexeme.new.stack x l.invariant.past is shifts;
     }
 
 pub unreachable-requires : goal.unreachable-requires
