@@ -36,15 +36,15 @@ try_token-requires-clause-token g c =
     c.stable.result.now.tokens (states_len c.stable.result.now) at.within c.loop-token.token-index c.token-item.result c.loop-token-test.true c.token-item.is in
     rw c.stable.ensures.table at within
 
-pub returns-in_err-takes-clause-short_of_memory : goal.returns-in_err-takes-clause-short_of_memory
-returns-in_err-takes-clause-short_of_memory g c =
+pub returns-in_err-try_token-clause-short_of_memory : goal.returns-in_err-try_token-clause-short_of_memory
+returns-in_err-try_token-clause-short_of_memory g c =
     let index = g.StorageT.StorageIndex.index in
     let d = c.args.self.now in
     let t = index c.token-item.result.0 in
     let st = overlaid c.args.overlay.now in
     let from : c.set_back.new.self ≡ laid_over st c.loop-token.probe.room =
     c.set_back.ensures ∙ ap (λ (l : List ℕ). laid_over l c.loop-token.probe.room) c.loop-token.invariant.base in
-    let short = subst (λ (o : Overlaid). IsShortOfMemoryOver d.grammar d.table t o c.try_token.new.states) from c.in_err-takes.ensures.short_of_memory in
+    let short = subst (λ (o : Overlaid). IsShortOfMemoryOver d.grammar d.table t o c.try_token.new.states) from c.in_err-try_token.ensures.short_of_memory in
     on_err_always c.from_residual.result _ (t, inr (record { room = c.loop-token.probe.room; new = c.try_token.new.states; short = short }))
 
 pub returns-in_err-push-clause-short_of_memory : goal.returns-in_err-push-clause-short_of_memory
@@ -54,7 +54,7 @@ returns-in_err-push-clause-short_of_memory g c =
     let t = index c.token-item.result.0 in
     let states : overlaid c.set_back.new.self ≡ overlaid c.args.overlay.now =
     ap overlaid c.set_back.ensures ∙ laid_over_states c.loop-token.probe.base c.loop-token.probe.room ∙ c.loop-token.invariant.base in
-    let here = c.in_ok-takes.ensures.expected.0 c.if-branch.true in
+    let here = c.in_ok-try_token.ensures.expected.0 c.if-branch.true in
     on_err_always c.from_residual-in_err-push.result _ (t, inl (subst (λ (l : List ℕ). IsExpected d.grammar d.table l t) states here))
 
 pub loop-token-preserved : goal.loop-token-preserved
@@ -78,11 +78,11 @@ loop-token-preserved g c =
     let so_far : List ℕ = tokens_of index c.loop-token.expected.items in
     let i = c.loop-token.token-index in
     record {
-      base = c.in_ok-takes.ensures.base ∙ ap (λ (o : Overlaid). o.base) c.set_back.ensures ∙ c.loop-token.invariant.base;
+      base = c.in_ok-try_token.ensures.base ∙ ap (λ (o : Overlaid). o.base) c.set_back.ensures ∙ c.loop-token.invariant.base;
       listed =
           elim c.if-branch.branch [
             | then-branch+in_ok-push w ↦
-                let has = subst (λ (l : List ℕ). IsExpected d.grammar d.table l t) states (c.in_ok-takes.ensures.expected.0 w.if-branch.true) in
+                let has = subst (λ (l : List ℕ). IsExpected d.grammar d.table l t) states (c.in_ok-try_token.ensures.expected.0 w.if-branch.true) in
                 let items : tokens_of index c.if-branch.expected.items ≡ so_far ++ t ∷ [] =
                 ap (λ v. tokens_of index v.items) w.expected-is ∙ ap (tokens_of index) w.in_ok-push.ensures.items
                 ∙ map-append (λ t. index t.0) c.loop-token.expected.items (c.token-item.result ∷ []) in
@@ -90,7 +90,7 @@ loop-token-preserved g c =
                 (listed_more P numbers up i inside so_far c.loop-token.invariant.listed t is has)
             | else-branch w ↦
                 let lacks = λ (p : P t).
-                iff_false {P = IsExpected d.grammar d.table (overlaid c.set_back.new.self) t} c.in_ok-takes.ensures.expected w.if-branch.false
+                iff_false {P = IsExpected d.grammar d.table (overlaid c.set_back.new.self) t} c.in_ok-try_token.ensures.expected w.if-branch.false
                 (subst (λ (l : List ℕ). IsExpected d.grammar d.table l t) (sym states) p) in
                 let items : tokens_of index c.if-branch.expected.items ≡ so_far = ap (λ v. tokens_of index v.items) w.expected-is in
                 subst (λ (xs : List ℕ). AreListed P numbers (i + 1) xs) (sym items)
