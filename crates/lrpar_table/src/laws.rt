@@ -7,7 +7,7 @@ pub fn built_tables_are_complete_without_conflicts()
     ensures { BuiltTablesAreCompleteWithoutConflicts }
 {}
 
-/// If precedences resolved a conflict of a table that `from_yacc_with` built, the table isn't complete: `check_complete` refuses it.
+/// If precedences resolved a conflict of a canonical table, the table isn't complete: `check_complete` refuses it.
 pub fn resolved_tables_are_incomplete()
     ensures { ResolvedTablesAreIncomplete }
 {}
