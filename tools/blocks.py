@@ -10,7 +10,7 @@ import sys
 
 ROOT = pathlib.Path(__file__).resolve().parent.parent
 PAGES = ["README.md", "docs/GUIDE.md"]
-CRATES = ["test_guide", "example_language", "example_linter", "example_project", "example_query"]
+CRATES = ["test_guide", "example_project", "examples"]
 
 
 def main():

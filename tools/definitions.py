@@ -1,17 +1,25 @@
 #!/usr/bin/env python3
-"""Writes docs/DEFINITIONS.md from the comments in crates/*/specs: definitions.py [--check]
+"""Writes docs/DEFINITIONS.md from the comments in crates/*/specs, for who audits what the theorems say: definitions.py
 
-What comes before the page's first part is kept. Each crate is a part, each file of its specs a part below it, in the order in which
-`Lib.antt` names them, and each definition that users reach (tools/public.py) a row: its name, and the comment above it. Definitions that
-follow one another under one comment share a row. With --check nothing is written, and the status is 1 if the page isn't the one that
-would be written."""
+The page is no part of the repository. Each crate is a part, each file of its specs a part below it, in the order in which `Lib.antt` names
+them, and each definition that users reach (tools/public.py) a row: its name, and the comment above it. Definitions that follow one another
+under one comment share a row."""
 
 import re
-import sys
 
 from public import ROOT, crates, reached
 
 PAGE = ROOT / "docs" / "DEFINITIONS.md"
+HEAD = """# Definitions
+
+The definitions in `specs/` on which the contracts of public calls and the laws rest, in the order in which a reader needs them. Those that
+only private functions use are left out: `specs/` has them with the same comments. `tools/definitions.py` makes this page. Numbers are ℕ,
+texts are lists of bytes, and `S` is a storage type; its function `index` takes a value of it to its ℕ. A name that begins with a capital is
+a kind of value or a fact; any other is a value. The [glossary](ARCHITECTURE.md#glossary) has the field's terms with their names here.
+
+Grammars, trees and derivations are as in Aho and Ullman, *The Theory of Parsing, Translation, and Compiling*. The safety conditions are
+those of Jourdan, Pottier and Leroy, *Validating LR(1) Parsers*.
+"""
 # A line that begins a block whose lines may be definitions, and one of a definition.
 BLOCK = re.compile(r"(?:abbrev |unfoldable )?(?:mutual$|module )")
 DEFINITION = re.compile(r"(?:(?:abbrev |unfoldable )?pub (?:record |data )?)(?!use |mod )([^\s:]+)")
@@ -83,7 +91,7 @@ def section(crate, path, shown_names):
 
 def page():
     """The whole page."""
-    lines = PAGE.read_text().split("\n## ", 1)[0].rstrip().split("\n") + [""]
+    lines = HEAD.split("\n")
     shown_names = reached()
     for crate in crates():
         parts = [line for path in files(crate) for line in section(crate, path, shown_names)]
@@ -93,11 +101,8 @@ def page():
 
 
 def main():
-    made = page()
-    if "--check" not in sys.argv[1:]:
-        PAGE.write_text(made)
-    elif PAGE.read_text() != made:
-        sys.exit("docs/DEFINITIONS.md isn't what the comments in specs/ say: run tools/definitions.py")
+    PAGE.write_text(page())
+    print(PAGE.relative_to(ROOT))
 
 
 main()

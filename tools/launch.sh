@@ -233,7 +233,8 @@ is_ready() {
 }
 
 # Starts crates that are ready, as many as there are slots, first those with most ahead. Each gets one slot, and the first one also
-# gets all that are left: a process more costs its start, and the time of the whole is that of the longest way.
+# gets all that are left, up to its most: a process more costs its start, and the time of the whole is that of the longest way. A crate
+# that runs alone gets all slots, since the whole waits for it.
 start_ready() {
     local name process free=$slots ready=() jobs
     for process in "${!job[@]}"; do
@@ -246,6 +247,10 @@ start_ready() {
     done
     ((${#ready[@]} > 0 && free > 0)) || return 0
     mapfile -t ready < <(printf '%s\n' "${ready[@]}" | sort -rn | head -n "$free")
+    if ((${#ready[@]} == 1 && ${#job[@]} == 0)); then
+        start "${ready[0]#* }" "$free"
+        return
+    fi
     jobs=$((free - ${#ready[@]} + 1))
     for name in "${ready[@]#* }"; do
         start "$name" $((jobs < most[$name] ? jobs : most[$name])) || return 1

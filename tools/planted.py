@@ -1,22 +1,25 @@
-"""Tries wrong bodies that the prover has to refuse, outside the gate: planted.sh [--workers N] [CRATE | CRATE/EDIT]..
+"""Tries wrong bodies that the prover has to refuse, outside the gate: planted.sh [--built REPOSITORY] [--workers N] [CRATE | CRATE/EDIT]..
 
 An edit is a file tools/planted/CRATE/EDIT.edit in the format of must-fail: a line 'file: src/..' and pairs of lines 'old: TEXT'
 and 'new: TEXT', each old TEXT found once in that file. A line 'only: MODULE::FUNCTION', which must-fail passes over, names
 what to check; there may be several. Without one it is each function that the edit changes.
 
-An edit is tried by 'rt check --only' of that, over the kept proofs of the crate, which is checked unedited first. Edits that change
-the inside of one function each, all of different functions, share a check: none of them changes a contract, so each function is
-refused for its own edit. Such an edit counts as refused if its function isn't proved by a reason that names the code; each other
-one of that check is tried again alone. What passes alone is tried on the whole crate before it counts as not refused. At most N
-checks go on side by side (four, if N isn't given), each in a copy of the repository of its own, whose made files are hard links:
-rattle never writes into a file that it made, but puts another one in its place.
+An edit is tried by 'rattle check --only' of that, over the libraries in crates/*/out/rlib, which 'rt ci' leaves there, and so does
+'./lrpar' of those that it needs. So nothing that is proved is proved again. They are those of this repository, or of a copy of it that
+--built names, and have to be made of the sources that are here.
+
+Edits that change the inside of one function each, all of different functions, share a check: none of them changes a contract, so each
+function is refused for its own edit. Such an edit counts as refused if its function isn't proved by a reason that names the code; each
+other one of that check is tried again alone. What passes alone is tried on the whole crate before it counts as not refused. At most N
+checks go on side by side (four, if N isn't given), each over a copy of the crate's sources.
 
 An edit that is refused only because a proof file names what it took away, or by no reason that is given, shows nothing of a
 contract: it counts as failed, and the closing line names it.
 """
 import argparse
+import filecmp
+import json
 import os
-import queue
 import re
 import shutil
 import signal
@@ -24,7 +27,7 @@ import subprocess
 import sys
 import tempfile
 from concurrent.futures import ThreadPoolExecutor, as_completed
-from dataclasses import dataclass
+from dataclasses import dataclass, field
 
 ROOT = os.path.dirname(os.path.dirname(os.path.realpath(__file__)))
 PLANTED = f"{ROOT}/tools/planted"
@@ -246,52 +249,99 @@ def joined_texts(edits):
     return texts
 
 
-# ---- Copies
-
-
-def copy_repository(source, to, parts):
-    """Copies what a check reads: the crates, and these parts of what was made of them."""
-    os.makedirs(to)
-    for name in ("crates.txt", "HANDLES"):
-        shutil.copyfile(f"{source}/{name}", f"{to}/{name}")
-    shutil.copytree(f"{source}/crates", f"{to}/crates", ignore=shutil.ignore_patterns("out", "must-fail"))
-    for crate in os.listdir(f"{source}/crates"):
-        for part in parts:
-            link(f"{source}/crates/{crate}/out/{part}", f"{to}/crates/{crate}/out/{part}")
-
-
-def link(source, to):
-    """Has a folder of made files at another place too, in place of what is there: by hard links, or on another disk by copies."""
-    shutil.rmtree(to, ignore_errors=True)
-    if not os.path.isdir(source):
-        return
-    try:
-        shutil.copytree(source, to, copy_function=os.link)
-    except (OSError, shutil.Error):
-        shutil.rmtree(to, ignore_errors=True)
-        shutil.copytree(source, to)
-
-
-def write(folder, texts):
-    for path, text in texts.items():
-        with open(f"{folder}/{path}", "w", encoding="utf-8") as it:
-            it.write(text)
-
-
 # ---- Checks
 
 
-def check(folder, jobs, only=()):
-    """Returns the status of a check of the crate in the folder, none after too long a time, and the messages that it printed."""
-    words = ["rt", "check", "--jobs", str(jobs), *(word for it in only for word in ("--only", it))]
-    how = {"cwd": folder, "stdin": subprocess.DEVNULL, "stdout": subprocess.PIPE, "stderr": subprocess.STDOUT}
-    with subprocess.Popen(words, **how, text=True, errors="replace") as ran:
-        try:
-            said, _ = ran.communicate(timeout=LIMIT)
-        except subprocess.TimeoutExpired:
-            ran.terminate()
-            return None, messages_of(ran.communicate()[0])
-        return ran.returncode, messages_of(said)
+@dataclass
+class Built:
+    """The libraries of a repository, as they were built."""
+
+    # The repository in whose crates they are.
+    repository: str
+    # By crate, what its line of crates.txt names: crates of the repository, and libraries of the kit.
+    uses: dict = field(default_factory=dict)
+    # The folder of the kit.
+    kit: str = ""
+
+    def read(self):
+        """Reads crates.txt, and where the kit is."""
+        for line in text_of(f"{ROOT}/crates.txt").split("\n"):
+            name, _, uses = line.partition("#")[0].partition(":")
+            if name.strip():
+                self.uses[name.split()[0]] = uses.split()
+        self.kit = os.path.dirname(subprocess.run(["rt", "doc"], capture_output=True, text=True, check=True).stdout.strip())
+
+    def rlib(self, crate):
+        return f"{self.repository}/crates/{crate}/out/rlib/{crate}.rlib"
+
+    def below(self, crate):
+        """Returns the crates of the repository that this one needs."""
+        found = dict.fromkeys(it for it in self.uses.get(crate, []) if it in self.uses)
+        for name in list(found):
+            found |= dict.fromkeys(self.below(name))
+        return list(found)
+
+    def missing(self, crate):
+        """Returns why nothing can be tried on the crate, and nothing if all that it needs is built."""
+        if not os.path.isdir(f"{ROOT}/crates/{crate}/src"):
+            return "there is no such crate"
+        for name in [crate, *self.below(crate)]:
+            if not os.path.isfile(f"{self.rlib(name)}/toolchain/mir.json"):
+                return f"{name} isn't built in {self.repository}: run rt ci there, or rt lib in crates/{name}"
+            if not all(self.is_of_here(name, part) for part in ("specs", "proofs")):
+                return f"{name} was built of other files than those here: run rt ci, or rt lib in crates/{name}"
+        return ""
+
+    def is_of_here(self, crate, part):
+        """Returns whether the library has the files that are here in this folder (the text of src/ isn't kept in it)."""
+        built = f"{self.rlib(crate)}/lang/antt/{part}"
+        here = f"{ROOT}/crates/{crate}/{part}"
+        return files_below(built) == files_below(here) and all(
+            filecmp.cmp(f"{built}/{it}", f"{here}/{it}", shallow=False) for it in files_below(here)
+        )
+
+    def functions(self, crate):
+        """Returns the names of the crate's functions, as a check prints them."""
+        text = text_of(f"{self.rlib(crate)}/toolchain/mir.json")
+        return [it[0] for it in json.JSONDecoder().raw_decode(text)[0]]
+
+    def words(self, crate, only):
+        """Returns the command that checks these functions of the crate in the current folder, or all if there are none."""
+        kit = self.kit
+        words = [f"{kit}/bin/rattle", "check", "--crate-name", crate, "src/lib.rt"]
+        for name in ["std", *self.uses[crate]]:
+            words += ["--extern", f"{name}={self.rlib(name) if name in self.uses else f'{kit}/rlibs/{name}.rlib'}"]
+        for folder in [f"{kit}/rlibs", *(os.path.dirname(self.rlib(it)) for it in self.below(crate))]:
+            words += ["-L", f"dependency={folder}"]
+        words += ["--antt-project", f"{kit}/rattle/logic/antt-project.json", "--logic-built", f"{kit}/logic_built"]
+        words += ["--jobs", "1", "--links", f"{crate}="]
+        return words + [word for it in only for word in ("--only", it)]
+
+
+def files_below(folder):
+    """Returns the files of a folder, but for the lists of modules, which a library hasn't."""
+    found = [os.path.relpath(f"{at}/{name}", folder) for at, _, names in os.walk(folder) for name in names]
+    return sorted(it for it in found if it != "Lib.antt")
+
+
+def check(built, crate, texts, only=()):
+    """Returns the status of a check of these functions of the crate with these texts in place of its own, none after too long a time, and
+    the messages that it printed."""
+    with tempfile.TemporaryDirectory(prefix="planted-") as room:
+        for part in ("src", "specs", "proofs"):
+            if os.path.isdir(f"{ROOT}/crates/{crate}/{part}"):
+                shutil.copytree(f"{ROOT}/crates/{crate}/{part}", f"{room}/{part}")
+        for path, text in texts.items():
+            with open(f"{room}/{path}", "w", encoding="utf-8") as it:
+                it.write(text)
+        how = {"cwd": room, "stdin": subprocess.DEVNULL, "stdout": subprocess.PIPE, "stderr": subprocess.STDOUT}
+        with subprocess.Popen(built.words(crate, only), **how, text=True, errors="replace") as ran:
+            try:
+                said, _ = ran.communicate(timeout=LIMIT)
+            except subprocess.TimeoutExpired:
+                ran.terminate()
+                return None, messages_of(ran.communicate()[0])
+            return ran.returncode, messages_of(said)
 
 
 def messages_of(said):
@@ -305,33 +355,19 @@ def messages_of(said):
     return messages
 
 
-def try_edit(edit, copy, kept, only):
+def try_edit(edit, built):
     """Returns what the try of the crate with this edit comes to, and what to say."""
-    folder = f"{copy}/crates/{edit.crate}"
-    were = {path: text_of(f"{folder}/{path}") for path in edit.texts}
-    try:
-        write(folder, edit.texts)
-        verdict, text = judged(edit, *check(folder, 1, only))
-        if verdict is None:
-            verdict, text = judged(edit, *check(folder, 1))
-            text = f"refused, but not by {', '.join(only)}{text.removeprefix('refused')}" if verdict == REFUSED else text
-        return verdict or FAILED, text
-    finally:
-        write(folder, were)
-        link(kept, f"{folder}/out/incremental")
+    verdict, text = judged(edit, *check(built, edit.crate, edit.texts, edit.names))
+    if verdict is None:
+        verdict, text = judged(edit, *check(built, edit.crate, edit.texts))
+        text = f"refused, but not by {', '.join(edit.names)}{text.removeprefix('refused')}" if verdict == REFUSED else text
+    return verdict or FAILED, text
 
 
-def try_group(group, copy, kept):
+def try_group(group, built):
     """Returns by the edits' names what to say of those that the prover refuses by one check of them all."""
-    folder = f"{copy}/crates/{group[0].crate}"
     texts = joined_texts(group)
-    were = {path: text_of(f"{folder}/{path}") for path in texts}
-    try:
-        write(folder, texts)
-        status, lines = check(folder, 1, [it.names[0] for it in group])
-    finally:
-        write(folder, were)
-        link(kept, f"{folder}/out/incremental")
+    status, lines = check(built, group[0].crate, texts, [it.names[0] for it in group])
     if status != 1 or any(is_unread(it, texts) for it in lines):
         return {}
     return {edit.name: said for edit in group for said in [reason_of(edit.names[0], lines)] if said}
@@ -389,37 +425,6 @@ def is_unread(line, changed):
 # ---- The whole
 
 
-def try_crate(crate, files, room, workers):
-    """Tries the edits of a crate, prints the verdict of each as it comes, and returns the verdicts by what names the edits."""
-    first = f"{room}/first"
-    if not os.path.isdir(f"{ROOT}/crates/{crate}"):
-        say(f"{crate}: NOT TRIED: there is no such crate")
-        return {}
-    kept = f"{first}/crates/{crate}/out/incremental"
-    status, lines = check(f"{first}/crates/{crate}", workers)
-    if status != 0:
-        say("\n".join([f"{crate}: NOT TRIED: the unedited crate isn't proved", *lines[-20:]]))
-        return {}
-    known = [it[1] for it in (re.match(r"fn (\S+): proved", line) for line in lines) if it]
-    copies = queue.SimpleQueue()
-    for at in range(min(workers, len(files))):
-        copy_repository(first, f"{room}/{at}", ["rlib"])
-        link(kept, f"{room}/{at}/crates/{crate}/out/incremental")
-        copies.put(f"{room}/{at}")
-    verdicts = {}
-    pool = ThreadPoolExecutor(workers)
-    try:
-        tasks = [pool.submit(try_edits, it, copies, kept) for it in grouped(read_edits(crate, files, known))]
-        for it in as_completed(tasks):
-            verdicts |= it.result()
-    finally:
-        # (after a signal those that are being tried still end)
-        pool.shutdown(cancel_futures=True)
-    for at in range(min(workers, len(files))):
-        shutil.rmtree(f"{room}/{at}")
-    return verdicts
-
-
 def read_edits(crate, files, known):
     """Returns the edits of the files, and says of each other one why it can't be tried."""
     edits = []
@@ -433,18 +438,14 @@ def read_edits(crate, files, known):
     return edits
 
 
-def try_edits(group, copies, kept):
-    """Tries the edits of a group in a copy that is free, says of each what came of it, and returns the verdicts by what names the edits."""
-    copy = copies.get()
+def try_edits(group, built):
+    """Tries the edits of a group, says of each what came of it, and returns the verdicts by what names the edits."""
     verdicts = {}
-    try:
-        shared = try_group(group, copy, kept) if len(group) > 1 else {}
-        for edit in group:
-            label = f"{edit.crate}/{edit.name}"
-            verdicts[label], text = (REFUSED, shared[edit.name]) if edit.name in shared else try_edit(edit, copy, kept, edit.names)
-            say(f"{label}: {text}")
-    finally:
-        copies.put(copy)
+    shared = try_group(group, built) if len(group) > 1 else {}
+    for edit in group:
+        label = f"{edit.crate}/{edit.name}"
+        verdicts[label], text = (REFUSED, shared[edit.name]) if edit.name in shared else try_edit(edit, built)
+        say(f"{label}: {text}")
     return verdicts
 
 
@@ -454,20 +455,32 @@ def say(text):
 
 def main():
     words = argparse.ArgumentParser(prog="planted.sh", description="Tries wrong bodies that the prover has to refuse.")
-    words.add_argument("--workers", type=int, default=4, metavar="N", help="how many edits are tried side by side (4)")
+    words.add_argument("--workers", type=int, default=4, metavar="N", help="how many checks go on side by side (4)")
     words.add_argument("edits", nargs="*", metavar="CRATE | CRATE/EDIT", help="whose edits, or which one; each crate's, if there is none")
+    words.add_argument("--built", default=ROOT, metavar="REPOSITORY", help="in which copy of the repository the libraries are built (this one)")
     given = words.parse_args()
     # (so that the copies are removed)
     signal.signal(signal.SIGTERM, lambda *_: sys.exit(1))
     found, lost = edits_named(given.edits)
     for word in lost:
         say(f"{word}: NOT TRIED: there is no such edit")
+    built = Built(os.path.abspath(given.built))
+    built.read()
+    groups = []
+    for crate, files in found.items():
+        why = built.missing(crate) if files else ""
+        if why:
+            say(f"{crate}: NOT TRIED: {why}")
+        elif files:
+            groups += grouped(read_edits(crate, files, built.functions(crate)))
     verdicts = {}
-    with tempfile.TemporaryDirectory(prefix="planted-") as room:
-        copy_repository(ROOT, f"{room}/first", ["rlib", "incremental"])
-        for crate, files in found.items():
-            if files:
-                verdicts |= try_crate(crate, files, room, max(given.workers, 1))
+    pool = ThreadPoolExecutor(max(given.workers, 1))
+    try:
+        for it in as_completed([pool.submit(try_edits, it, built) for it in groups]):
+            verdicts |= it.result()
+    finally:
+        # (after a signal those that are being tried still end)
+        pool.shutdown(cancel_futures=True)
     passed = list(verdicts.values()).count(REFUSED)
     failed = sum(len(it) for it in found.values()) + len(lost) - passed
     unshown = sorted(label for label, verdict in verdicts.items() if verdict == UNSHOWN)

@@ -33,7 +33,7 @@ copy_repository() {
     local file to
     mkdir -p "$copy" || return 1
     tar -C "$root" --exclude='crates/lrpar_program/out' --exclude='crates/nimbleparse/out' --exclude='crates/test_*/out' \
-        --exclude='crates/example_*/out' -cf - HANDLES crates.txt crates |
+        --exclude='crates/example*/out' -cf - HANDLES crates.txt crates |
         tar -C "$copy" -xf - || return 1
     while IFS= read -r file; do
         to=$copy/crates/bench_program/${file%.txt}

@@ -7,13 +7,16 @@ mod tests;
 mod values;
 
 use crate::language::{Failed, Language, new_language};
-use crate::values::{Settings, Value};
-use lrpar::RTParserBuilder;
+use crate::values::{Setting, Settings, Value};
 use lrpar::repair::CpctPlus;
-use lrpar_lexer::RuleLexer;
+use lrpar::{LexParseError, RTParserBuilder};
+use lrpar_lexer::{RuleLexer, TokenTypes};
 use lrpar_report::{Look, Reporter, error_report};
-use std::alloc::Global;
+use std::alloc::{AllocError, Global};
 use std::io;
+
+/// The value of a text, if it has one, and its errors.
+type Parsed<'text> = (Option<Value<'text>>, Vec<LexParseError<u32, TokenTypes>>);
 
 fn main(rt: HostRuntime) -> Result<(), Failed> {
     let text = io::read_to_string(rt.alloc(), rt.stdin())?;
@@ -25,12 +28,7 @@ fn main(rt: HostRuntime) -> Result<(), Failed> {
 
 /// A report for each error of a text, and then a line for each setting, if the repairs make it a text of settings.
 pub(crate) fn shown(alloc: Global, language: &Language, text: &str) -> Result<String, Failed> {
-    let lexer = RuleLexer::new(alloc, &language.rules, text)?;
-    let parser = RTParserBuilder::new(&language.data).recoverer(CpctPlus::new(10_000));
-    let values = Settings {
-        spelled: &language.spelled,
-    };
-    let (file, errors) = parser.parse_values(alloc, &lexer, &values)?;
+    let (file, errors) = parse(alloc, language, text)?;
     let reporter = Reporter::new(alloc, text, "input", Look::Plain)?;
     let mut out = String::new(alloc);
     for error in &errors {
@@ -38,14 +36,29 @@ pub(crate) fn shown(alloc: Global, language: &Language, text: &str) -> Result<St
         reporter.push(&mut out, alloc, &report)?;
     }
     if let Some(Value::File(settings)) = &file {
-        for setting in settings {
-            writeln!(
-                out,
-                "{name} is {value}",
-                name = setting.name,
-                value = setting.value
-            )?;
-        }
+        push_settings(&mut out, settings)?;
     }
     Ok(out)
+}
+
+/// The settings of a text, if the repairs make it a text of settings, and its errors.
+fn parse<'text>(
+    alloc: Global,
+    language: &Language,
+    text: &'text str,
+) -> Result<Parsed<'text>, Failed> {
+    let lexer = RuleLexer::new(alloc, &language.rules, text)?;
+    let parser = RTParserBuilder::new(&language.data).recoverer(CpctPlus::new(10_000));
+    let values = Settings {
+        spelled: &language.spelled,
+    };
+    parser.parse_values(alloc, &lexer, &values)
+}
+
+/// Adds a line for each setting.
+fn push_settings(out: &mut String, settings: &[Setting<'_>]) -> Result<(), AllocError> {
+    for Setting { name, value } in settings {
+        writeln!(out, "{name} is {value}")?;
+    }
+    Ok(())
 }

@@ -16,7 +16,22 @@ pub use lrpar_parse_lexemes::{
 pub use lrpar_parse_trees::Node;
 pub use lrpar_table::check::ParserData;
 pub use lrpar_table::{check, table};
-pub use lrpar_table_precedence::precedences;
+
+/// `.y` files: the grammar of one, what it declares beside the grammar, and what can be wrong with it.
+pub mod yacc {
+    pub use lrpar_grammar_yacc::declarations::{Declarations, Level, Number, Prec};
+    pub use lrpar_grammar_yacc::faults::{YaccFault, YaccText};
+    pub use lrpar_grammar_yacc::file::{YaccFile, YaccFileFault};
+    pub use lrpar_grammar_yacc::parts::YaccKind;
+}
+
+/// Precedences of tokens and productions, what they decide, and the levels or declarations that they are made of.
+pub mod precedences {
+    pub use lrpar_table_levels::{
+        Level, PrecedenceFault, precedences_of_declarations, precedences_of_levels,
+    };
+    pub use lrpar_table_precedence::precedences::{AssocKind, Precedence, Precedences, Resolution};
+}
 
 /// Spans of a text, and the numbers of rules, productions, tokens and states.
 pub mod span {
@@ -72,7 +87,7 @@ pub mod laws {
         completions_always_repair, completions_always_repair_over_viable_tables,
     };
     pub use lrpar_parse_cpctplus::laws::{
-        cheapest_repairs_are_chains, cheapest_repairs_have_one_answer,
+        cheapest_repairs_are_paths, cheapest_repairs_have_one_answer,
         last_steps_give_the_least_cost, no_sequence_is_cheaper_than_repairs,
     };
     pub use lrpar_parse_lexemes::laws::{
@@ -88,7 +103,7 @@ pub mod laws {
         precedences_keep_apart, tables_by_precedence_are_safe,
     };
     pub use lrpar_table_check::laws::{
-        complete_tables_expect_sentences, complete_tables_take_sentences,
+        complete_tables_accept_sentences, complete_tables_expect_sentences,
     };
     pub use lrpar_table_merge::laws::{
         built_by_tables_are_merged_by, built_tables_are_merged, canonical_sets_are_merged,

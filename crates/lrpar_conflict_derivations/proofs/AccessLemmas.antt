@@ -10,7 +10,7 @@ use Rattle.lrpar_table_build.proofs.ReachedLemmas.{reached_at_end, start_item_at
 use Rattle.lrpar_table_sentences.specs.Moves.{MoveOf, Makes}
 use Rattle.lrpar_table_sentences.specs.AccessStrings.{StepOf, symbols_in}
 use Rattle.lrpar_conflict_derivations.specs.ClosureLinks.{IsKernelItem}
-use Rattle.lrpar_conflict_derivations.specs.Completion.{LeadsToKernel, HasFinished, HasItemFor, IsAccessPath, LeadsUp, UpOf, place_at, state_before}
+use Rattle.lrpar_conflict_derivations.specs.Completion.{LeadsToKernel, HasFinished, HasItemFor, IsAccessPath, LeadsUp, UpOf, path_item, state_before}
 use Rattle.lrpar_conflict_derivations.proofs.CompletionLemmas.{comes_from, up_back, up_end, up_then}
 
 -- moves were appended that lead from production p with its dot at k up to production q with its dot at the front; the first one reduces p,
@@ -19,7 +19,7 @@ pub record IsFinishing (g : Grammar) (token : ℕ) (symbols : List GrammarSymbol
     (front : List GrammarSymbol) (q : ℕ) (further : Bool) : Type 0 where
   pub done : List MoveOf
   pub moves : new ≡ old ++ done
-  pub leads : LeadsUp g token (place_at symbols p k asked) done (place_at front q 0 further)
+  pub leads : LeadsUp g token (path_item symbols p k asked) done (path_item front q 0 further)
   pub begins : ((done ≡ []) × (q ≡ p)) ⊎ ((rest : List MoveOf) × (done ≡ Makes p ∷ rest))
 
 -- the symbols of the path before a place, from its end
@@ -45,7 +45,7 @@ module _ (g : Grammar) (well : IsWellFormed g) (graph : Graph) (steps : List Ste
   pub record IsBack (i p k : ℕ) (asked : Bool) : Type 0 where
     pub within : k ≤ i
     pub item : HasItemFor graph (state_before steps last (i - k)) token p 0 asked
-    pub leads : LeadsUp g token (place_at (take i (symbols_in steps)) p k asked) [] (place_at (take (i - k) (symbols_in steps)) p 0 asked)
+    pub leads : LeadsUp g token (path_item (take i (symbols_in steps)) p k asked) [] (path_item (take (i - k) (symbols_in steps)) p 0 asked)
 
   back_from : (i p k : ℕ) (asked : Bool) → i ≤ length steps → HasItemFor graph (state_before steps last i) token p k asked → IsBack i p k asked
   back_from i p k asked inside item =
@@ -65,8 +65,8 @@ module _ (g : Grammar) (well : IsWellFormed g) (graph : Graph) (steps : List Ste
         within = low;
         item = (item.0, (access_path (i - k) (omega (arith, inside, low)) (item_at p 0 item.0)).1 there, item.2);
         leads =
-            subst (λ (w : List GrammarSymbol). LeadsUp g token (place_at w p k asked) [] (place_at (take (i - k) symbols) p 0 asked)) first
-            (subst (λ (w : List GrammarSymbol). LeadsUp g token (place_at (reverse path) p k asked) [] (place_at w p 0 asked)) second up);
+            subst (λ (w : List GrammarSymbol). LeadsUp g token (path_item w p k asked) [] (path_item (take (i - k) symbols) p 0 asked)) first
+            (subst (λ (w : List GrammarSymbol). LeadsUp g token (path_item (reverse path) p k asked) [] (path_item w p 0 asked)) second up);
       }
 
   -- from an item of the last state
@@ -94,7 +94,7 @@ module _ (g : Grammar) (well : IsWellFormed g) (graph : Graph) (steps : List Ste
         done = [];
         moves = sym (append-nil old);
         leads =
-            subst (λ (w : List GrammarSymbol). LeadsUp g token (place_at w p k asked) [] (place_at (take (length steps - k) symbols) p 0 asked)) all back.leads;
+            subst (λ (w : List GrammarSymbol). LeadsUp g token (path_item w p k asked) [] (path_item (take (length steps - k) symbols) p 0 asked)) all back.leads;
         begins = inl (refl, refl);
       } in
       let Ready = λ (m : ℕ).
@@ -109,10 +109,10 @@ module _ (g : Grammar) (well : IsWellFormed g) (graph : Graph) (steps : List Ste
       → IsFinishing g token (symbols_in steps) p k asked old new (take (i - up.dot) (symbols_in steps)) up.prod up.asked
   finishing_more p k asked old middle new i q further up path_up to_kernel back =
       let symbols = symbols_in steps in
-      let start = place_at symbols p k asked in
-      let here = place_at (take i symbols) q 0 further in
-      let there = place_at (take i symbols) up.prod up.dot up.asked in
-      let end = place_at (take (i - up.dot) symbols) up.prod 0 up.asked in
+      let start = path_item symbols p k asked in
+      let here = path_item (take i symbols) q 0 further in
+      let there = path_item (take i symbols) up.prod up.dot up.asked in
+      let end = path_item (take (i - up.dot) symbols) up.prod 0 up.asked in
       let node = Makes q ∷ to_kernel.more in
       let two = up_then g token here there end node [] (to_kernel.leads (take i symbols)) back.leads in
       let own : LeadsUp g token here node end = subst (λ (ms : List MoveOf). LeadsUp g token here ms end) (append-nil node) two in
@@ -141,12 +141,12 @@ module _ (g : Grammar) (well : IsWellFormed g) (graph : Graph) (steps : List Ste
       let none : path ≡ [] = start_item_at_start g well path (item_at q 0 item.0) reached is refl in
       let front : take i symbols ≡ [] = sym (reverse-reverse (take i symbols)) ∙ ap reverse none in
       let end : item.0 ≡ end_token g = reached_at_end g well path (item_at q 0 item.0) reached is in
-      let leads : LeadsUp g token (place_at symbols p k asked) path_up.done (place_at [] (start_prod g) 0 further) =
-      subst (λ (n : ℕ). LeadsUp g token (place_at symbols p k asked) path_up.done (place_at [] n 0 further)) is
-      (subst (λ (w : List GrammarSymbol). LeadsUp g token (place_at symbols p k asked) path_up.done (place_at w q 0 further)) front path_up.leads) in record {
+      let leads : LeadsUp g token (path_item symbols p k asked) path_up.done (path_item [] (start_prod g) 0 further) =
+      subst (λ (n : ℕ). LeadsUp g token (path_item symbols p k asked) path_up.done (path_item [] n 0 further)) is
+      (subst (λ (w : List GrammarSymbol). LeadsUp g token (path_item symbols p k asked) path_up.done (path_item w q 0 further)) front path_up.leads) in record {
         later = path_up.done;
         moves = path_up.moves;
-        finishes = up_end g token well (place_at symbols p k asked) path_up.done further (λ asks. sym (item.2 asks) ∙ end) leads;
+        finishes = up_end g token well (path_item symbols p k asked) path_up.done further (λ asks. sym (item.2 asks) ∙ end) leads;
         reduces =
             λ listed.
             elim path_up.begins [

@@ -13,7 +13,7 @@ use Rattle.lrpar_table_build.proofs.ReachedLemmas.{closure_cases, start_is_fresh
 use Rattle.lrpar_table_sentences.specs.Moves.{MoveOf, Makes, forest_moves, moves_of}
 use Rattle.lrpar_table_sentences.specs.Texts.{AreTreesOf, IsTreeOf}
 use Rattle.lrpar_table_sentences.proofs.AfterLemmas.{drop_at_get}
-use Rattle.lrpar_conflict_derivations.specs.Completion.{Finishes, FinishesAt, IsNextIf, LeadsUp, Place}
+use Rattle.lrpar_conflict_derivations.specs.Completion.{Finishes, FinishesAt, IsNextIf, LeadsUp, PathItem}
 use Rattle.lrpar_conflict_derivations.specs.Derivation.{IsNext}
 
 -- the moves of two lists of trees
@@ -117,11 +117,11 @@ module _ (g : Grammar) (well : IsWellFormed g) where
 
 module _ (g : Grammar) (token : ℕ) where
   -- no move leads nowhere
-  pub up_none : (from : Place) → LeadsUp g token from [] from
+  pub up_none : (from : PathItem) → LeadsUp g token from [] from
   up_none from later h = h
 
   -- one path up, and then another one
-  pub up_then : (from by to : Place) (moves more : List MoveOf) → LeadsUp g token from moves by → LeadsUp g token by more to
+  pub up_then : (from by to : PathItem) (moves more : List MoveOf) → LeadsUp g token from moves by → LeadsUp g token by more to
       → LeadsUp g token from (moves ++ more) to
   up_then from by to moves more first second later h =
       subst (λ (ms : List MoveOf). FinishesAt g token from ms) (sym (append_assoc moves more later)) (first (more ++ later) (second later h))
@@ -143,7 +143,7 @@ module _ (g : Grammar) (token : ℕ) where
       (forest_leaves trees ++ h.0, added_finishes g well front q j p w trees later h.0 after known fit h.1, ahead h.0 h.2)
 
   -- at the start item nothing is left to do: the end token comes next
-  pub up_end : IsWellFormed g → (from : Place) (moves : List MoveOf) (asked : Bool) → (IsTrue asked → token ≡ end_token g)
+  pub up_end : IsWellFormed g → (from : PathItem) (moves : List MoveOf) (asked : Bool) → (IsTrue asked → token ≡ end_token g)
       → LeadsUp g token from moves (record { front = []; prod = start_prod g; dot = 0; asked = asked }) → FinishesAt g token from moves
   up_end well from moves asked last up =
       subst (λ (ms : List MoveOf). FinishesAt g token from ms) (append-nil moves)

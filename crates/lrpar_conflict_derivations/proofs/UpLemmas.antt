@@ -11,7 +11,7 @@ use Rattle.lrpar_table_sentences.specs.Moves.{MoveOf, Makes, forest_moves, move_
 use Rattle.lrpar_table_sentences.specs.declared.moves.Move.{Move}
 use Rattle.lrpar_table_sentences.specs.declared.moves.Move.TheVariants.{Make}
 use Rattle.lrpar_table_sentences.specs.Reachable.{IsReachableRule}
-use Rattle.lrpar_conflict_derivations.specs.Completion.{AreUpLinks, EndsLink, LeadsToKernel, HasRest, LeadsUp, UpOf, place_at}
+use Rattle.lrpar_conflict_derivations.specs.Completion.{AreUpLinks, EndsLink, LeadsToKernel, HasRest, LeadsUp, UpOf, path_item}
 use Rattle.lrpar_conflict_derivations.specs.ClosureLinks.{AreLinks, IsKernelItem, IsOwnStep, IsStep, LinkOf, link_at, link_of, links_of}
 use Rattle.lrpar_conflict_derivations.specs.declared.closure_links.Link.{Link}
 use Rattle.lrpar_table_sentences.proofs.AfterLemmas.{drop_at_get}
@@ -62,7 +62,7 @@ ends_begun g set token links up are ends =
 pub record IsPathUp (g : Grammar) (token p : ℕ) (asked : Bool) (old new : List MoveOf) (q : ℕ) (further : Bool) : Type 0 where
   pub done : List MoveOf
   pub moves : new ≡ old ++ done
-  pub leads : (front : List GrammarSymbol) → LeadsUp g token (place_at front p 0 asked) done (place_at front q 0 further)
+  pub leads : (front : List GrammarSymbol) → LeadsUp g token (path_item front p 0 asked) done (path_item front q 0 further)
   pub begins : ((done ≡ []) × (q ≡ p)) ⊎ ((rest : List MoveOf) × (done ≡ Makes p ∷ rest))
 
 module _ (g : Grammar) (token p : ℕ) (asked : Bool) (old : List MoveOf) where
@@ -70,7 +70,7 @@ module _ (g : Grammar) (token p : ℕ) (asked : Bool) (old : List MoveOf) where
   path_none = record {
     done = [];
     moves = sym (append-nil old);
-    leads = λ front. up_none g token (place_at front p 0 asked);
+    leads = λ front. up_none g token (path_item front p 0 asked);
     begins = inl (refl, refl);
   }
 
@@ -86,11 +86,11 @@ module _ (g : Grammar) (token p : ℕ) (asked : Bool) (old : List MoveOf) where
       at ∙ ap (λ (n : ℕ). Nonterminal n ∷ drop (x.dot + 1) (symbols_of g x.prod)) rule in
       let added = λ (front : List GrammarSymbol).
       up_added g token well front x.prod x.dot q (drop (x.dot + 1) (symbols_of g x.prod)) rest.trees x.asked x.further after known rest.fit rest.ahead in
-      let own : (front : List GrammarSymbol) → LeadsUp g token (place_at front q 0 further) (Makes q ∷ forest_moves rest.trees) (place_at front x.prod x.dot x.further) =
+      let own : (front : List GrammarSymbol) → LeadsUp g token (path_item front q 0 further) (Makes q ∷ forest_moves rest.trees) (path_item front x.prod x.dot x.further) =
       λ front.
-      subst (λ (b : Bool). LeadsUp g token (place_at front q 0 b) (Makes q ∷ forest_moves rest.trees) (place_at front x.prod x.dot x.further)) asks (added front) in
+      subst (λ (b : Bool). LeadsUp g token (path_item front q 0 b) (Makes q ∷ forest_moves rest.trees) (path_item front x.prod x.dot x.further)) asks (added front) in
       let all = λ (front : List GrammarSymbol).
-      up_then g token (place_at front p 0 asked) (place_at front q 0 further) (place_at front x.prod x.dot x.further) path.done (Makes q ∷ forest_moves rest.trees)
+      up_then g token (path_item front p 0 asked) (path_item front q 0 further) (path_item front x.prod x.dot x.further) path.done (Makes q ∷ forest_moves rest.trees)
       (path.leads front) (own front) in
       let moves : new ≡ old ++ (path.done ++ Makes q ∷ forest_moves rest.trees) =
       rest.moves ∙ ap (λ ms. ms ++ forest_moves rest.trees) push ∙ append_assoc middle (Makes q ∷ []) (forest_moves rest.trees)
@@ -103,7 +103,7 @@ module _ (g : Grammar) (token p : ℕ) (asked : Bool) (old : List MoveOf) where
               moves = moves ∙ ap (λ ms. old ++ ms) is;
               leads =
                   λ front.
-                  subst (λ (ms : List MoveOf). LeadsUp g token (place_at front p 0 asked) ms (place_at front x.prod x.dot x.further)) is (all front);
+                  subst (λ (ms : List MoveOf). LeadsUp g token (path_item front p 0 asked) ms (path_item front x.prod x.dot x.further)) is (all front);
             }
         | inr later ↦
             let is : path.done ++ Makes q ∷ forest_moves rest.trees ≡ Makes p ∷ (later.0 ++ Makes q ∷ forest_moves rest.trees) =
@@ -112,7 +112,7 @@ module _ (g : Grammar) (token p : ℕ) (asked : Bool) (old : List MoveOf) where
               moves = moves ∙ ap (λ ms. old ++ ms) is;
               leads =
                   λ front.
-                  subst (λ (ms : List MoveOf). LeadsUp g token (place_at front p 0 asked) ms (place_at front x.prod x.dot x.further)) is (all front);
+                  subst (λ (ms : List MoveOf). LeadsUp g token (path_item front p 0 asked) ms (path_item front x.prod x.dot x.further)) is (all front);
             }
       ]
 
@@ -124,8 +124,8 @@ module _ (g : Grammar) (token p : ℕ) (asked : Bool) (old : List MoveOf) where
     moves = to_kernel.moves;
     leads =
         λ before.
-        subst (λ (b : Bool). LeadsUp g token (place_at before p 0 asked) (Makes p ∷ to_kernel.more) (place_at before q 0 b)) same
-        (subst (λ (n : ℕ). LeadsUp g token (place_at before p 0 asked) (Makes p ∷ to_kernel.more) (place_at before q n further)) front (to_kernel.leads before));
+        subst (λ (b : Bool). LeadsUp g token (path_item before p 0 asked) (Makes p ∷ to_kernel.more) (path_item before q 0 b)) same
+        (subst (λ (n : ℕ). LeadsUp g token (path_item before p 0 asked) (Makes p ∷ to_kernel.more) (path_item before q n further)) front (to_kernel.leads before));
     begins = inr (to_kernel.more, refl);
   }
 

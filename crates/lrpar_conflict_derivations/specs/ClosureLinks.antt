@@ -27,7 +27,7 @@ pub record LinkOf : Type 0 where
   pub further : Bool
   pub above : ℕ
 
--- the same of the code's links
+-- links as they are stored, with numbers for their rules and productions
 abbrev pub link_of : {S : Type 0} → (S → ℕ) → Link S → LinkOf
 link_of index x =
     record { rule = index x.rule.0; asked = x.asked; prod = index x.prod.0; dot = x.dot; further = x.further; above = x.above }
@@ -71,7 +71,7 @@ AreNoted g token links q j further =
     (r : ℕ) (w : List GrammarSymbol) (asked : Bool) → drop j (symbols_of g q) ≡ Nonterminal r ∷ w → PassesOn g token w asked further
     → HasLink links asked r
 
--- links were appended, each of them is good
+-- links were appended, each of which has the property `Good`
 pub record ArePut (Good : LinkOf → Type 0) (old new : List LinkOf) : Type 0 where
   pub more : List LinkOf
   pub put : new ≡ old ++ more
@@ -132,7 +132,7 @@ pub record IsLink (g : Grammar) (set : ItemOf → Type 0) (token : ℕ) (links :
       ⊎ ((x.dot ≡ 0) × (x.prod ≢ start_prod g) × (x.above < i) × ((link_at links x.above).rule ≡ rule_of g x.prod)
       × ((link_at links x.above).asked ≡ x.further))
 
--- each link is one
+-- each link is a step from a kernel item, or from an item that comes by an earlier link
 abbrev pub AreLinks : Grammar → (ItemOf → Type 0) → ℕ → List LinkOf → Type 0
 AreLinks g set token links = (i : ℕ) → i < length links → IsLink g set token links i
 
@@ -143,7 +143,7 @@ LinkAll g set token links =
     (y : ItemOf) (asked : Bool) → set y → y.dot ≡ 0 → y.prod ≢ start_prod g → (IsTrue asked → y.token ≡ token)
     → HasLink links asked (rule_of g y.prod)
 
--- each of these items of rule r has a link of it
+-- each item of rule r with the dot at the front has a link of r; if its lookahead is the token, also one that asks for it
 abbrev pub LinkRule : Grammar → (ItemOf → Type 0) → ℕ → List LinkOf → ℕ → Bool → Type 0
 LinkRule g set token links r asked =
     (y : ItemOf) → set y → y.dot ≡ 0 → y.prod ≢ start_prod g → (IsTrue asked → y.token ≡ token) → rule_of g y.prod ≡ r → HasLink links asked r

@@ -35,7 +35,7 @@ Finishes g front p k later text =
     (trees rest : Forest ℕ) → AreTreesOf g front trees → AreTreesOf g (drop k (symbols_of g p)) rest
     → (tree : Tree ℕ) × IsFinished g trees rest later text tree
 
--- if it is asked for, the token comes next
+-- if the token is asked for, it comes next
 abbrev pub IsNextIf : Grammar → ℕ → Bool → List ℕ → Type 0
 IsNextIf g token asked text = IsTrue asked → IsNext g token text
 
@@ -44,23 +44,23 @@ abbrev pub FinishesWith : Grammar → ℕ → Bool → List GrammarSymbol → �
 FinishesWith g token asked front p k later = (text : List ℕ) × Finishes g front p k later text × IsNextIf g token asked text
 
 -- a place on the path up: the symbols before it, a production and its dot, and whether the token is asked for
-pub record Place : Type 0 where
+pub record PathItem : Type 0 where
   pub front : List GrammarSymbol
   pub prod : ℕ
   pub dot : ℕ
   pub asked : Bool
 
 -- moves that complete a tree from the place
-abbrev pub FinishesAt : Grammar → ℕ → Place → List MoveOf → Type 0
+abbrev pub FinishesAt : Grammar → ℕ → PathItem → List MoveOf → Type 0
 FinishesAt g token place later = FinishesWith g token place.asked place.front place.prod place.dot later
 
 -- the moves lead from one place up to another: after them, whatever completes a tree from there completes it from here
-abbrev pub LeadsUp : Grammar → ℕ → Place → List MoveOf → Place → Type 0
+abbrev pub LeadsUp : Grammar → ℕ → PathItem → List MoveOf → PathItem → Type 0
 LeadsUp g token from moves to = (later : List MoveOf) → FinishesAt g token to later → FinishesAt g token from (moves ++ later)
 
 -- the place with the dot of production p at k
-abbrev pub place_at : List GrammarSymbol → ℕ → ℕ → Bool → Place
-place_at front p k asked = record { front = front; prod = p; dot = k; asked = asked }
+abbrev pub path_item : List GrammarSymbol → ℕ → ℕ → Bool → PathItem
+path_item front p k asked = record { front = front; prod = p; dot = k; asked = asked }
 
 -- Moves of trees of the symbols after a link's rule were appended. If the token is asked for, the trees begin with it; or they have no
 -- tokens, and it is asked for further up
@@ -79,7 +79,7 @@ pub record IsUpLink (g : Grammar) (token : ℕ) (links : List LinkOf) (i : ℕ) 
   pub above : let x = link_at links i in x.dot ≡ 0 → x.prod ≢ start_prod g
       → (x.above < i) × ((link_at links x.above).rule ≡ rule_of g x.prod) × ((link_at links x.above).asked ≡ x.further)
 
--- each link is one
+-- each link leads up: its production is one of a reachable rule, and an item with the dot at the front has an earlier link of its rule
 abbrev pub AreUpLinks : Grammar → ℕ → List LinkOf → Type 0
 AreUpLinks g token links = (i : ℕ) → i < length links → IsUpLink g token links i
 
@@ -89,7 +89,7 @@ pub record UpOf : Type 0 where
   pub dot : ℕ
   pub asked : Bool
 
--- the same of the code
+-- a kernel item as it is stored, with a number for its production
 abbrev pub up_of : {S : Type 0} → (S → ℕ) → Up S → UpOf
 up_of index up = record { prod = index up.prod.0; dot = up.dot; asked = up.asked }
 
@@ -98,7 +98,7 @@ up_of index up = record { prod = index up.prod.0; dot = up.dot; asked = up.asked
 pub record LeadsToKernel (g : Grammar) (token p : ℕ) (asked : Bool) (old new : List MoveOf) (up : UpOf) : Type 0 where
   pub more : List MoveOf
   pub moves : new ≡ old ++ Makes p ∷ more
-  pub leads : (front : List GrammarSymbol) → LeadsUp g token (place_at front p 0 asked) (Makes p ∷ more) (place_at front up.prod up.dot up.asked)
+  pub leads : (front : List GrammarSymbol) → LeadsUp g token (path_item front p 0 asked) (Makes p ∷ more) (path_item front up.prod up.dot up.asked)
 
 -- a link comes from this item, and it is the topmost one
 pub record EndsLink (g : Grammar) (links : List LinkOf) (up : UpOf) : Type 0 where
@@ -125,5 +125,5 @@ HasItemFor graph s token p k asked = (t : ℕ) × HasItem graph s p k t × (IsTr
 pub record HasFinished (g : Grammar) (token : ℕ) (front : List GrammarSymbol) (p k : ℕ) (asked : Bool) (old new : List MoveOf) : Type 0 where
   pub later : List MoveOf
   pub moves : new ≡ old ++ later
-  pub finishes : FinishesAt g token (place_at front p k asked) later
+  pub finishes : FinishesAt g token (path_item front p k asked) later
   pub reduces : p ≢ start_prod g → (rest : List MoveOf) × (later ≡ Makes p ∷ rest)

@@ -16,7 +16,7 @@ pub record ConflictOf : Type 0 where
   pub one : MoveOf
   pub other : MoveOf
 
--- the same of the code
+-- a conflict as it is stored, with numbers for its state, its token and its moves
 abbrev pub conflict_of : {S : Type 0} → (S → ℕ) → Conflict S → ConflictOf
 conflict_of index x = record { state = index x.state.0; token = index x.token.0; one = move_of index x.one; other = move_of index x.other }
 

@@ -68,7 +68,8 @@ pub record ExamplesOf : Type 0 where
   pub shortest : List (Option ChoiceOf)
   pub access : List (Option AccessOf)
 
--- they are those of a table that was built of a grammar whose reachable rules are productive; numbers of tokens are exact up to `most`
+-- the parts of counterexamples are those of a table that was built of a grammar whose reachable rules are productive; numbers of tokens
+-- are exact up to `most`
 pub record AreExamplesFor (g : Grammar) (graph : Graph) (table : Table) (most : ℕ) (x : ExamplesOf) : Type 0 where
   pub firsts : AreFirsts g x.firsts
   pub shortest : AreShortest g most x.shortest
@@ -87,7 +88,7 @@ pub record IsFront (g : Grammar) (graph : Graph) (s : ℕ) (steps : List StepOf)
   pub text : IsTextTo g graph s (forest_leaves trees) (symbols_in steps) trees
   pub moves_are : moves ≡ forest_moves trees
 
--- the same, and its text is a shortest access string
+-- the steps of an access path of state s, and moves of trees of its symbols, whose text is a shortest access string
 pub record IsShortestFront (g : Grammar) (graph : Graph) (s : ℕ) (steps : List StepOf) (moves : List MoveOf) : Type 0 where
   pub front : IsFront g graph s steps moves
   pub least : IsLeastTo g graph s (tokens_in moves)

@@ -79,11 +79,11 @@ has_token set token dummy = nat_lt token dummy && has set.bits.items token
 abbrev pub text_of : {S : Type 0} → (S → ℕ) → List (Move S) → List ℕ
 text_of index moves = tokens_in (moves_in index moves)
 
--- both shift the same tokens
+-- both lists of moves shift the same tokens
 abbrev pub HaveOneText : {S : Type 0} → (S → ℕ) → List (Move S) → List (Move S) → Type 0
 HaveOneText index first second = text_of index first ≡ text_of index second
 
--- both shift the same number of tokens
+-- both lists of moves shift the same number of tokens
 abbrev pub HaveAsMany : {S : Type 0} → (S → ℕ) → List (Move S) → List (Move S) → Type 0
 HaveAsMany index one other = length (text_of index one) ≡ length (text_of index other)
 
@@ -164,17 +164,17 @@ AreAccessPath index g graph steps last = IsAccessPath g graph (steps_of index st
 abbrev pub AreMovesTo : {S : Type 0} → (S → ℕ) → Grammar → Graph → StIdx S → List (Step S) → List (Move S) → Type 0
 AreMovesTo index g graph state steps moves = IsFront g graph (index state.0) (steps_of index steps) (moves_in index moves)
 
--- none, or such moves
+-- no moves, or those of trees of the symbols of the steps, which are an access path of the state
 abbrev pub FindsMovesTo : {S A : Type 0} → (S → ℕ) → Context S → StIdx S → List (Step S) → Option (Vec (Move S) A) → Type 0
 FindsMovesTo index context state steps = λ found.
     IfSome found (λ moves. AreMovesTo index context.grm.now context.graph.now state steps moves.items)
 
--- the same, and the text of the moves is a shortest access string
+-- the front's steps are an access path of the state, and its moves those of trees of its symbols; their text is a shortest access string
 abbrev pub IsFrontTo : {S : Type 0} → (S → ℕ) → Grammar → Graph → StIdx S → Front S → Type 0
 IsFrontTo index g graph state front =
     IsShortestFront g graph (index state.0) (steps_of index front.steps.items) (moves_in index front.moves.items)
 
--- the front is one to the conflict's state
+-- the front leads to the conflict's state, and its text is a shortest access string
 abbrev pub IsFrontIn : {S : Type 0} → (S → ℕ) → Context S → Conflict S → Front S → Type 0
 IsFrontIn index context conflict front = IsFrontTo index context.grm.now context.graph.now conflict.state front
 
@@ -185,7 +185,7 @@ IsExampleAfter index g conflict front short x =
     → IsShortestFront g graph s short_steps (moves_in index short)
     → IsExample g graph s (index conflict.token.0) (move_of index conflict.one) (move_of index conflict.other) x
 
--- none, or such a counterexample with this bound
+-- none, or a counterexample of the conflict by `IsExampleAfter`, with this bound
 abbrev pub FindsExampleAfter : {S : Type 0} → (S → ℕ) → Grammar → Conflict S → List (Move S) → List (Move S) → ℕ → Option ExampleOf → Type 0
 FindsExampleAfter index g conflict front short bound = λ found.
     IfSome found (λ x. IsExampleAfter index g conflict front short x × (x.bound ≡ bound))
@@ -195,7 +195,7 @@ abbrev pub FindsExampleOf : {S : Type 0} → (S → ℕ) → Grammar → Graph �
 FindsExampleOf index g graph conflict bound = λ found.
     IfSome found (λ x. IsExampleOf g graph (conflict_of index conflict) x × (x.bound ≡ bound))
 
--- the same of the search's grammar and item sets
+-- none, or a counterexample of the conflict with this bound, for the grammar and the item sets of the search
 abbrev pub FindsExample : {S : Type 0} → (S → ℕ) → Context S → Conflict S → ℕ → Option ExampleOf → Type 0
 FindsExample index context conflict bound = FindsExampleOf index context.grm.now context.graph.now conflict bound
 
@@ -222,7 +222,7 @@ abbrev pub DerivesBy : {S : Type 0} → (S → ℕ) → Grammar → List (Step S
 DerivesBy index g steps front token next moves =
     Derives g (steps_of index steps) (index token.0) (moves_in index front) (move_of index next) (moves_in index moves)
 
--- the same after the moves of this front
+-- a derivation that begins with the moves of this front goes on with this move, at the token
 abbrev pub GoesOnBy : {S A : Type 0} → (S → ℕ) → Grammar → Front S → TIdx S → Move S → Vec (Move S) A → Type 0
 GoesOnBy index g front token next moves = DerivesBy index g front.steps.items front.moves.items token next moves.items
 
@@ -230,7 +230,7 @@ GoesOnBy index g front token next moves = DerivesBy index g front.steps.items fr
 abbrev pub HasItemWith : {S : Type 0} → (S → ℕ) → Graph → StIdx S → TIdx S → PIdx S × ℕ → Bool → Type 0
 HasItemWith index graph state token core asked = HasItemFor graph (index state.0) (index token.0) (index core.0.0) core.1 asked
 
--- this is such an item, with whether the token is asked for
+-- this is the core of an item of the state, with whether the token is asked for
 abbrev pub IsItemWith : {S : Type 0} → (S → ℕ) → Graph → StIdx S → TIdx S → (PIdx S × ℕ) × Bool → Type 0
 IsItemWith index graph state token = λ begun. HasItemWith index graph state token begun.0 begun.1
 
@@ -251,8 +251,8 @@ abbrev pub IsStepLink : {S : Type 0} → (S → ℕ) → Grammar → TIdx S → 
 IsStepLink index g token link = IsOwnStep g (index token.0) (link_of index link)
 
 -- the production's rule is reachable
-abbrev pub IsOfReached : {S : Type 0} → (S → ℕ) → Grammar → PIdx S → Type 0
-IsOfReached index g prod = IsReachableRule g (rule_of g (index prod.0))
+abbrev pub HasReachableRule : {S : Type 0} → (S → ℕ) → Grammar → PIdx S → Type 0
+HasReachableRule index g prod = IsReachableRule g (rule_of g (index prod.0))
 
 -- the links lead up to kernel items
 abbrev pub LeadUp : {S : Type 0} → (S → ℕ) → Grammar → TIdx S → List (Link S) → Type 0
@@ -293,7 +293,7 @@ FindsLink index links rule asked found =
 abbrev pub AreLinksOf : {S : Type 0} → (S → ℕ) → Grammar → Graph → StIdx S → TIdx S → List (Link S) → Type 0
 AreLinksOf index g graph state token links = AreLinks g (sets_of graph (index state.0)) (index token.0) (links_of index links)
 
--- the state's items of the rule have a link of it
+-- the state's items of the rule with the dot at the front have a link of the rule
 abbrev pub LinkItemsOf : {S : Type 0} → (S → ℕ) → Grammar → Graph → StIdx S → TIdx S → RIdx S → Bool → List (Link S) → Type 0
 LinkItemsOf index g graph state token rule asked links =
     LinkRule g (sets_of graph (index state.0)) (index token.0) (links_of index links) (index rule.0) asked
@@ -315,11 +315,11 @@ IsKernelCore index g graph state core =
 abbrev pub links_in : {S : Type 0} → (S → ℕ) → Found S → List LinkOf
 links_in index found = links_of index found.links.items
 
--- there are none
+-- no links were found
 abbrev pub HasNoLinks : {S : Type 0} → (S → ℕ) → Found S → Type 0
 HasNoLinks index = λ found. links_in index found ≡ []
 
--- there is one with this number
+-- a link with this number was found
 abbrev pub HasLinkAt : {S : Type 0} → Found S → ℕ → Type 0
 HasLinkAt found at = at < length found.links.items
 
@@ -332,8 +332,8 @@ abbrev pub HasNoMarks : {A : Type 0} → Vec Bool A → Type 0
 HasNoMarks marks = (r : ℕ) → has marks.items r ≡ false
 
 -- one of the marks is for the link's rule
-abbrev pub HasPlaceFor : {S A : Type 0} → (S → ℕ) → Vec Bool A → Link S → Type 0
-HasPlaceFor index marks link = index link.rule.0 < length marks.items
+abbrev pub HasMarkForLink : {S A : Type 0} → (S → ℕ) → Vec Bool A → Link S → Type 0
+HasMarkForLink index marks link = index link.rule.0 < length marks.items
 
 -- of this number of rules those with links are marked
 abbrev pub AreMarkedOf : {S : Type 0} → (S → ℕ) → ℕ → Found S → Type 0
@@ -347,7 +347,7 @@ AreMarked index g found = AreMarkedOf index (rules_len g) found
 abbrev pub HasMarks : {S : Type 0} → (S → ℕ) → Found S → Type 0
 HasMarks index found = AreMarkedOf index (length found.any.items) found
 
--- they still are
+-- the rules with links are still marked
 abbrev pub KeepsMarks : {S : Type 0} → (S → ℕ) → Found S → Found S → Type 0
 KeepsMarks index old new = AreMarkedOf index (length old.any.items) new
 

@@ -17,6 +17,6 @@ token_numbers index tokens = map (λ t. index t.0) tokens
 abbrev pub BeginsBy : MoveOf → List MoveOf → Type 0
 BeginsBy next moves = (later : List MoveOf) × (moves ≡ next ∷ later)
 
--- the first token that they shift is this one
+-- the first token that the moves shift is this one
 abbrev pub ShiftsFirst : ℕ → List MoveOf → Type 0
 ShiftsFirst token moves = (rest : List ℕ) × (tokens_in moves ≡ token ∷ rest)

@@ -3,7 +3,7 @@ ghost use Rattle.std.specs.Prelude.{◌<◌, ◌≤◌, ◌⊎◌, IfOk, OnOk, l
 ghost use Rattle.std.specs.Bool.{OnFalse, OnTrue};
 ghost use Rattle.lrpar_grammar.specs.Grammar.{IsWellFormed, rules_len};
 ghost use Rattle.lrpar_table_first.specs.FirstRows.{AreFirsts, rows_of};
-ghost use Rattle.lrpar_conflict_derivations.specs.Stored.{AreLinksOf, AreMarked, AreMarkedOf, AsksFor, HasLinkAt, HasMarkFor, HasMarks, HasNoLinks, HasNoMarks, HasPlaceFor, HasRoom, HaveLinks, IsCoreOf, IsKernelCore, IsLinked, IsTokenOf, KeepsMarks, LinkItemsOf, NotesBelow, NotesCore, NotesKernel, NotesKernelCore, PutsBelow, PutsFromKernel, PutsLink, PutsMarked, PutsSteps};
+ghost use Rattle.lrpar_conflict_derivations.specs.Stored.{AreLinksOf, AreMarked, AreMarkedOf, AsksFor, HasLinkAt, HasMarkFor, HasMarks, HasNoLinks, HasNoMarks, HasMarkForLink, HasRoom, HaveLinks, IsCoreOf, IsKernelCore, IsLinked, IsTokenOf, KeepsMarks, LinkItemsOf, NotesBelow, NotesCore, NotesKernel, NotesKernelCore, PutsBelow, PutsFromKernel, PutsLink, PutsMarked, PutsSteps};
 
 use crate::begins::can_begin;
 use lrpar_grammar::grammar::YaccGrammar;
@@ -274,7 +274,7 @@ fn put<StorageT: StorageIndex>(
     links: &mut Vec<Link<StorageT>>,
     marks: &mut Vec<bool>,
 ) -> Result<(), AllocError>
-    requires rule { HasPlaceFor StorageT.index marks.old link }
+    requires rule { HasMarkForLink StorageT.index marks.old link }
     requires linked { HaveLinks StorageT.index links.old.items marks.old.items link.asked }
     ensures { OnOk result (PutsMarked StorageT.index link links.old.items links.new.items marks.old.items marks.new.items) }
 {

@@ -5,7 +5,7 @@ ghost use Rattle.lrpar_table_first.specs.FirstRows.{rows_of};
 ghost use Rattle.lrpar_table_sentences.specs.Choices.{AreShortest};
 ghost use Rattle.lrpar_table_sentences.specs.Reachable.{EachReachableHasTree};
 ghost use Rattle.lrpar_conflict_derivations.specs.Completion.{CanComplete};
-ghost use Rattle.lrpar_conflict_derivations.specs.Stored.{AppendsRest, AppendsWayUp, AreAccessPath, Completes, EndsInKernel, FindsLink, HasItemWith, HasLinkOf, IsOfReached, IsStateBefore, IsStateOf, IsStepLink, IsTokenOf, IsTopOf, LeadUp};
+ghost use Rattle.lrpar_conflict_derivations.specs.Stored.{AppendsRest, AppendsWayUp, AreAccessPath, Completes, EndsInKernel, FindsLink, HasItemWith, HasLinkOf, HasReachableRule, IsStateBefore, IsStateOf, IsStepLink, IsTokenOf, IsTopOf, LeadUp};
 
 use crate::closure_links::{Link, links_to};
 use lrpar_grammar::grammar::YaccGrammar;
@@ -39,7 +39,7 @@ fn push_rest<StorageT: StorageIndex>(
     requires each { EachReachableHasTree grm.now }
     requires token { IsTokenOf StorageT.index grm.now token }
     requires step { IsStepLink StorageT.index grm.now token link }
-    requires reached { IsOfReached StorageT.index grm.now link.prod }
+    requires reached { HasReachableRule StorageT.index grm.now link.prod }
     ensures { OnOk result (AppendsRest StorageT.index grm.now token link out.old.items out.new.items) }
 {
     let rest = &grm.prod(link.prod)[link.dot + 1..];
@@ -126,7 +126,7 @@ fn complete_in_state<StorageT: StorageIndex>(
     ensures begun { IfOk result (EndsInKernel StorageT.index grm.now graph.now state token) }
 {
     // The proof needs that the grammar is well-formed.
-    let _start = grm.start_prod();
+    let _lemma = grm.start_prod();
     let rule = grm.prod_to_rule(prod);
     let links = links_to(alloc, grm, firsts, graph, state, token, rule, asked)?;
     complete_by_links(alloc, grm, shortest, &links, prod, asked, token, out)

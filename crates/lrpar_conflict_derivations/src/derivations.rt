@@ -68,7 +68,7 @@ fn push_next<StorageT: StorageIndex>(
     ensures begun { IfOk result (BeginsNext StorageT.index grm.now token next out.old.items out.new.items) }
 {
     // The proof needs that the grammar is well-formed.
-    let _start = grm.start_prod();
+    let _lemma = grm.start_prod();
     match next {
         Move::Make(prod) => Ok(((prod, grm.prod(prod).len()), true)),
         Move::Take(_) => {

@@ -259,8 +259,8 @@ impl<StorageT: StorageIndex> Examples<StorageT> {
         ensures { IfOk result (IsFrontTo StorageT.index grm.now sgraph.now state) }
     {
         // The proof needs that the grammar is well-formed and that the table is closed.
-        let _start = grm.start_prod();
-        let _states = stable.states_len();
+        let _lemma = grm.start_prod();
+        let _lemma = stable.states_len();
         let mut steps = Vec::new(alloc);
         self.access.push_path(&mut steps, state)?;
         let symbols = symbols_of(alloc, &steps)?;
@@ -268,8 +268,8 @@ impl<StorageT: StorageIndex> Examples<StorageT> {
         self.shortest
             .push_all_moves(alloc, &mut moves, grm, &symbols)?;
         // The proof needs that the moves, and so the access string, are no longer than a number of the machine.
-        let _moves = moves.as_slice();
-        let _len = moves.len();
+        let _lemma = moves.as_slice();
+        let _lemma = moves.len();
         Ok(Front { steps, moves })
     }
 

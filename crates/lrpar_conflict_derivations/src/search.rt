@@ -61,8 +61,8 @@ impl<StorageT: StorageIndex> Configuration<StorageT> {
         }
     }
 
-    // The same with this level at the top of the side's stack, after a reduction of the production.
-    fn reduced(&self, side: Side, level: usize, prod: PIdx<StorageT>) -> Self {
+    // The configuration after a reduction of the production, which leaves this level at the top of the side's stack.
+    fn with_reduction(&self, side: Side, level: usize, prod: PIdx<StorageT>) -> Self {
         let origin = Origin::Reduced(side, prod);
         match side {
             Side::First => Configuration {
@@ -183,8 +183,8 @@ impl<StorageT: StorageIndex> Search<StorageT> {
         len: usize,
     ) -> Result<(), AllocError> {
         self.begun = self.begun.saturating_add(1);
-        let one = self.moved(context, level, conflict.one)?;
-        let other = self.moved(context, level, conflict.other)?;
+        let one = self.apply_move(context, level, conflict.one)?;
+        let other = self.apply_move(context, level, conflict.other)?;
         self.add(Configuration {
             one,
             other,
@@ -199,14 +199,14 @@ impl<StorageT: StorageIndex> Search<StorageT> {
     }
 
     // The level after a reduction; a shift comes later, and leaves the level.
-    fn moved(
+    fn apply_move(
         &mut self,
         context: &Context<'_, StorageT>,
         level: usize,
         next: Move<StorageT>,
     ) -> Result<usize, AllocError> {
         match next {
-            Move::Make(prod) => self.stacks.reduced(context, level, prod),
+            Move::Make(prod) => self.stacks.reduce(context, level, prod),
             Move::Take(_) => Ok(level),
         }
     }
@@ -335,12 +335,12 @@ impl<StorageT: StorageIndex> Search<StorageT> {
             if context.is_complete(*core)
                 && can_reduce(context, conflict, configuration, state, core.0)
             {
-                let reduced = self.stacks.reduced(context, level, core.0)?;
+                let reduced = self.stacks.reduce(context, level, core.0)?;
                 let empty = configuration.empty.saturating_add(empty_of(core.1));
                 self.add(Configuration {
                     empty,
                     parent,
-                    ..configuration.reduced(side, reduced, core.0)
+                    ..configuration.with_reduction(side, reduced, core.0)
                 })?;
             }
         }

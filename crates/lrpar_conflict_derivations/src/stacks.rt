@@ -151,7 +151,7 @@ impl<StorageT: StorageIndex> Stacks<StorageT> {
     }
 
     /// The level after a reduction of the production, or `NONE` if it isn't possible.
-    pub(crate) fn reduced(
+    pub(crate) fn reduce(
         &mut self,
         context: &Context<'_, StorageT>,
         level: usize,

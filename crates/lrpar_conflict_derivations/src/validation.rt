@@ -61,8 +61,8 @@ fn path_moves<StorageT: StorageIndex>(
     ensures { IfOk result (FindsMovesTo StorageT.index context.now state steps.now) }
 {
     // The proof needs that the grammar is well-formed and that the table is closed.
-    let _start = context.grm.start_prod();
-    let _states = context.table.states_len();
+    let _lemma = context.grm.start_prod();
+    let _lemma = context.table.states_len();
     if !lead(context.table, steps, state) {
         return Ok(None);
     }

@@ -15,7 +15,7 @@ use Rattle.lrpar_table_rows.specs.Table.{IsClosed, Table, TableAction, ShiftTo, 
 use Rattle.lrpar_table_build.proofs.MemberLemmas.{joined_has, joined_member, member_cases, member_none, range_has, range_member}
 use Rattle.lrpar_table_sentences.specs.AccessLens.{IsStoredAt}
 use Rattle.lrpar_table_sentences.specs.Reachable.{is_marked}
-use Rattle.lrpar_conflict_examples.specs.Met.{AreMarks, AreMet, AreSteps, AreTakenAway, Goes, IsMet, IsStep, IsStepOf, MarksNext, Shifts, Starts, Steps, goto_steps, shift_step, shift_steps, steps_at, steps_below}
+use Rattle.lrpar_conflict_examples.specs.Met.{AreMarks, AreMet, AreSteps, AreLostShifts, Goes, IsMet, IsStep, IsStepOf, MarksNext, Shifts, Starts, Steps, goto_steps, shift_step, shift_steps, steps_at, steps_below}
 
 -- a marked state is in range
 marked_within : (marks : List Bool) (s : ℕ) → IsTrue (is_marked marks s) → s < length marks
@@ -111,7 +111,7 @@ all_met precedences table edges marks steps are closed = record { states = are.s
         let next_is : MarksNext marks (s, n) = subst (MarksNext marks) there.2 (closed there.0 (s, n) there.1) in
         next_is before
 
-module _ (precedences : PrecedenceLists) (table : Table) (rows : List (List Bool)) (taken : AreTakenAway precedences table rows) (closed : IsClosed table)
+module _ (precedences : PrecedenceLists) (table : Table) (rows : List (List Bool)) (taken : AreLostShifts precedences table rows) (closed : IsClosed table)
     (past_tokens : (s t : ℕ) → table.tokens ≤ t → action_of table s t ≡ Fails) (stored : (s : ℕ) → s < states_len table → IsStoredAt table s) where
   -- a shift is at a token of the table
   token_within : (s t next : ℕ) → action_of table s t ≡ ShiftTo next → t < table.tokens

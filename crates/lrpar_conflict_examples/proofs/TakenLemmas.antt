@@ -12,7 +12,7 @@ use Rattle.lrpar_table_first.proofs.GrowthLemmas.{row_in, rows-set}
 use Rattle.lrpar_table_precedence.specs.Precedence.{PrecedenceLists, resolution_of}
 use Rattle.lrpar_table_rows.specs.Table.{ShiftReduce, Table, states_len}
 use Rattle.lrpar_table_build.specs.BuilderLaws.{lists_in}
-use Rattle.lrpar_conflict_examples.specs.Met.{AreTakenAway, loses_shift, takes_away}
+use Rattle.lrpar_conflict_examples.specs.Met.{AreLostShifts, loses_shift, loses_shift_at}
 
 pub or_nothing : (x : Bool) → (x || false) ≡ x
 or_nothing true = refl
@@ -89,29 +89,29 @@ room_in sets s n d within room = subst (λ (row : List Bool). length row ≤ n) 
 module _ (precedences : PrecedenceLists) (s t : ℕ) where
   -- whether the shift of a conflict is taken away, by what precedences decide of it
   pub takes_if : (x : ShiftReduce) (b : Bool) → loses_shift (resolution_of precedences x.prod x.token) ≡ b
-      → takes_away precedences s t x ≡ (b && ((x.state == s) && (x.token == t)))
+      → loses_shift_at precedences s t x ≡ (b && ((x.state == s) && (x.token == t)))
   takes_if x b is = ap (λ c. c && ((x.state == s) && (x.token == t))) is
 
   -- a conflict more, whose shift is taken away
   pub taken_more : (before after : List ShiftReduce) (x : ShiftReduce) (was old now : Bool) → after ≡ before ++ x ∷ []
-      → old ≡ (was || list_any (takes_away precedences s t) before) → now ≡ (old || takes_away precedences s t x)
-      → now ≡ (was || list_any (takes_away precedences s t) after)
+      → old ≡ (was || list_any (loses_shift_at precedences s t) before) → now ≡ (old || loses_shift_at precedences s t x)
+      → now ≡ (was || list_any (loses_shift_at precedences s t) after)
   taken_more before after x was old now more so_far is =
-      let f = takes_away precedences s t in
+      let f = loses_shift_at precedences s t in
       is ∙ ap (λ b. b || f x) so_far ∙ or_assoc was (list_any f before) (f x)
       ∙ ap (λ b. was || (list_any f before || b)) (sym (or_nothing (f x)))
       ∙ ap (λ b. was || b) (sym (list_any-append f before (x ∷ [])))
       ∙ ap (λ xs. was || list_any f xs) (sym more)
 
 -- no conflict is taken away yet
-pub taken_first : (precedences : PrecedenceLists) (s t : ℕ) (was : Bool) → was ≡ (was || list_any (takes_away precedences s t) [])
+pub taken_first : (precedences : PrecedenceLists) (s t : ℕ) (was : Bool) → was ≡ (was || list_any (loses_shift_at precedences s t) [])
 taken_first precedences s t was = sym (or_nothing was)
 
 -- the sets have exactly the tokens whose shift is taken away
 pub taken_by : (precedences : PrecedenceLists) (table : Table) (old new : List (List Bool)) (conflicts : List ShiftReduce)
     → map (λ row. length row) new ≡ map (λ row. length row) old → length old ≡ states_len table → All (λ row. length row ≡ table.tokens) old → HoldNothing old
-    → ((s t : ℕ) → t < length (row_at old s) → has (row_at new s) t ≡ (has (row_at old s) t || list_any (takes_away precedences s t) conflicts))
-    → conflicts ≡ (lists_in table.conflicts).shift_reduce → AreTakenAway precedences table new
+    → ((s t : ℕ) → t < length (row_at old s) → has (row_at new s) t ≡ (has (row_at old s) t || list_any (loses_shift_at precedences s t) conflicts))
+    → conflicts ≡ (lists_in table.conflicts).shift_reduce → AreLostShifts precedences table new
 taken_by precedences table old new conflicts rooms states wide none exact are = record {
   states =
       let first = length-map new (λ row. length row) in
@@ -121,18 +121,18 @@ taken_by precedences table old new conflicts rooms states wide none exact are = 
   exact = λ s t s_low t_low.
       let inside : s < length old = omega (arith, states, s_low) in
       let room : t < length (row_at old s) = let here = wide s [] inside in omega (arith, here, t_low) in
-      exact s t room ∙ ap (λ b. b || list_any (takes_away precedences s t) conflicts) (none s t)
-      ∙ ap (λ xs. list_any (takes_away precedences s t) xs) are;
+      exact s t room ∙ ap (λ b. b || list_any (loses_shift_at precedences s t) conflicts) (none s t)
+      ∙ ap (λ xs. list_any (loses_shift_at precedences s t) xs) are;
 }
 
 -- one conflict more in the sets, by what is done for it
 module _ (precedences : PrecedenceLists) (s t : ℕ) (x : ShiftReduce) (old now : Bool) (b : Bool) (decided : loses_shift (resolution_of precedences x.prod x.token) ≡ b) where
   pub taken_then : (state token : ℕ) → b ≡ true → state ≡ x.state → token ≡ x.token → now ≡ (old || ((state == s) && (token == t)))
-      → now ≡ (old || takes_away precedences s t x)
+      → now ≡ (old || loses_shift_at precedences s t x)
   taken_then state token is state_is token_is put =
       put ∙ ap (λ a. old || ((a == s) && (token == t))) state_is ∙ ap (λ a. old || ((x.state == s) && (a == t))) token_is
       ∙ ap (λ c. old || c) (sym (takes_if precedences s t x true (decided ∙ is)))
 
-  pub taken_else : b ≡ false → now ≡ old → now ≡ (old || takes_away precedences s t x)
+  pub taken_else : b ≡ false → now ≡ old → now ≡ (old || loses_shift_at precedences s t x)
   taken_else is same =
       same ∙ sym (ap (λ c. old || c) (takes_if precedences s t x false (decided ∙ is)) ∙ or_nothing old)

@@ -18,15 +18,15 @@ pub record ConflictOf : Type 0 where
   pub first : MoveOf
   pub second : MoveOf
 
--- two reductions, of their productions
+-- a reduce/reduce conflict: the moves are two reductions
 abbrev pub of_reductions : ReduceReduce → ConflictOf
 of_reductions x = record { token = x.token; state = x.state; first = Makes x.first; second = Makes x.second }
 
--- a reduction of a production, and a shift of the token
+-- a shift/reduce conflict: the moves are a reduction and a shift of the token
 abbrev pub of_shift : ShiftReduce → ConflictOf
 of_shift x = record { token = x.token; state = x.state; first = Makes x.prod; second = Takes x.token }
 
--- a conflict of the code, and conflicts in order
+-- a conflict as it is stored, by its numbers, and conflicts in order
 abbrev pub unmet_of : {S : Type 0} → (S → ℕ) → UnmetConflict S → ConflictOf
 unmet_of index x = record { token = index x.token.0; state = index x.state.0; first = move_of index x.first; second = move_of index x.second }
 
@@ -39,7 +39,7 @@ pub record AreAlike (one other : ConflictOf) : Type 0 where
   pub first : one.first ≡ other.first
   pub second : one.second ≡ other.second
 
--- each of the first list is in the second
+-- each element of the first list is in the second
 abbrev pub AreAmong : {X : Type 0} → List X → List X → Type 0
 AreAmong {X} xs all = (x : X) → Contains xs x → Contains all x
 
@@ -47,21 +47,21 @@ AreAmong {X} xs all = (x : X) → Contains xs x → Contains all x
 abbrev pub conflicts_in : ConflictLists → List ConflictOf
 conflicts_in lists = map of_reductions lists.reduce_reduce ++ map of_shift lists.shift_reduce
 
--- those that a table lists
-abbrev pub listed_of : Table → List ConflictOf
-listed_of table = conflicts_in (lists_in table.conflicts)
+-- the conflicts that a table lists
+abbrev pub table_conflicts : Table → List ConflictOf
+table_conflicts table = conflicts_in (lists_in table.conflicts)
 
 -- the table lists these conflicts, in any order
-abbrev pub Lists : {S : Type 0} → (S → ℕ) → Table → List (UnmetConflict S) → Type 0
-Lists index table conflicts = AreAmong (unmet_in index conflicts) (listed_of table)
+abbrev pub ListsConflicts : {S : Type 0} → (S → ℕ) → Table → List (UnmetConflict S) → Type 0
+ListsConflicts index table conflicts = AreAmong (unmet_in index conflicts) (table_conflicts table)
 
--- it lists this one
-abbrev pub ListsOne : {S : Type 0} → (S → ℕ) → Table → UnmetConflict S → Type 0
-ListsOne index table conflict = Contains (listed_of table) (unmet_of index conflict)
+-- the table lists this conflict
+abbrev pub ListsConflict : {S : Type 0} → (S → ℕ) → Table → UnmetConflict S → Type 0
+ListsConflict index table conflict = Contains (table_conflicts table) (unmet_of index conflict)
 
--- these are all that it lists, in order
-abbrev pub AreAllListed : {S A : Type 0} → (S → ℕ) → Table → Vec (UnmetConflict S) A → Type 0
-AreAllListed index table = λ conflicts. unmet_in index conflicts.items ≡ listed_of table
+-- these are all conflicts that the table lists, in order
+abbrev pub AreAllConflicts : {S A : Type 0} → (S → ℕ) → Table → Vec (UnmetConflict S) A → Type 0
+AreAllConflicts index table = λ conflicts. unmet_in index conflicts.items ≡ table_conflicts table
 
 -- two conflicts are at the same token, with the same moves
 abbrev pub AreLike : {S : Type 0} → (S → ℕ) → UnmetConflict S → UnmetConflict S → Type 0
@@ -94,7 +94,7 @@ HasExamples index g graph bound conflicts = λ examples. AreExamplesOf g graph b
 
 -- a counterexample of each conflict that the table lists, in order
 abbrev pub HasExamplesOf : {A : Type 0} → Grammar → Graph → Table → ℕ → Vec ConflictExampleOf A → Type 0
-HasExamplesOf g graph table bound = λ examples. AreExamplesOf g graph bound (listed_of table) examples.items
+HasExamplesOf g graph table bound = λ examples. AreExamplesOf g graph bound (table_conflicts table) examples.items
 
 -- a table that was built of the grammar, and what counterexamples of its conflicts need
 pub record IsReady (g : Grammar) (graph : Graph) (table : Table) (largest : ℕ) (shared : ExamplesOf) : Type 0 where

@@ -29,26 +29,26 @@ pub record ExampleFits (g : Grammar) (x : ConflictExampleOf) : Type 0 where
   pub first : DerivesFrom g x.example.before x.example.first
   pub second : DerivesFrom g x.example.before x.example.second
 
--- each counterexample does
+-- each counterexample fits the grammar
 abbrev pub ExamplesFit : Grammar → List ConflictExampleOf → Type 0
 ExamplesFit g examples = AllByRecursion (ExampleFits g) examples
 
--- the same of a vector of them
+-- each counterexample in the vector fits the grammar
 abbrev pub AllFit : {A : Type 0} → Grammar → Vec ConflictExampleOf A → Type 0
 AllFit g = λ examples. ExamplesFit g examples.items
 
--- the same of the counterexamples of conflicts that precedences leave
+-- the counterexamples of the conflicts that precedences leave fit the grammar
 abbrev pub LeftFit : {S : Type 0} → Grammar → ConflictsLeft S → Type 0
 LeftFit g = λ left. ExamplesFit g left.examples.items
 
--- the same of those of conflicts of merged item sets
+-- the counterexamples of the conflicts of merged item sets fit the grammar
 abbrev pub MergedFit : {S : Type 0} → Grammar → MergedConflicts S → Type 0
 MergedFit g = λ found. ExamplesFit g found.examples.items
 
--- the code's moves are those of a tree, whose text begins with the tokens
+-- the moves as they are stored are those of a tree, whose text begins with the tokens
 abbrev pub DeriveFrom : {S : Type 0} → (S → ℕ) → Grammar → List (TIdx S) → List (Move S) → Type 0
 DeriveFrom index g before moves = DerivesFrom g (token_numbers index before) (moves_in index moves)
 
--- so are those of the second derivation
+-- the moves of the second derivation are those of a tree, whose text begins with the access string
 abbrev pub SecondFits : Grammar → ExampleOf → Type 0
 SecondFits g x = DerivesFrom g x.before x.second

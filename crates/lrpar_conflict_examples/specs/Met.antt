@@ -35,20 +35,20 @@ loses_shift (Some Reduce) = true
 loses_shift (Some Error) = true
 
 -- the conflict is in state s at token t, and precedences take its shift away
-abbrev pub takes_away : PrecedenceLists → ℕ → ℕ → ShiftReduce → Bool
-takes_away precedences s t x = loses_shift (resolution_of precedences x.prod x.token) && ((x.state == s) && (x.token == t))
+abbrev pub loses_shift_at : PrecedenceLists → ℕ → ℕ → ShiftReduce → Bool
+loses_shift_at precedences s t x = loses_shift (resolution_of precedences x.prod x.token) && ((x.state == s) && (x.token == t))
 
 -- whether precedences take away the shift of token t in state s, by one of these conflicts
-abbrev pub take_away : PrecedenceLists → List ShiftReduce → ℕ → ℕ → Bool
-take_away precedences conflicts s t = list_any (takes_away precedences s t) conflicts
+abbrev pub shift_is_lost : PrecedenceLists → List ShiftReduce → ℕ → ℕ → Bool
+shift_is_lost precedences conflicts s t = list_any (loses_shift_at precedences s t) conflicts
 
 -- whether precedences take away the shift of token t in state s
-abbrev pub is_taken_away : PrecedenceLists → Table → ℕ → ℕ → Bool
-is_taken_away precedences table s t = take_away precedences (lists_in table.conflicts).shift_reduce s t
+abbrev pub is_shift_lost : PrecedenceLists → Table → ℕ → ℕ → Bool
+is_shift_lost precedences table s t = shift_is_lost precedences (lists_in table.conflicts).shift_reduce s t
 
 -- a step from state s to state next: a shift that precedences leave, or a goto
 pub data IsStep (precedences : PrecedenceLists) (table : Table) (s next : ℕ) : Type 0 where
-  Shifts : (t : ℕ) → action_of table s t ≡ ShiftTo next → is_taken_away precedences table s t ≡ false → IsStep precedences table s next
+  Shifts : (t : ℕ) → action_of table s t ≡ ShiftTo next → is_shift_lost precedences table s t ≡ false → IsStep precedences table s next
   Goes : (r : ℕ) → goto_of table s r ≡ Some next → IsStep precedences table s next
 
 -- the least set of states that has the start and, with a state, each one that a step leads to
@@ -62,7 +62,7 @@ pub record AreMarks (precedences : PrecedenceLists) (table : Table) (marks : Lis
   pub start : IsTrue (is_marked marks table.start)
   pub met : (s : ℕ) → IsTrue (is_marked marks s) → IsMet precedences table s
 
--- whatever the precedences are
+-- the start is marked, and only states that can be met are, whatever the precedences are
 abbrev pub AreMarksByAny : Table → List Bool → Type 0
 AreMarksByAny table marks = (precedences : PrecedenceLists) → AreMarks precedences table marks
 
@@ -71,14 +71,15 @@ pub record AreMet (precedences : PrecedenceLists) (table : Table) (marks : List 
   pub states : length marks ≡ states_len table
   pub exact : (s : ℕ) → IsTrue (is_marked marks s) ↔ IsMet precedences table s
 
--- the same of a vector of marks, and the marks of a start by any precedences
+-- the vector marks the states that can be met, and no others
 abbrev pub MarksMet : {A : Type 0} → PrecedenceLists → Table → Vec Bool A → Type 0
 MarksMet precedences table = λ marks. AreMet precedences table marks.items
 
+-- the vector marks the start state, and no state that can't be met, whatever the precedences are
 abbrev pub MarksStart : {A : Type 0} → Table → Vec Bool A → Type 0
 MarksStart table = λ marks. AreMarksByAny table marks.items
 
--- fewer are left without a mark
+-- fewer states are left without a mark
 abbrev pub MarksMore : List Bool → List Bool → Type 0
 MarksMore old new = unmarked new < unmarked old
 
@@ -93,7 +94,7 @@ pub record AreSteps (precedences : PrecedenceLists) (table : Table) (edges : Lis
   pub sound : (edge : ℕ × ℕ) → Contains edges edge → IsStepOf precedences table edge
   pub all : (s next : ℕ) → s < states_len table → IsStep precedences table s next → Contains edges (s, next)
 
--- the same of a vector of steps
+-- the vector has the steps of the table, and no others
 abbrev pub HasSteps : {A : Type 0} → PrecedenceLists → Table → Vec (ℕ × ℕ) A → Type 0
 HasSteps precedences table = λ edges. AreSteps precedences table edges.items
 
@@ -102,7 +103,7 @@ abbrev pub KeepsMarks : List (ℕ × ℕ) → List Bool → List Bool → Type 0
 KeepsMarks edges old new =
     (precedences : PrecedenceLists) (table : Table) → AreSteps precedences table edges → AreMarks precedences table old → AreMarks precedences table new
 
--- the same, if this is one of its steps
+-- if a table has the step from s to `next`, and the old list has marks of its states, so does the new one
 abbrev pub StepKeepsMarks : ℕ → ℕ → List Bool → List Bool → Type 0
 StepKeepsMarks s next old new =
     (precedences : PrecedenceLists) (table : Table) → AreMarks precedences table old → IsStep precedences table s next → AreMarks precedences table new
@@ -111,18 +112,19 @@ StepKeepsMarks s next old new =
 abbrev pub MarksNext : List Bool → ℕ × ℕ → Type 0
 MarksNext marks edge = IsTrue (is_marked marks edge.0) → IsTrue (is_marked marks edge.1)
 
--- so does the step from state s to state next
+-- if state s is marked, so is state next
 abbrev pub MarksStep : ℕ → ℕ → List Bool → Type 0
 MarksStep s next marks = MarksNext marks (s, next)
 
--- so does each of these steps
+-- each of these steps whose first state is marked leads to a marked one
 abbrev pub AreClosed : List (ℕ × ℕ) → List Bool → Type 0
 AreClosed edges marks = All (MarksNext marks) edges
 
--- both ends of a step are below n, and both ends of each step
+-- both ends of the step are below n
 abbrev pub IsWithin : ℕ → ℕ × ℕ → Type 0
 IsWithin n edge = (edge.0 < n) × (edge.1 < n)
 
+-- both ends of each step are below n
 abbrev pub AreWithin : ℕ → List (ℕ × ℕ) → Type 0
 AreWithin n edges = All (λ edge. (edge.0 < n) × (edge.1 < n)) edges
 
@@ -134,13 +136,15 @@ HasRoomOf old new = map (λ row. length row) new ≡ map (λ row. length row) ol
 abbrev pub AddsTokens : List (List Bool) → List (List Bool) → (ℕ → ℕ → Bool) → Type 0
 AddsTokens old new test = (s t : ℕ) → t < length (row_at old s) → has (row_at new s) t ≡ (has (row_at old s) t || test s t)
 
--- so many sets with room for this number of tokens, and without any
+-- there is this number of sets
 abbrev pub HasSets : {A : Type 0} → ℕ → Vec TokenSet A → Type 0
 HasSets len = λ sets. length sets.items ≡ len
 
+-- each set has room for this number of tokens
 abbrev pub HaveRoom : {A : Type 0} → ℕ → Vec TokenSet A → Type 0
 HaveRoom tokens = λ sets. All (λ row. length row ≡ tokens) (rows_of sets.items)
 
+-- each set is empty
 abbrev pub AreEmpty : {A : Type 0} → Vec TokenSet A → Type 0
 AreEmpty = λ sets. HoldNothing (rows_of sets.items)
 
@@ -149,18 +153,18 @@ abbrev pub AddsToken : ℕ → ℕ → List TokenSet → List TokenSet → Type 
 AddsToken state token old new = AddsTokens (rows_of old) (rows_of new) (λ s t. (state == s) && (token == t))
 
 -- the tokens of the conflicts whose shift precedences take away were added to the sets of their states
-abbrev pub AddsTaken : {S : Type 0} → (S → ℕ) → PrecedenceLists → List (TIdx S × PIdx S × StIdx S) → List TokenSet → List TokenSet → Type 0
-AddsTaken index precedences conflicts old new =
-    AddsTokens (rows_of old) (rows_of new) (take_away precedences (map (shift_reduce_of index) conflicts))
+abbrev pub AddsLostShifts : {S : Type 0} → (S → ℕ) → PrecedenceLists → List (TIdx S × PIdx S × StIdx S) → List TokenSet → List TokenSet → Type 0
+AddsLostShifts index precedences conflicts old new =
+    AddsTokens (rows_of old) (rows_of new) (shift_is_lost precedences (map (shift_reduce_of index) conflicts))
 
 -- for each state the tokens whose shift precedences take away
-pub record AreTakenAway (precedences : PrecedenceLists) (table : Table) (rows : List (List Bool)) : Type 0 where
+pub record AreLostShifts (precedences : PrecedenceLists) (table : Table) (rows : List (List Bool)) : Type 0 where
   pub states : length rows ≡ states_len table
-  pub exact : (s t : ℕ) → s < states_len table → t < table.tokens → has (row_at rows s) t ≡ is_taken_away precedences table s t
+  pub exact : (s t : ℕ) → s < states_len table → t < table.tokens → has (row_at rows s) t ≡ is_shift_lost precedences table s t
 
--- the same of sets
-abbrev pub TakesAway : {A : Type 0} → PrecedenceLists → Table → Vec TokenSet A → Type 0
-TakesAway precedences table = λ sets. AreTakenAway precedences table (rows_of sets.items)
+-- the vector has for each state the set of the tokens whose shift precedences take away
+abbrev pub HasLostShifts : {A : Type 0} → PrecedenceLists → Table → Vec TokenSet A → Type 0
+HasLostShifts precedences table = λ sets. AreLostShifts precedences table (rows_of sets.items)
 
 -- the step by an action at a token, if it is a shift that isn't taken away
 abbrev pub shift_step : List Bool → ℕ → ℕ → TableAction → List (ℕ × ℕ)
@@ -204,28 +208,29 @@ abbrev pub conflicts_left : PrecedenceLists → ConflictLists → List ConflictO
 conflicts_left precedences lists =
     map of_reductions lists.reduce_reduce ++ map of_shift (unresolved precedences lists.shift_reduce)
 
--- those in states that are marked, and the others
+-- the conflicts in states that are marked
 abbrev pub marked_ones : List Bool → List ConflictOf → List ConflictOf
 marked_ones marks conflicts = filter (λ (x : ConflictOf). is_marked marks x.state) conflicts
 
+-- the conflicts in states that aren't marked
 abbrev pub other_ones : List Bool → List ConflictOf → List ConflictOf
 other_ones marks conflicts = filter (λ (x : ConflictOf). not (is_marked marks x.state)) conflicts
 
 -- precedences don't resolve the conflict: it is one between two reductions, or they have no answer
-abbrev pub is_left_between : PrecedenceLists → MoveOf → MoveOf → Bool
-is_left_between precedences (Makes p) (Takes t) = is_none (resolution_of precedences p t)
-is_left_between precedences (Makes p) (Makes q) = true
-is_left_between precedences (Takes t) second = true
+abbrev pub is_unresolved_between : PrecedenceLists → MoveOf → MoveOf → Bool
+is_unresolved_between precedences (Makes p) (Takes t) = is_none (resolution_of precedences p t)
+is_unresolved_between precedences (Makes p) (Makes q) = true
+is_unresolved_between precedences (Takes t) second = true
 
-abbrev pub is_left : PrecedenceLists → ConflictOf → Bool
-is_left precedences x = is_left_between precedences x.first x.second
+abbrev pub is_unresolved : PrecedenceLists → ConflictOf → Bool
+is_unresolved precedences x = is_unresolved_between precedences x.first x.second
 
 -- the conflicts that precedences leave are in two lists: those in states that are marked, and the others
 pub record AreParted {S : Type 0} (index : S → ℕ) (precedences : PrecedenceLists) (table : Table) (marks : List Bool) (first second : List (UnmetConflict S)) : Type 0 where
   pub met : unmet_in index first ≡ marked_ones marks (conflicts_left precedences (lists_in table.conflicts))
   pub unmet : unmet_in index second ≡ other_ones marks (conflicts_left precedences (lists_in table.conflicts))
 
--- the same of two vectors
+-- two vectors have the conflicts that precedences leave: those in states that are marked, and the others
 abbrev pub ArePartedBy : {S A : Type 0} → (S → ℕ) → PrecedenceLists → Table → List Bool → Vec (UnmetConflict S) A × Vec (UnmetConflict S) A → Type 0
 ArePartedBy index precedences table marks = λ lists. AreParted index precedences table marks lists.0.items lists.1.items
 

@@ -13,17 +13,17 @@ use Rattle.lrpar_conflict_examples.specs.declared.pieces.Piece.TheVariants.{End,
 use Rattle.lrpar_conflict_examples.specs.declared.pieces.Waiting.{Waiting}
 use Rattle.lrpar_conflict_examples.specs.declared.pieces.Waiting.TheVariants as waits
 
--- a piece is of the grammar
+-- the token or the production of a piece is one of the grammar
 abbrev pub PieceFits : {S : Type 0} → (S → ℕ) → Grammar → Piece S → Type 0
 PieceFits index g (Word t) = index t.0 < tokens_len g
 PieceFits index g (Front p) = index p.0 < prods_len g
 PieceFits index g End = Unit {0}
 
--- each of them is
+-- the token or the production of each piece is one of the grammar
 abbrev pub PiecesFit : {S A : Type 0} → (S → ℕ) → Grammar → Vec (Piece S) A → Type 0
 PiecesFit index g = λ pieces. All (PieceFits index g) pieces.items
 
--- its text
+-- the text of a piece
 abbrev pub piece_text : {S : Type 0} → (S → ℕ) → Grammar → Piece S → List ℕ
 piece_text index g (Word t) = word_text g (index t.0)
 piece_text index g (Front p) = front_text g (index p.0)
@@ -34,25 +34,25 @@ abbrev pub backward_text : {S : Type 0} → (S → ℕ) → Grammar → List (Pi
 backward_text index g [] = []
 backward_text index g (x ∷ xs) = backward_text index g xs ++ piece_text index g x
 
--- they are the text of the tree that has these moves
+-- the pieces are the text of the tree that has these moves
 abbrev pub AreTextOf : {S : Type 0} → (S → ℕ) → Grammar → List MoveOf → List (Piece S) → Type 0
 AreTextOf index g moves pieces = (tree : Tree ℕ) → AreMovesOf g moves tree → backward_text index g pieces ≡ tree_text g tree
 
--- the same of the code's moves
+-- the vector of pieces is the text of the tree that has these moves, as they are stored
 abbrev pub AreTextOfMoves : {S A : Type 0} → (S → ℕ) → Grammar → List (Move S) → Vec (Piece S) A → Type 0
 AreTextOfMoves index g moves = λ pieces. AreTextOf index g (moves_in index moves) pieces.items
 
--- so many trees were appended to what waits
+-- this number of trees was appended to what waits
 abbrev pub AddsTrees : {S A : Type 0} → ℕ → Vec (Waiting S) A → Vec (Waiting S) A → Type 0
 AddsTrees count old new = new.items ≡ old.items ++ replicate count waits.Tree
 
--- a tree whose last move is this one is taken up: a token is all of it; of a node there is the end, and its trees wait, and before them its
--- front
+-- a tree is begun at its last move, and read from right to left: a token adds its word; a node adds its end, and its trees wait, and after
+-- them its front
 abbrev pub Meets : {S : Type 0} → (S → ℕ) → Grammar → Move S → List (Piece S) → List (Piece S) → List (Waiting S) → List (Waiting S) → Type 0
 Meets index g (Take t) old new left waiting = (new ≡ old ++ Word t ∷ []) × (waiting ≡ left)
 Meets index g (Make p) old new left waiting =
     (new ≡ old ++ End ∷ []) × (waiting ≡ (left ++ waits.Before p ∷ []) ++ replicate (prod_len g (index p.0)) waits.Tree)
 
--- the same of vectors
+-- a tree is begun at its last move, with vectors of pieces and of what waits
 abbrev pub MeetsMove : {S A : Type 0} → (S → ℕ) → Grammar → Move S → Vec (Piece S) A → Vec (Piece S) A → Vec (Waiting S) A → Vec (Waiting S) A → Type 0
 MeetsMove index g step old new left waiting = Meets index g step old.items new.items left.items waiting.items

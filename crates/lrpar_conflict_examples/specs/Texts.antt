@@ -13,23 +13,23 @@ use Rattle.lrpar_conflict_examples.specs.Fits.{AreMovesOf}
 use Rattle.lrpar_grammar_places.specs.Strings.{Appends}
 use Rattle.lrpar_conflict_examples.specs.Words.{derivation_text, shown_name, text_line, tree_text}
 
--- that the derivations have two texts, and the bound of the search for one
+-- the words that the derivations have two texts, with the bound of the search for one
 abbrev pub bound_text : ℕ → List ℕ
 bound_text bound = codes "two texts; one for both not found within " ++ decimal bound
 
--- it was added
+-- the words that the derivations have two texts, with this bound, were appended
 abbrev pub AddsBound : {A : Type 0} → ℕ → String A → String A → Type 0
 AddsBound bound old new = Appends old new (bound_text bound)
 
--- how many texts the derivations have
+-- the words for how many texts the derivations have
 abbrev pub count_text : ExampleOf → List ℕ
 count_text x = if x.ambiguous then codes "one text, two derivations" else bound_text x.bound
 
--- it was added
+-- the words for how many texts the derivations have were appended
 abbrev pub AddsCount : {A : Type 0} → ExampleOf → String A → String A → Type 0
 AddsCount x old new = Appends old new (count_text x)
 
--- the first line
+-- the first line of a counterexample: its token, its state, and how many texts the derivations have
 abbrev pub title_text : Grammar → ConflictExampleOf → List ℕ
 title_text g x = codes "'" ++ shown_name g x.conflict.token ++ codes "' in state " ++ decimal x.conflict.state ++ codes ": " ++ count_text x.example ++ 10 ∷ []
 
@@ -58,7 +58,7 @@ pub record IsExampleText (g : Grammar) (x : ConflictExampleOf) (text : List ℕ)
   pub of_second : AreMovesOf g x.example.second second
   pub is : text ≡ example_text g x first second
 
--- such a text was added at the end
+-- the text of a counterexample was added at the end
 abbrev pub AppendsExample : {A : Type 0} → Grammar → ConflictExampleOf → String A → String A → Type 0
 AppendsExample g x old new = (text : List ℕ) × IsExampleText g x text × Appends old new text
 
@@ -70,7 +70,7 @@ AppendsOfTree g moves text old new = (tree : Tree ℕ) → AreMovesOf g moves tr
 abbrev pub AddsTree : {S A : Type 0} → (S → ℕ) → Grammar → List (Move S) → String A → String A → Type 0
 AddsTree index g moves old new = AppendsOfTree g (moves_in index moves) (tree_text g) old new
 
--- the line of the text of such a tree
+-- the line of the text of the tree that has these moves was added
 abbrev pub AddsText : {S A : Type 0} → (S → ℕ) → Grammar → List (TIdx S) → List (Move S) → String A → String A → Type 0
 AddsText index g before moves old new = AppendsOfTree g (moves_in index moves) (tree_line g (token_numbers index before)) old new
 
@@ -87,6 +87,6 @@ abbrev pub AreExampleTexts : Grammar → List ConflictExampleOf → List ℕ →
 AreExampleTexts g [] text = text ≡ []
 AreExampleTexts g (x ∷ xs) text = (own : List ℕ) × (others : List ℕ) × IsExampleText g x own × AreExampleTexts g xs others × (text ≡ own ++ others)
 
--- this is such a text
+-- the string has the texts of the counterexamples, one after the other
 abbrev pub ShowsExamples : {A : Type 0} → Grammar → List ConflictExampleOf → String A → Type 0
 ShowsExamples g examples = λ text. AreExampleTexts g examples (string_bytes text)

@@ -14,18 +14,18 @@ use Rattle.lrpar_conflict_derivations.specs.Texts.{token_numbers}
 abbrev pub shown_name : Grammar → ℕ → List ℕ
 shown_name g t = unwrap_or (token_name g t) (codes "$")
 
--- the same of the code's tokens
+-- the name by which conflicts show a token as it is stored: its own, or `$` for the end token
 abbrev pub name_of : {S : Type 0} → (S → ℕ) → Grammar → TIdx S → List ℕ
 name_of index g token = shown_name g (index token.0)
 
--- tokens, each after a space
+-- a token's name after a space
 abbrev pub word_text : Grammar → ℕ → List ℕ
 word_text g t = 32 ∷ shown_name g t
 
 abbrev pub words_text : Grammar → List ℕ → List ℕ
 words_text g tokens = flat_map (word_text g) tokens
 
--- the code's tokens were added so
+-- the names of tokens were appended, each after a space
 abbrev pub AddsWords : {S A : Type 0} → (S → ℕ) → Grammar → List (TIdx S) → String A → String A → Type 0
 AddsWords index g tokens old new = Appends old new (words_text g (token_numbers index tokens))
 
@@ -51,15 +51,15 @@ symbol_text g (Terminal t) = codes " '" ++ shown_name g t ++ codes "'"
 abbrev pub symbols_text : Grammar → List GrammarSymbol → List ℕ
 symbols_text g symbols = flat_map (symbol_text g) symbols
 
--- the code's symbols were added so
+-- the symbols of a production were appended, each after a space
 abbrev pub AddsSymbols : {S A : Type 0} → (S → ℕ) → Grammar → List (Symbol S) → String A → String A → Type 0
 AddsSymbols index g symbols old new = Appends old new (symbols_text g (map (symbol_of index) symbols))
 
--- a production is reduced: `reduce S: 'i' S`
+-- the text of a reduction: `reduce S: 'i' S`
 abbrev pub reduce_text : Grammar → ℕ → List ℕ
 reduce_text g p = codes "reduce " ++ rule_name g (rule_of g p) ++ codes ":" ++ symbols_text g (symbols_of g p)
 
--- what a move does: that, or `shift 'e'`
+-- the text of a move: `reduce S: 'i' S` or `shift 'e'`
 abbrev pub move_text : Grammar → MoveOf → List ℕ
 move_text g (Takes t) = codes "shift '" ++ shown_name g t ++ codes "'"
 move_text g (Makes p) = reduce_text g p
@@ -68,7 +68,7 @@ move_text g (Makes p) = reduce_text g p
 abbrev pub line_text : Grammar → List ℕ → List ℕ → List ℕ
 line_text g before rest = codes " " ++ words_text g before ++ codes " ." ++ words_text g rest ++ 10 ∷ []
 
--- the line of a text of the code was added
+-- the line of a text, whose tokens are as they are stored, was added
 abbrev pub AddsLine : {S A : Type 0} → (S → ℕ) → Grammar → List (TIdx S) → List (TIdx S) → String A → String A → Type 0
 AddsLine index g before rest old new = Appends old new (line_text g (token_numbers index before) (token_numbers index rest))
 

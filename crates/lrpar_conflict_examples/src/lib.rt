@@ -2,8 +2,8 @@
 #![tactic(auto)]
 
 mod conflict;
+mod conflict_list;
 pub mod examples;
-mod listed;
 mod merged;
 mod met;
 mod paired;

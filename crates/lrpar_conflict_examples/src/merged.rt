@@ -2,12 +2,12 @@
 ghost use Rattle.std.specs.Prelude.{IfOk, IfSome, IsPermutation, OnOk};
 ghost use Rattle.std.specs.Bool.{OnTrue};
 ghost use Rattle.lrpar_conflict_derivations.specs.Stored.{IsSameMove};
-ghost use Rattle.lrpar_conflict_examples.specs.Conflicts.{AreLike, listed_of, unmet_of};
+ghost use Rattle.lrpar_conflict_examples.specs.Conflicts.{AreLike, table_conflicts, unmet_of};
 ghost use Rattle.lrpar_conflict_examples.specs.ExamplesFit.{MergedFit};
 ghost use Rattle.lrpar_conflict_examples.specs.Merged.{AddsConflict, AddsExample, IsCanonicalOf, IsLike, KeepsExamples, conflicts_of};
 
 use crate::conflict::ConflictExample;
-use crate::listed::{example_of, listed_in};
+use crate::conflict_list::{example_of, table_conflicts};
 use crate::met::met_states;
 use crate::paired::Pairs;
 use crate::unresolved::{UnmetConflict, is_met};
@@ -137,7 +137,7 @@ pub fn conflict_examples_by<StorageT: StorageIndex>(
 ) -> Result<MergedConflicts<StorageT>, NoExamples<StorageT>>
     ensures fit { IfOk result (MergedFit grm.now) }
     // Each conflict of the table is in one of the three lists, as often as the table lists it, and they have no others.
-    ensures all { IfOk result (λ found. IsPermutation (listed_of stable.now) (conflicts_of StorageT.index found)) }
+    ensures all { IfOk result (λ found. IsPermutation (table_conflicts stable.now) (conflicts_of StorageT.index found)) }
 {
     let mut found = MergedConflicts {
         examples: Vec::new(alloc),
@@ -148,7 +148,7 @@ pub fn conflict_examples_by<StorageT: StorageIndex>(
         return Ok(found);
     };
     let canonical = Canonical::new(alloc, grm, precedences, stable, max_states)?;
-    let listed = listed_in(alloc, stable)?;
+    let listed = table_conflicts(alloc, stable)?;
     for conflict in &listed {
         push(alloc, grm, &canonical, *conflict, bound, &mut found)?;
     }
@@ -168,7 +168,7 @@ impl<StorageT: StorageIndex> Canonical<StorageT> {
     {
         let (sgraph, stable) = from_yacc(alloc, grm, max_states)?;
         let shared = Examples::new(alloc, grm, &sgraph, &stable)?;
-        let listed = listed_in(alloc, &stable)?;
+        let listed = table_conflicts(alloc, &stable)?;
         let marks = met_states(alloc, precedences, &stable)?;
         let pairs = Pairs::new(alloc, &stable, merged)?;
         Ok(Canonical {

@@ -4,7 +4,7 @@ ghost use Rattle.std.specs.Bool.{OnFalse, OnTrue};
 ghost use Rattle.lrpar_table_first.specs.FirstRows.{rows_of};
 ghost use Rattle.lrpar_table_rows.specs.Table.{states_len};
 ghost use Rattle.lrpar_table_sentences.specs.AccessLens.{IsStoredAt};
-ghost use Rattle.lrpar_conflict_examples.specs.Met.{AddsTaken, AddsToken, AppendsShift, AppendsSteps, AreClosed, AreEmpty, AreWithin, HasRoomOf, HasSets, HasSteps, HaveRoom, IsWithin, KeepsMarks, MarksMet, MarksMore, MarksStart, MarksStep, StepKeepsMarks, TakesAway, loses_shift};
+ghost use Rattle.lrpar_conflict_examples.specs.Met.{AddsLostShifts, AddsToken, AppendsShift, AppendsSteps, AreClosed, AreEmpty, AreWithin, HasRoomOf, HasSets, HasSteps, HaveRoom, IsWithin, KeepsMarks, MarksMet, MarksMore, MarksStart, MarksStep, StepKeepsMarks, HasLostShifts, loses_shift};
 
 use lrpar_grammar::span::{PIdx, StIdx, StorageIndex, TIdx};
 use lrpar_grammar::token_set::TokenSet;
@@ -81,8 +81,8 @@ fn steps<StorageT: StorageIndex>(
     ensures { IfOk result (HasSteps precedences.now stable.now) }
 {
     // The proof needs that there are no actions past the table's tokens.
-    let _tokens = stable.tokens_len();
-    let taken = taken_away(alloc, precedences, stable)?;
+    let _lemma = stable.tokens_len();
+    let taken = removed_shifts(alloc, precedences, stable)?;
     let mut edges = Vec::new(alloc);
     for state in 0..stable.states_len() {
         let s = StIdx(StorageT::from_index(state).unwrap());
@@ -141,18 +141,18 @@ fn push_shift<StorageT: StorageIndex>(
 }
 
 // For each state the tokens whose shift precedences take away.
-fn taken_away<StorageT: StorageIndex>(
+fn removed_shifts<StorageT: StorageIndex>(
     alloc: Global,
     precedences: &Precedences,
     stable: &StateTable<StorageT>,
 ) -> Result<Vec<TokenSet>, AllocError>
-    ensures { IfOk result (TakesAway precedences.now stable.now) }
+    ensures { IfOk result (HasLostShifts precedences.now stable.now) }
 {
     let mut sets = empty_sets(alloc, stable.states_len(), stable.tokens_len())?;
     let Some(conflicts) = stable.conflicts() else {
         return Ok(sets);
     };
-    take_all(&mut sets, precedences, conflicts.sr_conflicts());
+    remove_shifts(&mut sets, precedences, conflicts.sr_conflicts());
     Ok(sets)
 }
 
@@ -170,24 +170,24 @@ fn empty_sets(alloc: Global, len: usize, tokens: usize) -> Result<Vec<TokenSet>,
 }
 
 // Adds the tokens of the conflicts whose shift precedences take away.
-fn take_all<StorageT: StorageIndex>(
+fn remove_shifts<StorageT: StorageIndex>(
     sets: &mut [TokenSet],
     precedences: &Precedences,
     conflicts: &[(TIdx<StorageT>, PIdx<StorageT>, StIdx<StorageT>)],
 )
     ensures room { HasRoomOf (rows_of sets.old) (rows_of sets.new) }
-    ensures exact { AddsTaken StorageT.index precedences.now conflicts.now sets.old sets.new }
+    ensures exact { AddsLostShifts StorageT.index precedences.now conflicts.now sets.old sets.new }
 {
     for conflict in conflicts {
         let (token, prod, state) = *conflict;
         if loses_shift(precedences.resolution(prod, token)) {
-            take_shift(sets, usize::from(state), usize::from(token));
+            remove_shift(sets, usize::from(state), usize::from(token));
         }
     }
 }
 
 // Adds the token to the set of the state, if both are within range.
-fn take_shift(sets: &mut [TokenSet], state: usize, token: usize)
+fn remove_shift(sets: &mut [TokenSet], state: usize, token: usize)
     ensures room { HasRoomOf (rows_of sets.old) (rows_of sets.new) }
     ensures exact { AddsToken state token sets.old sets.new }
 {

@@ -63,7 +63,7 @@ fn pieces_of<StorageT: StorageIndex>(
     ensures text { IfOk result (AreTextOfMoves StorageT.index grm.now moves.now) }
 {
     // The proof needs that the grammar is well-formed.
-    let _start = grm.start_prod();
+    let _lemma = grm.start_prod();
     let mut pieces = Vec::new(alloc);
     let mut waiting = Vec::new(alloc);
     waiting.push(Waiting::Tree)?;

@@ -135,7 +135,7 @@ fn push_text<StorageT: StorageIndex>(
     ensures { OnOk result (AddsText StorageT.index grm.now before.now moves.now out.old out.new) }
 {
     // The proof needs that the grammar is well-formed.
-    let _start = grm.start_prod();
+    let _lemma = grm.start_prod();
     let text = tokens_of(alloc, moves)?;
     push_line(out, grm, before, rest_of(&text, before.len()))
 }

@@ -5,10 +5,10 @@ ghost use Rattle.lrpar_table_sentences.specs.Reachable.{is_marked};
 ghost use Rattle.lrpar_conflict_derivations.specs.Example.{IsFault};
 ghost use Rattle.lrpar_conflict_examples.specs.Conflicts.{unmet_of};
 ghost use Rattle.lrpar_conflict_examples.specs.ExamplesFit.{LeftFit};
-ghost use Rattle.lrpar_conflict_examples.specs.Met.{AreConflictsLeft, ArePartedBy, is_left};
+ghost use Rattle.lrpar_conflict_examples.specs.Met.{AreConflictsLeft, ArePartedBy, is_unresolved};
 
 use crate::conflict::ConflictExample;
-use crate::listed::{examples_of, listed_in};
+use crate::conflict_list::{examples_of, table_conflicts};
 use crate::met::met_states;
 use lrpar_conflict_derivations::examples::ExampleFault;
 use lrpar_grammar::grammar::YaccGrammar;
@@ -90,11 +90,11 @@ fn parted<StorageT: StorageIndex>(
 ) -> Result<(Vec<UnmetConflict<StorageT>>, Vec<UnmetConflict<StorageT>>), AllocError>
     ensures { IfOk result (ArePartedBy StorageT.index precedences.now stable.now marks.now) }
 {
-    let listed = listed_in(alloc, stable)?;
+    let listed = table_conflicts(alloc, stable)?;
     let mut met = Vec::new(alloc);
     let mut unmet = Vec::new(alloc);
     for conflict in &listed {
-        if is_left(precedences, *conflict) {
+        if is_unresolved(precedences, *conflict) {
             if is_met(marks, conflict.state) {
                 met.push(*conflict)?;
             } else {
@@ -106,11 +106,11 @@ fn parted<StorageT: StorageIndex>(
 }
 
 // Whether precedences leave the conflict.
-fn is_left<StorageT: StorageIndex>(
+fn is_unresolved<StorageT: StorageIndex>(
     precedences: &Precedences,
     conflict: UnmetConflict<StorageT>,
 ) -> bool
-    ensures { result ≡ is_left precedences.now (unmet_of StorageT.index conflict) }
+    ensures { result ≡ is_unresolved precedences.now (unmet_of StorageT.index conflict) }
 {
     match (conflict.first, conflict.second) {
         (Move::Make(prod), Move::Take(token)) => precedences.resolution(prod, token).is_none(),

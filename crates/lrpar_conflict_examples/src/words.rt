@@ -81,7 +81,7 @@ fn push_reduce<StorageT: StorageIndex>(
     ensures { OnOk result (Appends out.old out.new (reduce_text grm.now (StorageT.index prod.0))) }
 {
     // The proof needs that the grammar is well-formed.
-    let _start = grm.start_prod();
+    let _lemma = grm.start_prod();
     let name = grm.rule_name_str(grm.prod_to_rule(prod));
     write!(out, "reduce {name}:")?;
     push_symbols(out, grm, grm.prod(prod))

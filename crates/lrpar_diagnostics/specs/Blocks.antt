@@ -47,6 +47,6 @@ next_block src kind number span others = 10 ∷ block_text src (dots src span ot
 abbrev pub IsShown : {X : Type 0} → (SpansKind → List Extent → List ℕ → List ℕ) → (X → SpansKind) → (X → List Extent) → (X → Option (List ℕ)) → X → List ℕ → Type 0
 IsShown shown kind places printed thing = λ text. IsDiagnostic (shown (kind thing) (places thing)) (printed thing) text
 
--- the same of a string
+-- the string is the text of all places of a thing, the first with what may be printed for the thing
 abbrev pub ShowsThing : {X A : Type 0} → (SpansKind → List Extent → List ℕ → List ℕ) → (X → SpansKind) → (X → List Extent) → (X → Option (List ℕ)) → X → String A → Type 0
 ShowsThing shown kind places printed thing = λ text. IsDiagnostic (shown (kind thing) (places thing)) (printed thing) (string_bytes text)

@@ -16,7 +16,7 @@ repeated n c = encode_utf8_all (replicate n c)
 abbrev pub ends_in_cr : List ℕ → ℕ → ℕ → Bool
 ends_in_cr src b e = nat_lt b e && nat_lt e (length src) && (slice_index src (e - 1) == 13)
 
--- the byte at which the text of a line from byte b to byte e ends: without such a CR
+-- the byte at which the text of a line from byte b to byte e ends, without a CR directly before a line feed at e
 abbrev pub without_cr : List ℕ → ℕ → ℕ → ℕ
 without_cr src b e = if ends_in_cr src b e then e - 1 else e
 

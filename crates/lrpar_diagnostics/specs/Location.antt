@@ -29,11 +29,11 @@ ordinal_text n = decimal n ++ (if is_teen n then codes "th" else suffix_of_digit
 abbrev pub located : List ℕ → List ℕ → ℕ → ℕ → List ℕ
 located message path line column = message ++ codes " at " ++ path ++ codes ":" ++ decimal line ++ codes ":" ++ decimal column
 
--- those of a byte
+-- a message, and a path with the line and the column of a byte
 abbrev pub place_text : Subject → List ℕ → ℕ → List ℕ
 place_text f message byte = located message f.path (line_of f.text byte) (column_of f.text byte)
 
--- those of a byte, or 0 and 0 if it is after the end of the text or inside a character
+-- a message, and a path with the line and the column of a byte, or 0 and 0 if it is after the end of the text or inside a character
 pub record IsPlaceText (f : Subject) (message : List ℕ) (byte : ℕ) (text : List ℕ) : Type 0 where
   pub inside : IsCharBoundary f.text byte → text ≡ place_text f message byte
   pub outside : ¬ IsCharBoundary f.text byte → text ≡ located message f.path 0 0

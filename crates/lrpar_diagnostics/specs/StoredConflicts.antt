@@ -30,7 +30,7 @@ AllShiftsFit index g conflicts = AllByRecursion (ShiftFits g) (map (shift_reduce
 abbrev pub reductions_texts : {S : Type 0} → (S → ℕ) → Subject → Grammar → List (TIdx S × PIdx S × PIdx S × StIdx S) → List ℕ
 reductions_texts index f g conflicts = flat_map (reduce_reduce_text f g) (map (reduce_reduce_of index) conflicts)
 
--- one of them
+-- a conflict between two reductions
 abbrev pub reductions_text : {S : Type 0} → (S → ℕ) → Subject → Grammar → TIdx S × PIdx S × PIdx S × StIdx S → List ℕ
 reductions_text index f g conflict = reduce_reduce_text f g (reduce_reduce_of index conflict)
 
@@ -38,7 +38,7 @@ reductions_text index f g conflict = reduce_reduce_text f g (reduce_reduce_of in
 abbrev pub two_rules_text : {S : Type 0} → (S → ℕ) → Subject → Grammar → RIdx S → RIdx S → TIdx S → List ℕ
 two_rules_text index f g first second token = rules_text f g (index first.0) (index second.0) (index token.0)
 
--- its first line
+-- the first line of a conflict between reductions by two rules at a token
 abbrev pub two_rules_line : {S : Type 0} → (S → ℕ) → Subject → Grammar → RIdx S → RIdx S → TIdx S → List ℕ
 two_rules_line index f g first second token = reduce_reduce_line f g (index first.0) (index second.0) (index token.0)
 
@@ -62,7 +62,7 @@ PlacesRule index f g rule old new = string_bytes new ≡ place_text f (string_by
 abbrev pub shifts_texts : {S : Type 0} → (S → ℕ) → Subject → Grammar → List (TIdx S × PIdx S × StIdx S) → List ℕ
 shifts_texts index f g conflicts = flat_map (shift_reduce_text f g) (map (shift_reduce_of index) conflicts)
 
--- one of them
+-- a conflict between a shift and a reduction
 abbrev pub shift_or_reduce_text : {S : Type 0} → (S → ℕ) → Subject → Grammar → TIdx S × PIdx S × StIdx S → List ℕ
 shift_or_reduce_text index f g conflict = shift_reduce_text f g (shift_reduce_of index conflict)
 
@@ -70,7 +70,7 @@ shift_or_reduce_text index f g conflict = shift_reduce_text f g (shift_reduce_of
 abbrev pub token_or_rule_text : {S : Type 0} → (S → ℕ) → Subject → Grammar → TIdx S → RIdx S → PIdx S → List ℕ
 token_or_rule_text index f g token rule prod = shift_text f g (index token.0) (index rule.0) (index prod.0)
 
--- its first line
+-- the first line of a conflict between the shift of a token and a reduction by a rule
 abbrev pub token_or_rule_line : {S : Type 0} → (S → ℕ) → Subject → Grammar → TIdx S → RIdx S → List ℕ
 token_or_rule_line index f g token rule = shift_reduce_line f g (index token.0) (index rule.0)
 

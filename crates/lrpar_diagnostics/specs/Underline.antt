@@ -16,11 +16,11 @@ starts_after src b end = filter (starts_line src) (range_with_len (b + 1) (end -
 abbrev pub is_printed : List ℕ → ℕ → ℕ → Bool
 is_printed src end b = nat_lt (line_end src b) end || nat_lt b (text_end src b)
 
--- the starts of such lines after the line that starts at byte b
+-- the starts of the lines that are printed after the line that starts at byte b
 abbrev pub printed_after : List ℕ → ℕ → ℕ → List ℕ
 printed_after src b end = filter (is_printed src end) (starts_after src b end)
 
--- the starts of the lines that are printed for a part: that of its start, and such lines after it
+-- the starts of the lines that are printed for a part: the line where it starts, and those after it that are printed
 abbrev pub printed_lines : List ℕ → Extent → List ℕ
 printed_lines src span = line_start src span.start ∷ printed_after src (line_start src span.start) span.end
 
@@ -29,7 +29,8 @@ printed_lines src span = line_start src span.start ∷ printed_after src (line_s
 abbrev pub mark_start : List ℕ → Extent → ℕ → ℕ
 mark_start src span b = min (max b span.start) (text_end src b)
 
--- the byte at which it ends: no later than the line's text, and no earlier than it starts
+-- the byte at which the underline of a part ends in the line that starts at byte b: no later than the line's text, and no earlier than the
+-- underline starts
 abbrev pub mark_end : List ℕ → Extent → ℕ → ℕ
 mark_end src span b = max (min (text_end src b) span.end) (mark_start src span b)
 
@@ -64,7 +65,7 @@ abbrev pub on_line_text : List ℕ → List Extent → List ℕ → ℕ → List
 on_line_text src [] message c = []
 on_line_text src (span ∷ spans) message c = first_mark src c span ++ marks_after src c span.end spans ++ 32 ∷ message
 
--- these lines of the text that messages are about, with a message
+-- the block, or the line, of the text that messages are about, with a message
 abbrev pub shown_block : {A : Type 0} → Subject → List ℕ → Extent → String A → ℕ → List ℕ
 shown_block f prefix span message c = block_text f.text prefix span (string_bytes message) c
 
@@ -81,7 +82,7 @@ abbrev pub EndOnLine : List ℕ → ℕ → List Extent → Type 0
 EndOnLine src b [] = Unit {0}
 EndOnLine src b (span ∷ spans) = (line_start src span.end ≡ b) × EndOnLine src b spans
 
--- the same of the line on which the first part starts
+-- parts that all end on the line on which the first one starts
 abbrev pub EndOnFirstLine : List ℕ → List Extent → Type 0
 EndOnFirstLine src [] = Unit {0}
 EndOnFirstLine src (span ∷ spans) = EndOnLine src (line_start src span.start) (span ∷ spans)
@@ -91,10 +92,10 @@ pub record FollowOnLine (src : List ℕ) (spans : List Extent) : Type 0 where
   pub order : FollowInOrder src 0 spans
   pub line : EndOnFirstLine src spans
 
--- the same of the text that messages are about
+-- parts of the text that messages are about: they are in order, none of them overlaps the next, and all are on one line
 abbrev pub SpansFollow : Subject → List Extent → Type 0
 SpansFollow f spans = FollowOnLine f.text spans
 
--- this is the start of the next line after the one that starts at byte b which is printed for a part up to byte end, if there is one
+-- the start of the line that is printed after the one that starts at byte b, for a part up to byte `end`, if there is one
 abbrev pub IsNextPrinted : List ℕ → ℕ → ℕ → Option ℕ → Type 0
 IsNextPrinted src b end found = MatchOption found (printed_after src b end ≡ []) (λ next. printed_after src b end ≡ next ∷ printed_after src next end)

@@ -172,7 +172,7 @@ impl<'a> SpannedDiagnosticFormatter<'a> {
         requires rule { StorageT.index rule.0 < rules_len grm.now }
         ensures { OnOk result (PlacesRule StorageT.index self.now grm.now rule out.old out.new) }
     {
-        self.push_place(out, grm.rule_name_span(rule).start())?;
+        self.push_position(out, grm.rule_name_span(rule).start())?;
         out.push('\n')
     }
 

@@ -72,7 +72,7 @@ impl<'a> SpannedDiagnosticFormatter<'a> {
         let mut out = String::new(alloc);
         out.push_str(msg)?;
         match span {
-            Some(span) => self.push_place(&mut out, span.start())?,
+            Some(span) => self.push_position(&mut out, span.start())?,
             None => self.push_path(&mut out)?,
         }
         Ok(out)
@@ -94,7 +94,7 @@ impl<'a> SpannedDiagnosticFormatter<'a> {
         self.prefixed_underline_span_with_text(alloc, "", span, s, underline_c)
     }
 
-    /// The same with a prefix, of at most 3 bytes, before each underline, in place of spaces.
+    /// The lines of the span with the message, and a prefix of at most 3 bytes, in place of spaces, before each underline.
     pub fn prefixed_underline_span_with_text(
         &self,
         alloc: Global,
@@ -142,10 +142,10 @@ impl<'a> SpannedDiagnosticFormatter<'a> {
     }
 
     // Adds the path with the line and the column of a byte.
-    pub(crate) fn push_place(&self, out: &mut String, byte: usize) -> Result<(), AllocError>
+    pub(crate) fn push_position(&self, out: &mut String, byte: usize) -> Result<(), AllocError>
         ensures { OnOk result (IsPlaceText self.now (string_bytes out.old) byte (string_bytes out.new)) }
     {
-        let (line, column) = self.source.place(byte);
+        let (line, column) = self.source.position(byte);
         let path = self.path;
         write!(out, " at {path}:{line}:{column}")
     }

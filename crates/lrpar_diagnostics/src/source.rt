@@ -47,7 +47,7 @@ impl<'a> Source<'a> {
     }
 
     /// The line and the column of a byte, each counted from 1: 0 and 0 after the text's end and inside a character.
-    pub(crate) fn place(&self, byte: usize) -> (usize, usize)
+    pub(crate) fn position(&self, byte: usize) -> (usize, usize)
         ensures inside { IsCharBoundary self.now.src.now byte → AreLineAndColumn self.now.src.now byte result }
         ensures outside { ¬ IsCharBoundary self.now.src.now byte → (result.0 ≡ 0) × (result.1 ≡ 0) }
     {

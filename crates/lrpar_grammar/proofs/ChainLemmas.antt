@@ -8,7 +8,7 @@ use Rattle.std.proofs.lemmas.Slice.Eq.{bytes_eq-Decides}
 use Rattle.std.specs.BTreeMap.{BTreeMap}
 use Rattle.std.specs.Borrow.{Bor}
 use Rattle.std.specs.Map.{update}
-use Rattle.lrpar_grammar.specs.Chains.{AreFirstFrom, AreNextFrom, IsFirstFrom, IsNth, IsNthAt, found}
+use Rattle.lrpar_grammar.specs.SameProds.{AreFirstFrom, AreNextFrom, IsFirstFrom, IsNth, IsNthAt, found}
 use Rattle.lrpar_grammar.specs.Spelled.{count_of, numbers_at}
 use Rattle.lrpar_grammar.proofs.CountLemmas.{count_more_no, count_more_yes, count_split, same_no}
 

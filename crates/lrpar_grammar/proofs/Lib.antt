@@ -13,4 +13,3 @@ pub mod TakeLemmas
 pub mod ProdTextLemmas
 pub mod SpelledLawLemmas
 pub mod SpelledPartsLemmas
-pub mod YaccFileLemmas

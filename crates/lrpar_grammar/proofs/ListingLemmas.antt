@@ -6,7 +6,7 @@ use Rattle.lrpar_grammar_words.proofs.WordsLemmas.{reads_as_one}
 use Rattle.lrpar_grammar_reader.specs.Grammar.{Grammar, start_prod}
 use Rattle.lrpar_grammar.specs.declared.grammar.spelled_fault.SpelledFault.{SpelledFault}
 use Rattle.lrpar_grammar.specs.declared.grammar.spelled_fault.SpelledFault.TheVariants.{Unknown, Repeated, Missing, Memory}
-use Rattle.lrpar_grammar.specs.Spelled.{IsListing, IsTextOf, NamedSymbols, SpellEach, SpellsNumbers, count_of, listed_prods, named_symbols, numbers_at, numbers_of, numbers_spelled}
+use Rattle.lrpar_grammar.specs.Spelled.{IsListing, IsTextOf, NamedSymbols, SpellEach, SpellsNumbers, count_of, numbered_prods, named_symbols, numbers_at, numbers_of, numbers_spelled}
 use Rattle.lrpar_grammar.specs.SpelledFaults.{IsMissingAt, IsRepeatedAt, IsSpelledFault, IsUnknownAt}
 use Rattle.lrpar_grammar.proofs.CountLemmas.{count_before}
 
@@ -65,29 +65,29 @@ length-range a zero = refl
 length-range a (suc n) = ap suc (length-range (a + 1) n)
 
 -- the productions but the start production
-pub listed_len : (g : Grammar) → length (listed_prods g) ≡ start_prod g
+pub listed_len : (g : Grammar) → length (numbered_prods g) ≡ start_prod g
 listed_len g = length-map (range_with_len 0 (start_prod g)) (numbers_of g) ∙ length-range 0 (start_prod g)
 
 module _ (g : Grammar) (texts : List (List ℕ)) (places : List (Option ℕ)) (list : IsListing g texts places) where
   -- the production of a text
-  of_text : (t : ℕ) → t < length texts → (p : ℕ) × (p < length (listed_prods g)) × IsTextOf (listed_prods g) list.spelled p t
+  of_text : (t : ℕ) → t < length texts → (p : ℕ) × (p < length (numbered_prods g)) × IsTextOf (numbered_prods g) list.spelled p t
   of_text t within =
       let taken = list.each_text t within in
       let at : taken.prod < start_prod g = let below = taken.within in let len = listed_len g in omega arith in
       let goes = list.each_prod taken.prod at in
       let found : Some goes.place ≡ Some t = sym goes.at ∙ taken.at in
       let same : goes.place ≡ t = cc in
-      (taken.prod, taken.within, subst (IsTextOf (listed_prods g) list.spelled taken.prod) same goes.is)
+      (taken.prod, taken.within, subst (IsTextOf (numbered_prods g) list.spelled taken.prod) same goes.is)
 
   -- a list with a text that spells nothing is no listing
-  unknown_refutes : (text : List ℕ) (place : ℕ) → IsUnknownAt (named_symbols g) (listed_prods g) texts text place → ⊥
+  unknown_refutes : (text : List ℕ) (place : ℕ) → IsUnknownAt (named_symbols g) (numbered_prods g) texts text place → ⊥
   unknown_refutes text place bad =
       let of = of_text place bad.within in
       let spells = spell_at (named_symbols g) texts list.spelled place bad.within list.spell in
       bad.unknown of.0 of.1 (subst (λ x. SpellsNumbers (named_symbols g) text x) of.2.spells (subst (λ x. SpellsNumbers (named_symbols g) x (numbers_at list.spelled place)) (sym bad.is) spells))
 
   -- nor is one with a text too many
-  repeated_refutes : (text : List ℕ) (place : ℕ) → IsRepeatedAt (named_symbols g) (listed_prods g) texts text place → ⊥
+  repeated_refutes : (text : List ℕ) (place : ℕ) → IsRepeatedAt (named_symbols g) (numbered_prods g) texts text place → ⊥
   repeated_refutes text place bad =
       let n = named_symbols g in
       let of = of_text place bad.within in
@@ -95,23 +95,23 @@ module _ (g : Grammar) (texts : List (List ℕ)) (places : List (Option ℕ)) (l
       let is : numbers_at list.spelled place ≡ bad.numbers = spells_one n text (numbers_at list.spelled place) bad.numbers spells bad.spells in
       let front : bad.before.spelled ≡ take place list.spelled =
       spell_one n (take place texts) bad.before.spelled (take place list.spelled) bad.before.spell (spell_front n texts list.spelled place list.spell) in
-      let prod : numbers_at (listed_prods g) of.0 ≡ bad.numbers = sym of.2.spells ∙ is in
-      let less = count_before bad.numbers (listed_prods g) of.0 of.1 prod in
-      let nth : count_of bad.numbers (take place list.spelled) ≡ count_of bad.numbers (take of.0 (listed_prods g)) =
-      subst (λ q. count_of q (take place list.spelled) ≡ count_of q (take of.0 (listed_prods g))) prod of.2.nth in
-      let full : count_of bad.numbers (listed_prods g) ≤ count_of bad.numbers (take place list.spelled) = subst (λ s. count_of bad.numbers (listed_prods g) ≤ count_of bad.numbers s) front bad.full in
+      let prod : numbers_at (numbered_prods g) of.0 ≡ bad.numbers = sym of.2.spells ∙ is in
+      let less = count_before bad.numbers (numbered_prods g) of.0 of.1 prod in
+      let nth : count_of bad.numbers (take place list.spelled) ≡ count_of bad.numbers (take of.0 (numbered_prods g)) =
+      subst (λ q. count_of q (take place list.spelled) ≡ count_of q (take of.0 (numbered_prods g))) prod of.2.nth in
+      let full : count_of bad.numbers (numbered_prods g) ≤ count_of bad.numbers (take place list.spelled) = subst (λ s. count_of bad.numbers (numbered_prods g) ≤ count_of bad.numbers s) front bad.full in
       omega arith
 
   -- nor is one without a text for some production
-  missing_refutes : (p : ℕ) → IsMissingAt (named_symbols g) (listed_prods g) texts p → ⊥
+  missing_refutes : (p : ℕ) → IsMissingAt (named_symbols g) (numbered_prods g) texts p → ⊥
   missing_refutes p bad =
       let same : bad.all.spelled ≡ list.spelled = spell_one (named_symbols g) texts bad.all.spelled list.spelled bad.all.spell list.spell in
       let at : p < start_prod g = let below = bad.within in let len = listed_len g in omega arith in
       let goes = list.each_prod p at in
-      let less = count_before (numbers_at (listed_prods g) p) list.spelled goes.place goes.is.within goes.is.spells in
+      let less = count_before (numbers_at (numbered_prods g) p) list.spelled goes.place goes.is.within goes.is.spells in
       let nth = goes.is.nth in
-      let few : count_of (numbers_at (listed_prods g) p) list.spelled ≤ count_of (numbers_at (listed_prods g) p) (take p (listed_prods g)) =
-      subst (λ s. count_of (numbers_at (listed_prods g) p) s ≤ count_of (numbers_at (listed_prods g) p) (take p (listed_prods g))) same bad.few in
+      let few : count_of (numbers_at (numbered_prods g) p) list.spelled ≤ count_of (numbers_at (numbered_prods g) p) (take p (numbered_prods g)) =
+      subst (λ s. count_of (numbers_at (numbered_prods g) p) s ≤ count_of (numbers_at (numbered_prods g) p) (take p (numbered_prods g))) same bad.few in
       omega arith
 
 -- a list with a fault is no listing

@@ -5,9 +5,9 @@ use Rattle.std.specs.Borrow.{Bor}
 use Rattle.std.proofs.lemmas.Bool.{cases_Bool, cases_eq, cases_lt}
 use Rattle.std.proofs.lemmas.List.{get_or_append_left, get_or_push, get_or-set_other, get_or-set_same, length-set, length_push, take-append-le, take_at}
 use Rattle.std.proofs.lemmas.Slice.Eq.{bytes_eq-Decides}
-use Rattle.lrpar_grammar.specs.Chains.{AreFirstFrom, AreNextFrom, IsFirstFrom, IsNth, IsNthAt, found}
-use Rattle.lrpar_grammar.specs.Matching.{AreMatched, IsPlaceOf}
-use Rattle.lrpar_grammar.specs.Spelled.{HasProduction, IsTaken, IsTextOf, count_of, numbers_at}
+use Rattle.lrpar_grammar.specs.SameProds.{AreFirstFrom, AreNextFrom, IsFirstFrom, IsNth, IsNthAt, found}
+use Rattle.lrpar_grammar.specs.Matching.{AreMatched, IsTextIndexOf}
+use Rattle.lrpar_grammar.specs.Spelled.{HasProduction, IsTextOfSome, IsTextOf, count_of, numbers_at}
 use Rattle.lrpar_grammar.proofs.CountLemmas.{count_before, count_push_no, count_push_yes, same_nth}
 
 -- equal options
@@ -51,7 +51,7 @@ module _ (prods texts : List (List ℕ)) (k : List ℕ) (p : ℕ) (here : IsNthA
       ]
 
   -- so the place of another production stays right
-  place_stays : (o : ℕ) (at : Option ℕ) → o < length prods → o ≢ p → IsPlaceOf prods texts o at → IsPlaceOf prods (texts ++ k ∷ []) o at
+  place_stays : (o : ℕ) (at : Option ℕ) → o < length prods → o ≢ p → IsTextIndexOf prods texts o at → IsTextIndexOf prods (texts ++ k ∷ []) o at
   place_stays o None within other few = still_none o within other few
   place_stays o (Some t) within other of = text_stays prods texts k o t of
 
@@ -85,7 +85,7 @@ module _ (prods texts : List (List ℕ)) (first : BTreeMap (Bor (List ℕ)) ℕ)
   pub all_of : (t : ℕ) → t < length texts → HasProduction prods texts t
   all_of t within =
       let taken = so_far.taken t within in
-      (taken.prod, taken.within, subst (IsPlaceOf prods texts taken.prod) taken.at (so_far.places_are taken.prod taken.within))
+      (taken.prod, taken.within, subst (IsTextIndexOf prods texts taken.prod) taken.at (so_far.texts_are taken.prod taken.within))
 
   module _ (k : List ℕ) (f p : ℕ) (at : found first k ≡ Some f) (is : get_or free f None ≡ Some p) where
     -- the production
@@ -127,30 +127,30 @@ module _ (prods texts : List (List ℕ)) (first : BTreeMap (Bor (List ℕ)) ℕ)
     new_places = set places p (Some (length texts))
 
     new_place : get_or new_places p None ≡ Some (length texts)
-    new_place = get_or-set_same places p (Some (length texts)) None (let len = so_far.places_len in let within = here.within in omega arith)
+    new_place = get_or-set_same places p (Some (length texts)) None (let len = so_far.texts_len in let within = here.within in omega arith)
 
-    places_more : (o : ℕ) → o < length prods → IsPlaceOf prods (texts ++ k ∷ []) o (get_or new_places o None)
+    places_more : (o : ℕ) → o < length prods → IsTextIndexOf prods (texts ++ k ∷ []) o (get_or new_places o None)
     places_more o within =
         elim (cases_eq o p) [
           | inl same ↦
-              subst (λ n. IsPlaceOf prods (texts ++ k ∷ []) n (get_or new_places n None)) (sym same)
-              (subst (IsPlaceOf prods (texts ++ k ∷ []) p) (sym new_place) (text_new prods texts k p here))
+              subst (λ n. IsTextIndexOf prods (texts ++ k ∷ []) n (get_or new_places n None)) (sym same)
+              (subst (IsTextIndexOf prods (texts ++ k ∷ []) p) (sym new_place) (text_new prods texts k p here))
           | inr other ↦
-              subst (IsPlaceOf prods (texts ++ k ∷ []) o) (sym (get_or-set_other places p o (Some (length texts)) None other))
-              (place_stays prods texts k p here o (get_or places o None) within other (so_far.places_are o within))
+              subst (IsTextIndexOf prods (texts ++ k ∷ []) o) (sym (get_or-set_other places p o (Some (length texts)) None other))
+              (place_stays prods texts k p here o (get_or places o None) within other (so_far.texts_are o within))
         ]
 
     -- a text that was taken is that of another production
     taken_other : (t : ℕ) → t < length texts → (o : ℕ) → o < length prods → get_or places o None ≡ Some t → o ≢ p
     taken_other t within o o_within is same =
-        let of : IsTextOf prods texts o t = subst (IsPlaceOf prods texts o) is (so_far.places_are o o_within) in
+        let of : IsTextOf prods texts o t = subst (IsTextIndexOf prods texts o) is (so_far.texts_are o o_within) in
         let o_is : numbers_at prods o ≡ k = ap (numbers_at prods) same ∙ here.is in
         let less = count_before k texts t within (of.spells ∙ o_is) in
         let nth : count_of k (take t texts) ≡ count_of k (take o prods) = subst (λ q. count_of q (take t texts) ≡ count_of q (take o prods)) o_is of.nth in
         let all : count_of k (take o prods) ≡ count_of k texts = ap (λ n. count_of k (take n prods)) same ∙ here.nth in
         absurd (omega arith)
 
-    taken_more : (t : ℕ) → t < length (texts ++ k ∷ []) → IsTaken prods new_places t
+    taken_more : (t : ℕ) → t < length (texts ++ k ∷ []) → IsTextOfSome prods new_places t
     taken_more t within =
         elim (cases_lt t (length texts)) [
           | inl before ↦
@@ -173,8 +173,8 @@ module _ (prods texts : List (List ℕ)) (first : BTreeMap (Bor (List ℕ)) ℕ)
       next_are = so_far.next_are;
       free_len = length-set free f (get_or next p None) ∙ so_far.free_len;
       free_are = free_more;
-      places_len = length-set places p (Some (length texts)) ∙ so_far.places_len;
-      places_are = places_more;
+      texts_len = length-set places p (Some (length texts)) ∙ so_far.texts_len;
+      texts_are = places_more;
       taken = taken_more;
     }
 
@@ -182,7 +182,7 @@ module _ (prods texts : List (List ℕ)) (first : BTreeMap (Bor (List ℕ)) ℕ)
 pub matched_none : (prods : List (List ℕ)) (first : BTreeMap (Bor (List ℕ)) ℕ) (next free places : List (Option ℕ)) → AreFirstFrom prods 0 first
     → length next ≡ length prods → AreNextFrom prods 0 next → length free ≡ length prods → ((p : ℕ) → p < length prods → get_or free p None ≡ Some p)
     → length places ≡ length prods → ((p : ℕ) → p < length prods → get_or places p None ≡ None) → AreMatched prods [] first next free places
-matched_none prods first next free places first_are next_len next_are free_len own places_len none = record {
+matched_none prods first next free places first_are next_len next_are free_len own texts_len none = record {
   first_are = first_are;
   next_len = next_len;
   next_are = next_are;
@@ -190,7 +190,7 @@ matched_none prods first next free places first_are next_len next_are free_len o
   free_are = λ q p at.
       let from : IsFirstFrom prods q 0 (Some p) = subst (IsFirstFrom prods q 0) at (first_are q) in
       subst (IsNth prods q 0) (sym (own p from.1.within)) from.1;
-  places_len = places_len;
-  places_are = λ p within. subst (IsPlaceOf prods [] p) (sym (none p within)) (omega arith);
+  texts_len = texts_len;
+  texts_are = λ p within. subst (IsTextIndexOf prods [] p) (sym (none p within)) (omega arith);
   taken = λ t within. absurd (omega arith);
 }

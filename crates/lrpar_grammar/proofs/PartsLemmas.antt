@@ -14,9 +14,9 @@ use Rattle.lrpar_grammar_places.specs.declared.span.PIdx.{PIdx}
 use Rattle.lrpar_grammar_reader.specs.declared.parts.GrammarParts.{GrammarParts}
 use Rattle.lrpar_grammar.specs.declared.grammar.prods.SplitProd.{SplitProd}
 use Rattle.lrpar_grammar.specs.Kept.{AreRowsOf, IsKept, kept_grammar, split_prod_of}
-use Rattle.lrpar_grammar_reader.specs.Grammar.{added_rule, Production, IsListedSymbol, IsWellFormed, added_prod, rule_of, symbols_of, symbol_spans_of, prod_len, prods_len, rules_len, end_token, start_prod, Grammar, HasSpans}
+use Rattle.lrpar_grammar_reader.specs.Grammar.{added_rule, Production, IsDeclaredSymbol, IsWellFormed, added_prod, rule_of, symbols_of, symbol_spans_of, prod_len, prods_len, rules_len, end_token, start_prod, Grammar, HasSpans}
 use Rattle.lrpar_grammar_reader.specs.Symbols.{symbol_of}
-use Rattle.lrpar_grammar_reader.specs.Parts.{Parts, AreSound, IsFirstFault, IsListedProd, IsRefusalOf, grammar_of, parts_of, prod_of, rule_name_of}
+use Rattle.lrpar_grammar_reader.specs.Parts.{Parts, AreSound, IsFirstFault, IsDeclaredProd, IsRefusalOf, grammar_of, parts_of, prod_of, rule_name_of}
 
 -- only one fault is the first
 first_fault_alone : (limit : ℕ) (x : Parts) (found fault : GrammarFault) → IsFirstFault limit x found → IsFirstFault limit x fault → found ≡ fault
@@ -117,7 +117,7 @@ pub sound_well_formed : (limit : ℕ) (x : Parts) → AreSound limit x → All H
 sound_well_formed limit x sound spans =
     let d = added_prod x.start in
     let g = grammar_of x in
-    let listed : (p : ℕ) → p < start_prod g → IsListedProd (length x.rules + 1) (length x.tokens) (get_or x.prods p d) =
+    let listed : (p : ℕ) → p < start_prod g → IsDeclaredProd (length x.rules + 1) (length x.tokens) (get_or x.prods p d) =
     λ p below. sound.symbols p d (below_start_prod x p below) in
     record {
       start_added = sound.start.added;
@@ -134,8 +134,8 @@ sound_well_formed limit x sound spans =
       symbols = λ p below.
           let same : symbols_of g p ≡ (get_or x.prods p d).symbols = ap (λ o. option_map_or (λ y. y.symbols) o []) (listed_prod_at x p d (below_start_prod x p below)) in
           let count : length x.rules + 1 ≡ rules_len g = omega arith in
-          subst (λ w. All (IsListedSymbol (rules_len g) (end_token g)) w) (sym same)
-          (subst (λ n. All (IsListedSymbol n (end_token g)) (get_or x.prods p d).symbols) count (listed p below).symbols);
+          subst (λ w. All (IsDeclaredSymbol (rules_len g) (end_token g)) w) (sym same)
+          (subst (λ n. All (IsDeclaredSymbol n (end_token g)) (get_or x.prods p d).symbols) count (listed p below).symbols);
       spans = λ p below.
           let len : prods_len g ≡ length x.prods + 1 = length-append x.prods (added_prod x.start ∷ []) in
           elim (cases_lt p (length x.prods)) [

@@ -5,18 +5,18 @@ use Rattle.std.proofs.lemmas.Bool.{cases_lt}
 use Rattle.std.proofs.lemmas.List.{flat_map_more}
 use Rattle.std.proofs.lemmas.List.Elements.{All-cons, All-nil}
 use Rattle.lrpar_grammar_places.proofs.ListLemmas.{map-take_more}
-use Rattle.lrpar_grammar_reader.specs.Grammar.{Grammar, GrammarSymbol, IsListedSymbol, IsWellFormed, Nonterminal, end_token, prods_len, rules_len, start_prod, symbols_of}
+use Rattle.lrpar_grammar_reader.specs.Grammar.{Grammar, GrammarSymbol, IsDeclaredSymbol, IsWellFormed, Nonterminal, end_token, prods_len, rules_len, start_prod, symbols_of}
 use Rattle.lrpar_grammar.specs.ProdText.{symbol_text}
 
 -- the symbols of every production are listed
-pub symbols_listed : (g : Grammar) (p : ℕ) → IsWellFormed g → p < prods_len g → All (IsListedSymbol (rules_len g) (end_token g)) (symbols_of g p)
+pub symbols_listed : (g : Grammar) (p : ℕ) → IsWellFormed g → p < prods_len g → All (IsDeclaredSymbol (rules_len g) (end_token g)) (symbols_of g p)
 symbols_listed g p well within =
     elim (cases_lt p (start_prod g)) [
       | inl before ↦ well.symbols p before
       | inr last ↦
           let is : p ≡ start_prod g = omega arith in
-          subst (All (IsListedSymbol (rules_len g) (end_token g))) (sym (ap (symbols_of g) is ∙ well.last_symbols))
-          (All-cons (IsListedSymbol (rules_len g) (end_token g)) (Nonterminal g.start) [] (well.start_added, well.start_within) (All-nil (IsListedSymbol (rules_len g) (end_token g))))
+          subst (All (IsDeclaredSymbol (rules_len g) (end_token g))) (sym (ap (symbols_of g) is ∙ well.last_symbols))
+          (All-cons (IsDeclaredSymbol (rules_len g) (end_token g)) (Nonterminal g.start) [] (well.start_added, well.start_within) (All-nil (IsDeclaredSymbol (rules_len g) (end_token g))))
     ]
 
 -- one more symbol

@@ -4,22 +4,22 @@ use Rattle.std.specs.List.{All, range_with_len}
 use Rattle.std.proofs.lemmas.Bool.{cases_lt}
 use Rattle.std.proofs.lemmas.List.{get_or-map}
 use Rattle.std.proofs.lemmas.List.Elements.{All-head, All-tail}
-use Rattle.lrpar_grammar_reader.specs.Grammar.{Grammar, GrammarSymbol, IsListedSymbol, Nonterminal, Terminal, end_token, rule_of, rules_len, start_prod, symbols_of}
-use Rattle.lrpar_grammar.specs.Spelled.{IsTextOf, count_of, listed_prods, numbers_at, numbers_of, symbol_number}
+use Rattle.lrpar_grammar_reader.specs.Grammar.{Grammar, GrammarSymbol, IsDeclaredSymbol, Nonterminal, Terminal, end_token, rule_of, rules_len, start_prod, symbols_of}
+use Rattle.lrpar_grammar.specs.Spelled.{IsTextOf, count_of, numbered_prods, numbers_at, numbers_of, symbol_number}
 use Rattle.lrpar_grammar.specs.SpelledLaws.{ListingsKeepOrder, NumbersTellApart}
 use Rattle.lrpar_grammar.proofs.CountLemmas.{count_between, count_front}
 use Rattle.lrpar_grammar.proofs.ListingLemmas.{length-range, listed_len}
 use Rattle.lrpar_grammar.proofs.ProdTextLemmas.{symbols_listed}
 
 -- a symbol's number tells what it is
-symbol_apart : (rules tokens : ℕ) (s t : GrammarSymbol) → IsListedSymbol rules tokens s → IsListedSymbol rules tokens t → symbol_number rules s ≡ symbol_number rules t → s ≡ t
+symbol_apart : (rules tokens : ℕ) (s t : GrammarSymbol) → IsDeclaredSymbol rules tokens s → IsDeclaredSymbol rules tokens t → symbol_number rules s ≡ symbol_number rules t → s ≡ t
 symbol_apart rules tokens (Nonterminal r) (Nonterminal q) a b same = ap (λ n. Nonterminal n) same
 symbol_apart rules tokens (Nonterminal r) (Terminal u) a b same = let within = a.1 in absurd (omega arith)
 symbol_apart rules tokens (Terminal t) (Nonterminal q) a b same = let within = b.1 in absurd (omega arith)
 symbol_apart rules tokens (Terminal t) (Terminal u) a b same = let is : t ≡ u = omega arith in ap (λ n. Terminal n) is
 
 -- so do those of a list
-symbols_apart : (rules tokens : ℕ) (xs ys : List GrammarSymbol) → All (IsListedSymbol rules tokens) xs → All (IsListedSymbol rules tokens) ys
+symbols_apart : (rules tokens : ℕ) (xs ys : List GrammarSymbol) → All (IsDeclaredSymbol rules tokens) xs → All (IsDeclaredSymbol rules tokens) ys
     → map (symbol_number rules) xs ≡ map (symbol_number rules) ys → xs ≡ ys
 symbols_apart rules tokens [] [] a b same = refl
 symbols_apart rules tokens [] (y ∷ ys) a b same = absurd (cc)
@@ -27,8 +27,8 @@ symbols_apart rules tokens (x ∷ xs) [] a b same = absurd (cc)
 symbols_apart rules tokens (x ∷ xs) (y ∷ ys) a b same =
     let first_number : symbol_number rules x ≡ symbol_number rules y = cc in
     let other_numbers : map (symbol_number rules) xs ≡ map (symbol_number rules) ys = cc in
-    let first : x ≡ y = symbol_apart rules tokens x y (All-head (IsListedSymbol rules tokens) x xs a) (All-head (IsListedSymbol rules tokens) y ys b) first_number in
-    let others : xs ≡ ys = symbols_apart rules tokens xs ys (All-tail (IsListedSymbol rules tokens) x xs a) (All-tail (IsListedSymbol rules tokens) y ys b) other_numbers in
+    let first : x ≡ y = symbol_apart rules tokens x y (All-head (IsDeclaredSymbol rules tokens) x xs a) (All-head (IsDeclaredSymbol rules tokens) y ys b) first_number in
+    let others : xs ≡ ys = symbols_apart rules tokens xs ys (All-tail (IsDeclaredSymbol rules tokens) x xs a) (All-tail (IsDeclaredSymbol rules tokens) y ys b) other_numbers in
     cc
 
 pub numbers_tell_apart : NumbersTellApart
@@ -50,7 +50,7 @@ range_at a (suc n) zero d within = omega arith
 range_at a (suc n) (suc i) d within = range_at (a + 1) n i d (omega arith) ∙ omega arith
 
 -- the numbers of a listed production
-listed_at : (g : Grammar) (p : ℕ) → p < start_prod g → numbers_at (listed_prods g) p ≡ numbers_of g p
+listed_at : (g : Grammar) (p : ℕ) → p < start_prod g → numbers_at (numbered_prods g) p ≡ numbers_of g p
 listed_at g p within =
     let len = length-range 0 (start_prod g) in
     get_or-map (numbers_of g) (range_with_len 0 (start_prod g)) p 0 [] (omega arith) ∙ ap (numbers_of g) (range_at 0 (start_prod g) p 0 within ∙ omega arith)
@@ -76,11 +76,11 @@ listings_keep_order g texts places list p q t u before within p_at q_at =
     let u_found : Some second.place ≡ Some u = sym second.at ∙ q_at in
     let t_is : first.place ≡ t = cc in
     let u_is : second.place ≡ u = cc in
-    let of_p : IsTextOf (listed_prods g) list.spelled p t = subst (IsTextOf (listed_prods g) list.spelled p) t_is first.is in
-    let of_q : IsTextOf (listed_prods g) list.spelled q u = subst (IsTextOf (listed_prods g) list.spelled q) u_is second.is in
+    let of_p : IsTextOf (numbered_prods g) list.spelled p t = subst (IsTextOf (numbered_prods g) list.spelled p) t_is first.is in
+    let of_q : IsTextOf (numbered_prods g) list.spelled q u = subst (IsTextOf (numbered_prods g) list.spelled q) u_is second.is in
     let len = listed_len g in
-    let q_within : q < length (listed_prods g) = omega arith in
-    let later = later_text (listed_prods g) list.spelled p q t u before q_within of_p of_q in (
+    let q_within : q < length (numbered_prods g) = omega arith in
+    let later = later_text (numbered_prods g) list.spelled p q t u before q_within of_p of_q in (
       λ same.
           let less = later (sym of_p.spells ∙ ap (numbers_at list.spelled) same ∙ of_q.spells) in
           omega arith,

@@ -13,7 +13,7 @@ use Rattle.lrpar_grammar_places.proofs.ListLemmas.{range_more}
 use Rattle.lrpar_grammar_reader.specs.Grammar.{Grammar, start_prod}
 use Rattle.lrpar_grammar.specs.Spelled.{IsListing, named_symbols}
 use Rattle.lrpar_grammar.specs.SpelledLaws.{PartsKeepTexts}
-use Rattle.lrpar_grammar.specs.SpelledParts.{ArePlaces, IsListingInParts, IsPlaceInPart, IsSamePlace, joined, place_in_parts}
+use Rattle.lrpar_grammar.specs.SpelledParts.{AreIndexesInParts, IsListingInParts, IsIndexInPart, IsSameText, joined, index_in_parts}
 use Rattle.lrpar_grammar.proofs.ListingLemmas.{spell_len}
 
 -- the mapped members of lists, joined
@@ -39,8 +39,8 @@ joined_more : (parts : List (List (List ℕ))) (texts : List (List ℕ)) → joi
 joined_more parts texts = flat_map-append (λ s. s) parts (texts ∷ []) ∙ ap (λ s. joined parts ++ s) (append-nil texts)
 
 -- a place in a part stays when parts come after it
-place_kept : (parts : List (List (List ℕ))) (texts : List (List ℕ)) (whole part place : ℕ) → IsPlaceInPart parts whole part place
-    → IsPlaceInPart (parts ++ texts ∷ []) whole part place
+place_kept : (parts : List (List (List ℕ))) (texts : List (List ℕ)) (whole part place : ℕ) → IsIndexInPart parts whole part place
+    → IsIndexInPart (parts ++ texts ∷ []) whole part place
 place_kept parts texts whole part place at =
     elim (cases_lt part (length parts)) [
       | inl below ↦
@@ -58,7 +58,7 @@ place_kept parts texts whole part place at =
 
 -- the places of the last part
 place_of_last : (parts : List (List (List ℕ))) (texts : List (List ℕ)) (place : ℕ) → place < length texts
-    → IsPlaceInPart (parts ++ texts ∷ []) (length (joined parts) + place) (length parts) place
+    → IsIndexInPart (parts ++ texts ∷ []) (length (joined parts) + place) (length parts) place
 place_of_last parts texts place within =
     let zeroth : length parts + 0 ≡ length parts = omega arith in
     let same : get_or (parts ++ texts ∷ []) (length parts) [] ≡ texts =
@@ -70,8 +70,8 @@ place_of_last parts texts place within =
     }
 
 -- the places of one more part
-pub places_more : (parts : List (List (List ℕ))) (texts : List (List ℕ)) (places : List (ℕ × ℕ)) → ArePlaces parts places
-    → ArePlaces (parts ++ texts ∷ []) (places ++ map (λ place. (length parts, place)) (range_with_len 0 (length texts)))
+pub places_more : (parts : List (List (List ℕ))) (texts : List (List ℕ)) (places : List (ℕ × ℕ)) → AreIndexesInParts parts places
+    → AreIndexesInParts (parts ++ texts ∷ []) (places ++ map (λ place. (length parts, place)) (range_with_len 0 (length texts)))
 places_more parts texts places are =
     let more : List (ℕ × ℕ) = map (λ place. (length parts, place)) (range_with_len 0 (length texts)) in
     let more_len : length more ≡ length texts = length-map-range_with_len (λ place. (length parts, place)) 0 (length texts) in
@@ -83,7 +83,7 @@ places_more parts texts places are =
       each = λ t within. elim (cases_lt t (length places)) [
         | inl below ↦
             let same = get_or_append_left places more (0, 0) t below in
-            subst (λ (at : ℕ × ℕ). IsPlaceInPart (parts ++ texts ∷ []) t at.0 at.1) (sym same)
+            subst (λ (at : ℕ × ℕ). IsIndexInPart (parts ++ texts ∷ []) t at.0 at.1) (sym same)
             (place_kept parts texts t (get_or places t (0, 0)).0 (get_or places t (0, 0)).1 (are.each t below))
         | inr past ↦
             let old = are.len in
@@ -93,14 +93,14 @@ places_more parts texts places are =
             let is : get_or (places ++ more) t (0, 0) ≡ (length parts, t - length places) =
             ap (λ k. get_or (places ++ more) k (0, 0)) (sym sum) ∙ get_or-append-add places more (t - length places) (0, 0)
             ∙ get_or-map-range_with_len (λ place. (length parts, place)) 0 (length texts) (t - length places) (t - length places) (0, 0) inside (omega arith) in
-            subst (λ (at : ℕ × ℕ). IsPlaceInPart (parts ++ texts ∷ []) t at.0 at.1) (sym is)
-            (subst (λ k. IsPlaceInPart (parts ++ texts ∷ []) k (length parts) (t - length places)) sum_joined (place_of_last parts texts (t - length places) inside))
+            subst (λ (at : ℕ × ℕ). IsIndexInPart (parts ++ texts ∷ []) t at.0 at.1) (sym is)
+            (subst (λ k. IsIndexInPart (parts ++ texts ∷ []) k (length parts) (t - length places)) sum_joined (place_of_last parts texts (t - length places) inside))
       ];
     }
 
 -- the places of the next part
 pub part_more : (parts : List (List (List ℕ))) (part len : ℕ) (made pushed : List (ℕ × ℕ)) → part < length parts → len ≡ length (get_or parts part [])
-    → ArePlaces (take part parts) made → pushed ≡ made ++ map (λ place. (part, place)) (range_with_len 0 len) → ArePlaces (take (part + 1) parts) pushed
+    → AreIndexesInParts (take part parts) made → pushed ≡ made ++ map (λ place. (part, place)) (range_with_len 0 len) → AreIndexesInParts (take (part + 1) parts) pushed
 part_more parts part len made pushed within long are more =
     let texts = get_or parts part [] in
     let count : length (take part parts) ≡ part = length-take-le part parts (omega arith) in
@@ -108,7 +108,7 @@ part_more parts part len made pushed within long are more =
     let same : made ++ map (λ place. (length (take part parts), place)) (range_with_len 0 (length texts)) ≡ pushed =
     ap (λ (k : ℕ). made ++ map (λ place. (k, place)) (range_with_len 0 (length texts))) count
     ∙ ap (λ k. made ++ map (λ place. (part, place)) (range_with_len 0 k)) (sym long) ∙ sym more in
-    subst (λ ps. ArePlaces ps pushed) (sym (take_more parts part [] within)) (subst (ArePlaces (take part parts ++ texts ∷ [])) same all)
+    subst (λ ps. AreIndexesInParts ps pushed) (sym (take_more parts part [] within)) (subst (AreIndexesInParts (take part parts ++ texts ∷ [])) same all)
 
 -- the numbers below n, and n
 range_next : (n : ℕ) → range_with_len 0 n ++ n ∷ [] ≡ range_with_len 0 (n + 1)
@@ -122,18 +122,18 @@ pushed_more f base made pushed n so_far more =
     ∙ ap (λ s. base ++ s) (sym (map-append f (range_with_len 0 n) (n ∷ [])) ∙ ap (map f) (range_next n))
 
 -- no parts, no places
-pub no_places : ArePlaces [] []
+pub no_places : AreIndexesInParts [] []
 no_places = record { len = refl; each = λ t within. absurd (omega arith) }
 
 -- places of the whole list, and the same in the parts
-same_places : (parts : List (List (List ℕ))) (places : List (ℕ × ℕ)) → ArePlaces parts places → (whole : List (Option ℕ))
-    → ((p t : ℕ) → get_or whole p None ≡ Some t → t < length places) → AllZip (IsSamePlace parts) whole (map (place_in_parts places) whole)
+same_places : (parts : List (List (List ℕ))) (places : List (ℕ × ℕ)) → AreIndexesInParts parts places → (whole : List (Option ℕ))
+    → ((p t : ℕ) → get_or whole p None ≡ Some t → t < length places) → AllZip (IsSameText parts) whole (map (index_in_parts places) whole)
 same_places parts places are [] below = tt
 same_places parts places are (None ∷ whole) below = (tt, same_places parts places are whole (λ p. below (suc p)))
 same_places parts places are (Some t ∷ whole) below =
     let within : t < length places = below 0 t refl in
     let found = slice_get-get_or places t (0, 0) within in
-    (subst (IsSamePlace parts (Some t)) (sym found) (are.each t within), same_places parts places are whole (λ p. below (suc p)))
+    (subst (IsSameText parts (Some t)) (sym found) (are.each t within), same_places parts places are whole (λ p. below (suc p)))
 
 -- the places of a list are within it
 within_list : (g : Grammar) (texts : List (List ℕ)) (whole : List (Option ℕ)) → IsListing g texts whole
@@ -153,8 +153,8 @@ within_list g texts whole list p t is =
     ]
 
 -- a list of all parts, with its places in the parts
-pub listed_in_parts : (g : Grammar) (parts : List (List (List ℕ))) (places : List (ℕ × ℕ)) (whole : List (Option ℕ)) → ArePlaces parts places
-    → IsListing g (joined parts) whole → IsListingInParts g parts (map (place_in_parts places) whole)
+pub listed_in_parts : (g : Grammar) (parts : List (List (List ℕ))) (places : List (ℕ × ℕ)) (whole : List (Option ℕ)) → AreIndexesInParts parts places
+    → IsListing g (joined parts) whole → IsListingInParts g parts (map (index_in_parts places) whole)
 listed_in_parts g parts places whole are list = record {
   whole = whole;
   listing = list;
@@ -162,46 +162,46 @@ listed_in_parts g parts places whole are list = record {
 }
 
 -- a place of the whole list, in a part
-has_place : (parts : List (List (List ℕ))) (whole : ℕ) → whole < length (joined parts) → (part : ℕ) × (place : ℕ) × IsPlaceInPart parts whole part place
-has_place [] whole within = absurd (omega arith)
-has_place (texts ∷ parts) whole within =
+is_in_part : (parts : List (List (List ℕ))) (whole : ℕ) → whole < length (joined parts) → (part : ℕ) × (place : ℕ) × IsIndexInPart parts whole part place
+is_in_part [] whole within = absurd (omega arith)
+is_in_part (texts ∷ parts) whole within =
     let long = length-append texts (joined parts) in
     elim (cases_lt whole (length texts)) [
       | inl below ↦ (0, whole, record { within = below; is = omega arith })
       | inr past ↦
-          let rest = has_place parts (whole - length texts) (omega arith) in
+          let rest = is_in_part parts (whole - length texts) (omega arith) in
           let front = length-append texts (joined (take rest.0 parts)) in
           let is = rest.2.is in
           (suc rest.0, rest.1, record { within = rest.2.within; is = omega arith })
     ]
 
 -- in no other one
-one_place : (parts : List (List (List ℕ))) (whole part place other_part other_place : ℕ) → IsPlaceInPart parts whole part place
-    → IsPlaceInPart parts whole other_part other_place → (part ≡ other_part) × (place ≡ other_place)
-one_place [] whole part place other_part other_place at other = let no = at.within in absurd (omega arith)
-one_place (texts ∷ parts) whole zero place zero other_place at other = let a = at.is in let b = other.is in (refl, omega arith)
-one_place (texts ∷ parts) whole zero place (suc q) other_place at other =
+in_one_part : (parts : List (List (List ℕ))) (whole part place other_part other_place : ℕ) → IsIndexInPart parts whole part place
+    → IsIndexInPart parts whole other_part other_place → (part ≡ other_part) × (place ≡ other_place)
+in_one_part [] whole part place other_part other_place at other = let no = at.within in absurd (omega arith)
+in_one_part (texts ∷ parts) whole zero place zero other_place at other = let a = at.is in let b = other.is in (refl, omega arith)
+in_one_part (texts ∷ parts) whole zero place (suc q) other_place at other =
     let a = at.is in
     let inside = at.within in
     let b = other.is in
     let long = length-append texts (joined (take q parts)) in
     absurd (omega arith)
-one_place (texts ∷ parts) whole (suc p) place zero other_place at other =
+in_one_part (texts ∷ parts) whole (suc p) place zero other_place at other =
     let a = other.is in
     let inside = other.within in
     let b = at.is in
     let long = length-append texts (joined (take p parts)) in
     absurd (omega arith)
-one_place (texts ∷ parts) whole (suc p) place (suc q) other_place at other =
+in_one_part (texts ∷ parts) whole (suc p) place (suc q) other_place at other =
     let a = at.is in
     let b = other.is in
     let long = length-append texts (joined (take p parts)) in
     let other_long = length-append texts (joined (take q parts)) in
-    let rest = one_place parts (whole - length texts) p place q other_place (record { within = at.within; is = omega arith }) (record { within = other.within; is = omega arith }) in
+    let rest = in_one_part parts (whole - length texts) p place q other_place (record { within = at.within; is = omega arith }) (record { within = other.within; is = omega arith }) in
     (ap suc rest.0, rest.1)
 
 -- with the same text
-same_text : (parts : List (List (List ℕ))) (whole part place : ℕ) → IsPlaceInPart parts whole part place
+same_text : (parts : List (List (List ℕ))) (whole part place : ℕ) → IsIndexInPart parts whole part place
     → get_or (get_or parts part []) place [] ≡ get_or (joined parts) whole []
 same_text parts whole part place at =
     elim (cases_lt part (length parts)) [
@@ -213,4 +213,4 @@ same_text parts whole part place at =
     ]
 
 pub parts_keep_texts : PartsKeepTexts
-parts_keep_texts = record { has_place = has_place; one_place = one_place; same_text = same_text }
+parts_keep_texts = record { is_in_part = is_in_part; in_one_part = in_one_part; same_text = same_text }

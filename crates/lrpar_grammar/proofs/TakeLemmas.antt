@@ -6,8 +6,8 @@ use Rattle.std.specs.Borrow.{Bor}
 use Rattle.lrpar_grammar_reader.specs.Grammar.{Grammar}
 use Rattle.lrpar_grammar.specs.declared.grammar.spelled_fault.SpelledFault.{SpelledFault}
 use Rattle.lrpar_grammar.specs.declared.grammar.spelled_fault.SpelledFault.TheVariants.{Unknown, Repeated, Missing, Memory}
-use Rattle.lrpar_grammar.specs.Matching.{AreMatched, HavePlaces, IsFirstWithout, IsPlaceOf}
-use Rattle.lrpar_grammar.specs.Spelled.{IsListing, NamedSymbols, SpellEach, SpellsNumbers, count_of, listed_prods, named_symbols, numbers_at}
+use Rattle.lrpar_grammar.specs.Matching.{AreMatched, HaveTexts, IsFirstWithout, IsTextIndexOf}
+use Rattle.lrpar_grammar.specs.Spelled.{IsListing, NamedSymbols, SpellEach, SpellsNumbers, count_of, numbered_prods, named_symbols, numbers_at}
 use Rattle.lrpar_grammar.specs.SpelledFaults.{GoWell, IsMissingAt, IsMissingOf, IsRepeatedAt, IsRepeatedOf, IsSpelledFault, IsTextFault, IsUnknownAt, IsUnknownOf}
 use Rattle.lrpar_grammar.proofs.CountLemmas.{count_before}
 use Rattle.lrpar_grammar.proofs.ListingLemmas.{listed_len, spell_len, spells_one}
@@ -36,7 +36,7 @@ repeated_fault n prods texts bytes at bad (Missing text) is = absurd is
 repeated_fault n prods texts bytes at bad Memory is = tt
 
 -- and of a production
-pub missing_fault : (g : Grammar) (texts : List (List ℕ)) (p : ℕ) → IsMissingAt (named_symbols g) (listed_prods g) texts p
+pub missing_fault : (g : Grammar) (texts : List (List ℕ)) (p : ℕ) → IsMissingAt (named_symbols g) (numbered_prods g) texts p
     → (fault : SpelledFault) → IsMissingOf g p fault → IsSpelledFault g texts fault
 missing_fault g texts p bad (Missing text) is = (p, bad, is)
 missing_fault g texts p bad (Unknown text place) is = absurd is
@@ -44,12 +44,12 @@ missing_fault g texts p bad (Repeated text place) is = absurd is
 missing_fault g texts p bad Memory is = tt
 
 -- the fault of a text is one of the list
-pub text_fault : (g : Grammar) (prods texts : List (List ℕ)) (n : NamedSymbols) → prods ≡ listed_prods g → n ≡ named_symbols g → (fault : SpelledFault)
+pub text_fault : (g : Grammar) (prods texts : List (List ℕ)) (n : NamedSymbols) → prods ≡ numbered_prods g → n ≡ named_symbols g → (fault : SpelledFault)
     → IsTextFault n prods texts fault → IsSpelledFault g texts fault
 text_fault g prods texts n prods_are names_are (Unknown text place) is =
-    subst (λ m. IsUnknownAt m (listed_prods g) texts (string_bytes text) place) names_are (subst (λ ps. IsUnknownAt n ps texts (string_bytes text) place) prods_are is)
+    subst (λ m. IsUnknownAt m (numbered_prods g) texts (string_bytes text) place) names_are (subst (λ ps. IsUnknownAt n ps texts (string_bytes text) place) prods_are is)
 text_fault g prods texts n prods_are names_are (Repeated text place) is =
-    subst (λ m. IsRepeatedAt m (listed_prods g) texts (string_bytes text) place) names_are (subst (λ ps. IsRepeatedAt n ps texts (string_bytes text) place) prods_are is)
+    subst (λ m. IsRepeatedAt m (numbered_prods g) texts (string_bytes text) place) names_are (subst (λ ps. IsRepeatedAt n ps texts (string_bytes text) place) prods_are is)
 text_fault g prods texts n prods_are names_are (Missing text) is = absurd is
 text_fault g prods texts n prods_are names_are Memory is = tt
 
@@ -63,16 +63,16 @@ module _ (n : NamedSymbols) (prods spelled : List (List ℕ)) (first : BTreeMap 
   pub missing_at : SpellEach n texts spelled → (p : ℕ) → IsFirstWithout places p → IsMissingAt n prods texts p
   unfolding go_well
   missing_at spell p bad =
-      let len = matched.places_len in
+      let len = matched.texts_len in
       let below = bad.within in
       let within : p < length prods = omega arith in
       record {
         all = go_well spell;
         within = within;
-        few = subst (IsPlaceOf prods spelled p) bad.none (matched.places_are p within);
+        few = subst (IsTextIndexOf prods spelled p) bad.none (matched.texts_are p within);
         first = λ q before.
             let place = some_of (get_or places q None) (bad.first q before) in
-            (place.0, subst (IsPlaceOf prods spelled q) place.1 (matched.places_are q (omega arith)));
+            (place.0, subst (IsTextIndexOf prods spelled q) place.1 (matched.texts_are q (omega arith)));
       }
 
 module _ (n : NamedSymbols) (prods spelled : List (List ℕ)) (first : BTreeMap (Bor (List ℕ)) ℕ) (next free places : List (Option ℕ))
@@ -114,18 +114,18 @@ module _ (n : NamedSymbols) (prods spelled : List (List ℕ)) (first : BTreeMap 
 
 -- the texts list the productions
 pub listing : (g : Grammar) (prods texts spelled : List (List ℕ)) (first : BTreeMap (Bor (List ℕ)) ℕ) (next free places : List (Option ℕ))
-    → prods ≡ listed_prods g → AreMatched prods spelled first next free places → SpellEach (named_symbols g) texts spelled
-    → HavePlaces places (length places) → IsListing g texts places
+    → prods ≡ numbered_prods g → AreMatched prods spelled first next free places → SpellEach (named_symbols g) texts spelled
+    → HaveTexts places (length places) → IsListing g texts places
 listing g prods texts spelled first next free places prods_are so_far spell all =
-    let matched : AreMatched (listed_prods g) spelled first next free places = subst (λ ps. AreMatched ps spelled first next free places) prods_are so_far in
+    let matched : AreMatched (numbered_prods g) spelled first next free places = subst (λ ps. AreMatched ps spelled first next free places) prods_are so_far in
     let count = listed_len g in
-    let len = matched.places_len in
+    let len = matched.texts_len in
     record {
       spelled = spelled;
       spell = spell;
       len = len ∙ count;
       each_prod = λ p within.
           let place = some_of (get_or places p None) (all p (omega arith)) in
-          record { place = place.0; at = place.1; is = subst (IsPlaceOf (listed_prods g) spelled p) place.1 (matched.places_are p (omega arith)) };
+          record { place = place.0; at = place.1; is = subst (IsTextIndexOf (numbered_prods g) spelled p) place.1 (matched.texts_are p (omega arith)) };
       each_text = λ t within. matched.taken t (let same = spell_len (named_symbols g) texts spelled spell in omega arith);
     }

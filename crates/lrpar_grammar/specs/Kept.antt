@@ -75,6 +75,6 @@ IsKeptProd index g pidx prod = slice_get g.prods (index pidx.0) ≡ Some (split_
 abbrev pub ProdFits : {S : Type 0} → (S → ℕ) → List ℕ → SplitProd S → Type 0
 ProdFits index src prod = ProductionFits src (split_prod_of index prod)
 
--- so do those of each production
+-- the places of each production fit the text
 abbrev pub ProdsFit : {S : Type 0} → (S → ℕ) → List ℕ → List (SplitProd S) → Type 0
 ProdsFit index src prods = All (λ prod. ProductionFits src (split_prod_of index prod)) prods

@@ -10,11 +10,10 @@ pub mod SpansFit
 pub mod Tokens
 pub mod Printed
 pub mod Spelled
-pub mod Chains
+pub mod SameProds
 pub mod Matching
 pub mod SymbolNames
 pub mod ProdText
 pub mod SpelledFaults
 pub mod SpelledParts
 pub mod SpelledLaws
-pub mod YaccFiles

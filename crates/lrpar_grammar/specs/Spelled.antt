@@ -26,8 +26,8 @@ abbrev pub numbers_of : Grammar → ℕ → List ℕ
 numbers_of g p = rule_of g p ∷ map (symbol_number (rules_len g)) (symbols_of g p)
 
 -- the productions other than the start production, as numbers of symbols
-abbrev pub listed_prods : Grammar → List (List ℕ)
-listed_prods g = map (numbers_of g) (range_with_len 0 (start_prod g))
+abbrev pub numbered_prods : Grammar → List (List ℕ)
+numbered_prods g = map (numbers_of g) (range_with_len 0 (start_prod g))
 
 -- the number of the first of these names that is the name, if the first of them has the number n
 abbrev pub first_number : ℕ → List (List ℕ) → List ℕ → Option ℕ
@@ -104,7 +104,7 @@ pub record GoesTo (prods texts : List (List ℕ)) (places : List (Option ℕ)) (
   pub is : IsTextOf prods texts p place
 
 -- text t is the text at the place of some production
-pub record IsTaken (prods : List (List ℕ)) (places : List (Option ℕ)) (t : ℕ) : Type 0 where
+pub record IsTextOfSome (prods : List (List ℕ)) (places : List (Option ℕ)) (t : ℕ) : Type 0 where
   pub prod : ℕ
   pub within : prod < length prods
   pub at : slice_index_or places prod None ≡ Some t
@@ -115,13 +115,13 @@ pub record IsListing (g : Grammar) (texts : List (List ℕ)) (places : List (Opt
   pub spelled : List (List ℕ)
   pub spell : SpellEach (named_symbols g) texts spelled
   pub len : length places ≡ start_prod g
-  pub each_prod : (p : ℕ) → p < start_prod g → GoesTo (listed_prods g) spelled places p
-  pub each_text : (t : ℕ) → t < length texts → IsTaken (listed_prods g) places t
+  pub each_prod : (p : ℕ) → p < start_prod g → GoesTo (numbered_prods g) spelled places p
+  pub each_text : (t : ℕ) → t < length texts → IsTextOfSome (numbered_prods g) places t
 
 -- these are the numbers of the production
 abbrev pub AreProdNumbers : {S A : Type 0} → (S → ℕ) → Grammar → PIdx S → Vec ℕ A → Type 0
 AreProdNumbers index g prod numbers = numbers.items ≡ numbers_of g (index prod.0)
 
 -- these are the productions other than the start production, as numbers of symbols
-abbrev pub AreListedProds : {A : Type 0} → Grammar → List (Vec ℕ A) → Type 0
-AreListedProds g prods = map (λ numbers. numbers.items) prods ≡ listed_prods g
+abbrev pub AreNumberedProds : {A : Type 0} → Grammar → List (Vec ℕ A) → Type 0
+AreNumberedProds g prods = map (λ numbers. numbers.items) prods ≡ numbered_prods g

@@ -5,7 +5,7 @@ use Rattle.lrpar_grammar.specs.declared.grammar.spelled_fault.SpelledFault.{Spel
 use Rattle.lrpar_grammar.specs.declared.grammar.spelled_fault.SpelledFault.TheVariants.{Unknown, Repeated, Missing, Memory}
 use Rattle.lrpar_grammar.specs.ProdText.{prod_text}
 use Rattle.lrpar_grammar.specs.SpelledParts.{IsListingInParts}
-use Rattle.lrpar_grammar.specs.Spelled.{HasProduction, HasText, IsListing, NamedSymbols, SpellEach, SpellsNumbers, count_of, listed_prods, named_symbols, numbers_at}
+use Rattle.lrpar_grammar.specs.Spelled.{HasProduction, HasText, IsListing, NamedSymbols, SpellEach, SpellsNumbers, count_of, numbered_prods, named_symbols, numbers_at}
 
 -- each of the texts is of a production
 pub record GoWell (n : NamedSymbols) (prods texts : List (List ℕ)) : Type 0 where
@@ -37,7 +37,7 @@ pub record IsMissingAt (n : NamedSymbols) (prods texts : List (List ℕ)) (p : �
   pub few : count_of (numbers_at prods p) all.spelled ≤ count_of (numbers_at prods p) (take p prods)
   pub first : (q : ℕ) → q < p → HasText prods all.spelled q
 
--- why a text isn't taken
+-- why a text is refused: it spells no production; or all productions that it spells have a text; or an allocation failed
 abbrev pub IsTextFault : NamedSymbols → List (List ℕ) → List (List ℕ) → SpelledFault → Type 0
 IsTextFault n prods texts (Unknown text place) = IsUnknownAt n prods texts (string_bytes text) place
 IsTextFault n prods texts (Repeated text place) = IsRepeatedAt n prods texts (string_bytes text) place
@@ -47,8 +47,8 @@ IsTextFault n prods texts Memory = Unit {0}
 -- Why the texts don't list the productions: the first text that is wrong or, if none is, the first production without a text; or an
 -- allocation failed.
 abbrev pub IsSpelledFault : Grammar → List (List ℕ) → SpelledFault → Type 0
-IsSpelledFault g texts (Missing text) = (p : ℕ) × IsMissingAt (named_symbols g) (listed_prods g) texts p × (string_bytes text ≡ prod_text g p)
-IsSpelledFault g texts fault = IsTextFault (named_symbols g) (listed_prods g) texts fault
+IsSpelledFault g texts (Missing text) = (p : ℕ) × IsMissingAt (named_symbols g) (numbered_prods g) texts p × (string_bytes text ≡ prod_text g p)
+IsSpelledFault g texts fault = IsTextFault (named_symbols g) (numbered_prods g) texts fault
 
 -- the fault of that text and place, or a failed allocation
 abbrev pub IsUnknownOf : List ℕ → ℕ → SpelledFault → Type 0
@@ -71,6 +71,6 @@ IsMissingOf g p _ = ⊥
 abbrev pub AreUnlisted : Grammar → List (List ℕ) → SpelledFault → Type 0
 AreUnlisted g texts fault = fault ≢ Memory → (places : List (Option ℕ)) → IsListing g texts places → ⊥
 
--- the same for texts that come in parts
+-- unless an allocation failed, the texts, which come in parts, list the productions in no way
 abbrev pub AreUnlistedInParts : Grammar → List (List (List ℕ)) → SpelledFault → Type 0
 AreUnlistedInParts g parts fault = fault ≢ Memory → (places : List (Option (ℕ × ℕ))) → IsListingInParts g parts places → ⊥

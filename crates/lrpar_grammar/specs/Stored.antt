@@ -9,7 +9,7 @@ use Rattle.lrpar_grammar_places.specs.declared.span.TIdx.{TIdx}
 use Rattle.lrpar_grammar_reader.specs.declared.parts.GrammarFault.{GrammarFault}
 use Rattle.lrpar_grammar_reader.specs.declared.parts.GrammarParts.{GrammarParts}
 use Rattle.lrpar_grammar_reader.specs.declared.parts.TokenPart.{TokenPart}
-use Rattle.lrpar_grammar_reader.specs.Grammar.{Grammar, IsListedSymbol, end_token, rules_len, symbols_of}
+use Rattle.lrpar_grammar_reader.specs.Grammar.{Grammar, IsDeclaredSymbol, end_token, rules_len, symbols_of}
 use Rattle.lrpar_grammar_reader.specs.Parts.{IsFirstFault, grammar_of, parts_of, token_name_of}
 use Rattle.lrpar_grammar_reader.specs.Symbols.{symbol_of}
 
@@ -42,18 +42,18 @@ abbrev pub IsRightSide : {S : Type 0} → (S → ℕ) → Grammar → PIdx S →
 IsRightSide index g prod symbols = map (symbol_of index) symbols ≡ symbols_of g (index prod.0)
 
 -- the symbol is a listed rule or a token other than the end token
-abbrev pub IsListedIn : {S : Type 0} → (S → ℕ) → Grammar → Symbol S → Type 0
-IsListedIn index g symbol = IsListedSymbol (rules_len g) (end_token g) (symbol_of index symbol)
+abbrev pub IsDeclaredIn : {S : Type 0} → (S → ℕ) → Grammar → Symbol S → Type 0
+IsDeclaredIn index g symbol = IsDeclaredSymbol (rules_len g) (end_token g) (symbol_of index symbol)
 
--- so is each symbol of the production's right side
-abbrev pub HasListedRightSide : {S : Type 0} → (S → ℕ) → Grammar → PIdx S → Type 0
-HasListedRightSide index g prod = All (IsListedSymbol (rules_len g) (end_token g)) (symbols_of g (index prod.0))
+-- each symbol of the production's right side is a listed rule or a token other than the end token
+abbrev pub HasDeclaredRightSide : {S : Type 0} → (S → ℕ) → Grammar → PIdx S → Type 0
+HasDeclaredRightSide index g prod = All (IsDeclaredSymbol (rules_len g) (end_token g)) (symbols_of g (index prod.0))
 
 -- this is the end token
 abbrev pub IsEndOf : {S : Type 0} → (S → ℕ) → Grammar → TIdx S → Type 0
 IsEndOf index g token = index token.0 ≡ end_token g
 
--- this is listed for the token, if it is listed
+-- this is what the grammar has for the token; none for the end token
 abbrev pub IsTokenAt : {S : Type 0} → (S → ℕ) → Grammar → TIdx S → Option (Bor TokenPart) → Type 0
 IsTokenAt index g token found = option_map (λ part. token_name_of part.now) found ≡ slice_get g.tokens (index token.0)
 

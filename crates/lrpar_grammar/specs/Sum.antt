@@ -14,7 +14,7 @@ extent start end = record { start = start; end = end }
 abbrev prod : ℕ → List GrammarSymbol → List Extent → Extent → Production
 prod rule symbols spans span = record { rule = rule; symbols = symbols; symbol_spans = spans; span = span }
 
--- the grammar
+-- the grammar of sums: `E: T '+' E | T; T: 'ID';`
 abbrev pub sum_grammar : Grammar
 sum_grammar = record {
   rules = added_rule ∷ record { name = codes "E"; span = extent 3 4 } ∷ record { name = codes "T"; span = extent 19 20 } ∷ [];
@@ -32,7 +32,7 @@ tree_of_sum {X} left plus right =
     let term : X → Tree X = λ x. Branch 2 (Cons (Leaf x) Nil) in
     Branch 0 (Cons (term left) (Cons (Leaf plus) (Cons (Branch 1 (Cons (term right) Nil)) Nil)))
 
--- that tree over bare tokens
+-- the tree of the text ID `+` ID, over bare tokens
 abbrev pub token_tree : Tree ℕ
 token_tree = tree_of_sum 1 0 1
 

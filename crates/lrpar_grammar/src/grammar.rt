@@ -12,15 +12,10 @@ mod symbol_names;
 mod text;
 mod tokens;
 mod value;
-mod yacc;
 
 pub use lrpar_grammar_reader::parts::{GrammarFault, GrammarParts, ProdPart, RulePart, TokenPart};
-pub use lrpar_grammar_yacc::declarations::{Declarations, Level, Number, Prec};
-pub use lrpar_grammar_yacc::faults::{YaccFault, YaccText};
-pub use lrpar_grammar_yacc::parts::{AssocKind, YaccKind};
 pub use numbers::Numbers;
 pub use spelled::Spelled;
 pub use spelled_fault::SpelledFault;
 pub use spelled_parts::SpelledParts;
 pub use value::YaccGrammar;
-pub use yacc::{YaccFile, YaccFileFault};

@@ -28,11 +28,11 @@ pub record HashesAs {X : Type 0} (input : X → List (List ℕ)) (eq : X → X �
 abbrev pub IsEquality : {X : Type 0} → (X → X → Type 0) → (X → X → Bool) → Type 0
 IsEquality {X = X} same eq = (x y : X) → IsTrue (eq x y) ↔ same x y
 
--- the bytes of the one part are those of the other
+-- two parts of a text have the same start and the same end
 abbrev pub AreSameSpan : Extent → Extent → Type 0
 AreSameSpan x y = (x.start ≡ y.start) × (x.end ≡ y.end)
 
--- the same, as trees keep parts of a text
+-- two parts of a text, as trees keep them, have the same start and the same end
 abbrev pub AreSameRange : TextRange → TextRange → Type 0
 AreSameRange x y = (x.start ≡ y.start) × (x.end ≡ y.end)
 
@@ -40,7 +40,7 @@ AreSameRange x y = (x.start ≡ y.start) × (x.end ≡ y.end)
 abbrev pub span_input : Extent → List (List ℕ)
 span_input x = fed.usize x.start ++ fed.usize x.end
 
--- the same, as trees keep parts of a text
+-- what a hasher is fed for a part of a text, as trees keep it: its start and then its end
 abbrev pub range_input : TextRange → List (List ℕ)
 range_input x = fed.usize x.start ++ fed.usize x.end
 
@@ -64,19 +64,19 @@ Hashing X = record { eq : X → X → Bool; hash_input : X → List (List ℕ) }
 abbrev pub HashesByNumber : {X S : Type 0} → (X → S) → (S → List (List ℕ)) → equality.Ghosts X → Hashing X → Type 0
 HashesByNumber number input e h = HashesAs (λ x. input (number x)) e.eq h.hash_input
 
--- the same of the numbers of rules
+-- for a rule, a hasher is fed what it is fed for its number
 abbrev pub RulesHashBy : {S : Type 0} → (S → List (List ℕ)) → equality.Ghosts (RIdx S) → Hashing (RIdx S) → Type 0
 RulesHashBy = HashesByNumber (λ rule. rule.0)
 
--- the same of the numbers of productions
+-- for a production, a hasher is fed what it is fed for its number
 abbrev pub ProdsHashBy : {S : Type 0} → (S → List (List ℕ)) → equality.Ghosts (PIdx S) → Hashing (PIdx S) → Type 0
 ProdsHashBy = HashesByNumber (λ prod. prod.0)
 
--- the same of the numbers of tokens
+-- for a token, a hasher is fed what it is fed for its number
 abbrev pub TokensHashBy : {S : Type 0} → (S → List (List ℕ)) → equality.Ghosts (TIdx S) → Hashing (TIdx S) → Type 0
 TokensHashBy = HashesByNumber (λ token. token.0)
 
--- the same of the numbers of states
+-- for a state, a hasher is fed what it is fed for its number
 abbrev pub StatesHashBy : {S : Type 0} → (S → List (List ℕ)) → equality.Ghosts (StIdx S) → Hashing (StIdx S) → Type 0
 StatesHashBy = HashesByNumber (λ state. state.0)
 

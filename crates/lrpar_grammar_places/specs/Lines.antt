@@ -59,19 +59,19 @@ pub record LineTable : Type 0 where
 abbrev pub line_table : List ℕ → LineTable
 line_table text = record { starts = filter (starts_line text) (range_with_len 1 (length text)); counts = char_counts text; len = length text }
 
--- of a text with these lines, that many line feeds come before the byte
-abbrev pub AreFeedsBefore : LineTable → ℕ → ℕ → Type 0
-AreFeedsBefore lines byte feeds = (text : List ℕ) → lines ≡ line_table text → feeds ≡ count_by is_line_feed (take byte text)
+-- in a text with these lines, this number of line feeds comes before the byte
+abbrev pub AreLineFeedsBefore : LineTable → ℕ → ℕ → Type 0
+AreLineFeedsBefore lines byte feeds = (text : List ℕ) → lines ≡ line_table text → feeds ≡ count_by is_line_feed (take byte text)
 
--- of a text with these lines, the byte is on the line with this number, if there is one
+-- in a text with these lines, the byte is on the line with this number, if there is one
 abbrev pub IsLineOf : LineTable → ℕ → Option ℕ → Type 0
 IsLineOf lines byte found = (text : List ℕ) → lines ≡ line_table text → IfSome found (λ line. line ≡ line_of text byte)
 
--- of a text with these lines, the line of the byte starts here
+-- in a text with these lines, the line of the byte starts here
 abbrev pub IsLineStart : LineTable → ℕ → ℕ → Type 0
 IsLineStart lines byte start = (text : List ℕ) → lines ≡ line_table text → start ≡ line_start text byte
 
--- of a text with these lines, the line of the byte ends here
+-- in a text with these lines, the line of the byte ends here
 abbrev pub IsLineEnd : LineTable → ℕ → ℕ → Type 0
 IsLineEnd lines byte end = (text : List ℕ) → lines ≡ line_table text → end ≡ line_end text byte
 

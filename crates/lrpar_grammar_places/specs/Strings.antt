@@ -5,6 +5,6 @@ use Rattle.std.specs.Prelude.{◌≡◌, ◌++◌, ℕ, List, String, string_byt
 abbrev pub Appends : {A : Type 0} → String A → String A → List ℕ → Type 0
 Appends old new text = string_bytes new ≡ string_bytes old ++ text
 
--- this is its text
+-- the string has this text
 abbrev pub HasText : {A : Type 0} → List ℕ → String A → Type 0
 HasText text = λ string. string_bytes string ≡ text

@@ -1,7 +1,7 @@
 //! Lines and columns of a text.
 ghost use Rattle.std.specs.Prelude.{◌≡◌, ◌↔◌, ◌≤◌, IsSome, IfSome, IfOk, count_by, length};
 ghost use Rattle.std.specs.Str.{IsCharBoundary};
-ghost use Rattle.lrpar_grammar_places.specs.Lines.{AreBoundaries, AreFeedsBefore, IsBoundary, IsLineEnd, IsLineOf, IsLineStart, begins_char, chars_before, column_of, line_of, line_table};
+ghost use Rattle.lrpar_grammar_places.specs.Lines.{AreBoundaries, AreLineFeedsBefore, IsBoundary, IsLineEnd, IsLineOf, IsLineStart, begins_char, chars_before, column_of, line_of, line_table};
 
 use crate::span::Span;
 use std::alloc::{AllocError, Global};
@@ -66,7 +66,7 @@ impl NewlineCache {
         if byte > self.len {
             return None;
         }
-        Some(1 + self.feeds_before(byte))
+        Some(1 + self.line_feeds_before(byte))
     }
 
     /// The line and the column of a byte, each counted from 1, and columns in characters. The byte at the length of the text has
@@ -81,7 +81,7 @@ impl NewlineCache {
         if !src.is_char_boundary(byte) {
             return None;
         }
-        let line = 1 + self.feeds_before(byte);
+        let line = 1 + self.line_feeds_before(byte);
         let before_line = self.chars_before(src, self.line_start(byte));
         let column = 1 + self.chars_before(src, byte) - before_line;
         Some((line, column))
@@ -99,10 +99,10 @@ impl NewlineCache {
     }
 
     // The number of line feeds before a byte.
-    fn feeds_before(&self, byte: usize) -> usize
+    fn line_feeds_before(&self, byte: usize) -> usize
         requires { byte ≤ (self.now).len }
         ensures bound { result ≤ length (self.now).starts }
-        ensures count { AreFeedsBefore self.now byte result }
+        ensures count { AreLineFeedsBefore self.now byte result }
     {
         self.starts.partition_point(|start| *start <= byte)
     }
@@ -123,7 +123,7 @@ impl NewlineCache {
         ensures start { IsLineStart self.now byte result }
         ensures boundary { IsBoundary self.now result }
     {
-        match self.feeds_before(byte) {
+        match self.line_feeds_before(byte) {
             0 => 0,
             feeds => self.starts[feeds - 1],
         }
@@ -135,7 +135,7 @@ impl NewlineCache {
         ensures end { IsLineEnd self.now byte result }
         ensures boundary { IsBoundary self.now result }
     {
-        match self.starts.get(self.feeds_before(byte)) {
+        match self.starts.get(self.line_feeds_before(byte)) {
             Some(next) => *next - 1,
             None => self.len,
         }

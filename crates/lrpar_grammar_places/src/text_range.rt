@@ -53,7 +53,7 @@ impl TextRange {
         self.start == self.end
     }
 
-    /// The same part as a span.
+    /// This part of the text as a span.
     pub fn span(&self) -> Span
         ensures start { result.start ≡ self.now.start }
         ensures end { result.end ≡ self.now.end }

@@ -6,7 +6,7 @@ use Rattle.std.specs.List.{All, find, flat_map, slice_get}
 use Rattle.std.specs.Option.{IsNone, is_some, option_or}
 use Rattle.std.proofs.lemmas.Bool.{cases_lt}
 use Rattle.std.proofs.lemmas.List.{get_or-map, get_or-take, length-map, take-take, take_all}
-use Rattle.std.proofs.lemmas.List.Elements.{All-head, All-tail, All-weaker}
+use Rattle.std.proofs.lemmas.List.Elements.{All-cons, All-head, All-nil, All-tail, All-weaker}
 use Rattle.std.proofs.lemmas.List.Folds.{find-append}
 use Rattle.std.proofs.lemmas.Option.{get_or_from_slice_get, slice_get-get_or, slice_get_within}
 use Rattle.lrpar_grammar_places.specs.Span.{Extent}
@@ -24,24 +24,46 @@ none_found p [] none = refl
 none_found p (x ∷ xs) none =
     ap (λ b. is_some (cond b (Some x) (find p xs))) (All-head (λ y. p y ≡ false) x xs none) ∙ none_found p xs (All-tail (λ y. p y ≡ false) x xs none)
 
--- the first one that passes is found
-found_at : {X : Type 0} (p : X → Bool) (xs : List X) (i : ℕ) (d : X) → i < length xs → All (λ x. p x ≡ false) (take i xs) → p (get_or xs i d) ≡ true
-    → find p xs ≡ Some (get_or xs i d)
-found_at p [] i d within none is = absurd (omega arith)
-found_at p (x ∷ xs) zero d within none is = ap (λ b. cond b (Some x) (find p xs)) is
-found_at p (x ∷ xs) (suc i) d within none is =
-    ap (λ b. cond b (Some x) (find p xs)) (All-head (λ y. p y ≡ false) x (take i xs) none)
-    ∙ found_at p xs i d (omega arith) (All-tail (λ y. p y ≡ false) x (take i xs) none) is
+-- the places of the words that are found
+placed_if : (b : Bool) (w : Word) (rest : Option Word) (others : Option PlacedWord) → option_map placed rest ≡ others
+    → option_map placed (cond b (Some w) rest) ≡ cond b (Some (placed w)) others
+placed_if true w rest others same = refl
+placed_if false w rest others same = same
 
--- the first word that passes lies at its place
-pub lies_at : (p : PlacedWord → Bool) (words : List Word) (i : ℕ) (d : Word) (span : Extent) → i < length words → All (λ w. p w ≡ false) (take i (map placed words))
-    → p (placed (get_or words i d)) ≡ true → span ≡ (placed (get_or words i d)).span → LiesAt (find p (map placed words)) span
-lies_at p words i d span within none is at =
-    let ws = map placed words in
-    let word : get_or ws i (placed d) ≡ placed (get_or words i d) = get_or-map placed words i d (placed d) within in
-    let found : find p ws ≡ Some (get_or ws i (placed d)) =
-    found_at p ws i (placed d) (omega (arith, length-map words placed)) none (subst (λ w. p w ≡ true) (sym word) is) in
-    ap (option_map (λ w. w.span)) (found ∙ ap Some word) ∙ ap Some (sym at)
+find_placed : (p : PlacedWord → Bool) (words : List Word) → option_map placed (find (λ w. p (placed w)) words) ≡ find p (map placed words)
+find_placed p [] = refl
+find_placed p (w ∷ ws) = placed_if (p (placed w)) w (find (λ v. p (placed v)) ws) (find p (map placed ws)) (find_placed p ws)
+
+-- the word that is found lies at its place
+pub lies_at : (p : PlacedWord → Bool) (words : List Word) (found : Option (Bor Word)) (word : Bor Word) (span : Extent)
+    → option_map (λ w. w.now) found ≡ find (λ w. p (placed w)) words → found ≡ Some word → span ≡ (placed word.now).span → LiesAt (find p (map placed words)) span
+lies_at p words found word span is some at =
+    let word_found : find (λ w. p (placed w)) words ≡ Some word.now = sym is ∙ ap (option_map (λ w. w.now)) some in
+    ap (option_map (λ w. w.span)) (sym (find_placed p words) ∙ ap (option_map placed) word_found) ∙ ap Some (sym at)
+
+-- if none is found, none passes
+fails_if : {X : Type 0} (p : X → Bool) (x : X) (xs : List X) (b : Bool) → p x ≡ b → cond b (Some x) (find p xs) ≡ None
+    → (find p xs ≡ None → All (λ y. p y ≡ false) xs) → All (λ y. p y ≡ false) (x ∷ xs)
+fails_if p x xs true is none more = absurd (cc)
+fails_if p x xs false is none more = All-cons (λ y. p y ≡ false) x xs is (more none)
+
+none_passes : {X : Type 0} (p : X → Bool) (xs : List X) → find p xs ≡ None → All (λ x. p x ≡ false) xs
+none_passes p [] none = All-nil (λ x. p x ≡ false)
+none_passes p (x ∷ xs) none = fails_if p x xs (p x) refl none (none_passes p xs)
+
+pub none_lies : (p : PlacedWord → Bool) (words : List Word) (found : Option (Bor Word)) → option_map (λ w. w.now) found ≡ find (λ w. p (placed w)) words → found ≡ None
+    → All (λ w. p w ≡ false) (map placed words)
+none_lies p words found is none =
+    none_passes p (map placed words)
+    (sym (find_placed p words) ∙ ap (option_map placed) (sym is ∙ ap (option_map (λ w. w.now)) none))
+
+-- if none fails, each passes
+not_false : (b : Bool) → not b ≡ false → b ≡ true
+not_false true is = refl
+not_false false is = absurd (cc)
+
+pub all_pass : {X : Type 0} (p : X → Bool) (xs : List X) → All (λ x. not (p x) ≡ false) xs → All (λ x. p x ≡ true) xs
+all_pass p xs none = All-weaker (λ x. not (p x) ≡ false) (λ x. p x ≡ true) (λ x. not_false (p x)) xs none
 
 -- the first of two lies there, or the second, if there is no first
 pub lies_at_first : (a b : Option PlacedWord) (span : Extent) → LiesAt a span → LiesAt (option_or a b) span

@@ -7,9 +7,9 @@ use Rattle.std.proofs.lemmas.List.Elements.{All-contains_itself, All-map, All-we
 use Rattle.std.proofs.lemmas.Option.{get_or_from_slice_get, slice_get_within}
 use Rattle.lrpar_grammar_words.specs.Words.{PlacedWord}
 use Rattle.lrpar_grammar_words.specs.Outline.{AreOfDefinedRules, OutlineIsOne, TextAlternative, TextOutline}
-use Rattle.lrpar_grammar_reader.specs.Grammar.{IsListedSymbol, Nonterminal, Terminal}
+use Rattle.lrpar_grammar_reader.specs.Grammar.{IsDeclaredSymbol, Nonterminal, Terminal}
 use Rattle.lrpar_grammar_reader.specs.Names.{first_of_each, is_among, number_of, with_name}
-use Rattle.lrpar_grammar_reader.specs.Parts.{AreSound, FitStorage, IsListedProd, grammar_of}
+use Rattle.lrpar_grammar_reader.specs.Parts.{AreSound, FitStorage, IsDeclaredProd, grammar_of}
 use Rattle.lrpar_grammar_reader.specs.Spells.{IsClean, Numbering, SpellsOne, is_token, numbering_of, prod_of_alternative, rule_number, rule_of_word, rule_words, spelled_parts, symbol_of_word, token_number, token_of_word, token_words, used_tokens}
 use Rattle.lrpar_grammar_reader.specs.TextNames.{FitAll, AreNumbered, has_number}
 use Rattle.lrpar_grammar_reader.proofs.NamesLemmas.{not_found, number_of_last, number_within}
@@ -123,17 +123,17 @@ rule_listed rules name known = found_rule (number_of name rules) (length rules) 
 
 -- a symbol with a number is a listed one
 symbol_listed : (b : Bool) (n : Numbering) (w : PlacedWord) → cond b (is_among w.name n.tokens) (is_among w.name n.rules) ≡ true
-    → IsListedSymbol (length n.rules + 1) (length n.tokens) (cond b (Terminal (token_number n.tokens w.name)) (Nonterminal (rule_number n.rules w.name)))
+    → IsDeclaredSymbol (length n.rules + 1) (length n.tokens) (cond b (Terminal (token_number n.tokens w.name)) (Nonterminal (rule_number n.rules w.name)))
 symbol_listed true n w known = found_token (number_of w.name n.tokens) (length n.tokens) (number_within n.tokens w.name) known
 symbol_listed false n w known = rule_listed n.rules w.name known
 
 -- an alternative with numbers is a production of a listed rule with listed symbols
-prod_listed : (n : Numbering) (x : TextAlternative) → AreNumbered n x → IsListedProd (length n.rules + 1) (length n.tokens) (prod_of_alternative n x)
+prod_listed : (n : Numbering) (x : TextAlternative) → AreNumbered n x → IsDeclaredProd (length n.rules + 1) (length n.tokens) (prod_of_alternative n x)
 prod_listed n x has = record {
   rule_added = (rule_listed n.rules x.rule.name has.rule).0;
   rule_within = (rule_listed n.rules x.rule.name has.rule).1;
-  symbols = All-map (IsListedSymbol (length n.rules + 1) (length n.tokens)) (symbol_of_word n) x.symbols
-      (All-weaker (λ (w : PlacedWord). has_number n w ≡ true) (λ (w : PlacedWord). IsListedSymbol (length n.rules + 1) (length n.tokens) (symbol_of_word n w))
+  symbols = All-map (IsDeclaredSymbol (length n.rules + 1) (length n.tokens)) (symbol_of_word n) x.symbols
+      (All-weaker (λ (w : PlacedWord). has_number n w ≡ true) (λ (w : PlacedWord). IsDeclaredSymbol (length n.rules + 1) (length n.tokens) (symbol_of_word n w))
       (λ w known. symbol_listed (is_token n.declared w) n w known) x.symbols has.symbols);
 }
 
@@ -192,10 +192,10 @@ clean_sound limit o of clean fit =
       rules = mapped_some rule_of_word (rule_words o) some;
       storage = parts_fit limit o fit;
       start = record { added = start.0; within = omega (arith, start.1) };
-      symbols = subst (λ r. All (IsListedProd (r + 1) (length (map (token_of_word o) (token_words o)))) (spelled_parts o).prods) (sym rules_len)
-          (subst (λ t. All (IsListedProd (length (rule_words o) + 1) t) (spelled_parts o).prods) (sym tokens_len)
-          (All-map (IsListedProd (length (rule_words o) + 1) (length (token_words o))) (prod_of_alternative n) o.alternatives
-          (All-weaker (AreNumbered n) (λ (x : TextAlternative). IsListedProd (length (rule_words o) + 1) (length (token_words o)) (prod_of_alternative n x))
+      symbols = subst (λ r. All (IsDeclaredProd (r + 1) (length (map (token_of_word o) (token_words o)))) (spelled_parts o).prods) (sym rules_len)
+          (subst (λ t. All (IsDeclaredProd (length (rule_words o) + 1) t) (spelled_parts o).prods) (sym tokens_len)
+          (All-map (IsDeclaredProd (length (rule_words o) + 1) (length (token_words o))) (prod_of_alternative n) o.alternatives
+          (All-weaker (AreNumbered n) (λ (x : TextAlternative). IsDeclaredProd (length (rule_words o) + 1) (length (token_words o)) (prod_of_alternative n x))
           (prod_listed n) o.alternatives (clean_numbers o of clean))));
     }
 

@@ -114,9 +114,9 @@ abbrev pub prods_of : Grammar → ℕ → List ℕ
 prods_of g r = prods_from r 0 g.prods
 
 -- a symbol that a right side may have: a listed rule, or a token other than the end token
-abbrev pub IsListedSymbol : ℕ → ℕ → GrammarSymbol → Type 0
-IsListedSymbol rules tokens (Nonterminal r) = (0 < r) × (r < rules)
-IsListedSymbol rules tokens (Terminal t) = t < tokens
+abbrev pub IsDeclaredSymbol : ℕ → ℕ → GrammarSymbol → Type 0
+IsDeclaredSymbol rules tokens (Nonterminal r) = (0 < r) × (r < rules)
+IsDeclaredSymbol rules tokens (Terminal t) = t < tokens
 
 -- a production with a place for each symbol
 abbrev pub HasSpans : Production → Type 0
@@ -131,5 +131,5 @@ pub record IsWellFormed (g : Grammar) : Type 0 where
   pub last_symbols : symbols_of g (start_prod g) ≡ Nonterminal g.start ∷ []
   pub rule_added : (p : ℕ) → p < start_prod g → 0 < rule_of g p
   pub rule_within : (p : ℕ) → p < start_prod g → rule_of g p < rules_len g
-  pub symbols : (p : ℕ) → p < start_prod g → All (IsListedSymbol (rules_len g) (end_token g)) (symbols_of g p)
+  pub symbols : (p : ℕ) → p < start_prod g → All (IsDeclaredSymbol (rules_len g) (end_token g)) (symbols_of g p)
   pub spans : (p : ℕ) → p < prods_len g → length (symbol_spans_of g p) ≡ prod_len g p

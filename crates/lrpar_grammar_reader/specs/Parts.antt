@@ -8,7 +8,7 @@ use Rattle.lrpar_grammar_reader.specs.declared.parts.GrammarParts.{GrammarParts}
 use Rattle.lrpar_grammar_reader.specs.declared.parts.GrammarFault.{GrammarFault}
 use Rattle.lrpar_grammar_reader.specs.declared.parts.GrammarFault.TheVariants.{NoRules, StorageTooSmall, BadStart, BadSymbol, Memory}
 use Rattle.lrpar_grammar_reader.specs.Symbols.{symbol_of}
-use Rattle.lrpar_grammar_reader.specs.Grammar.{Grammar, RuleName, TokenName, Production, IsListedSymbol, added_rule, added_prod}
+use Rattle.lrpar_grammar_reader.specs.Grammar.{Grammar, RuleName, TokenName, Production, IsDeclaredSymbol, added_rule, added_prod}
 
 -- the listed rules, tokens and productions, and the start rule
 pub record Parts : Type 0 where
@@ -59,34 +59,34 @@ pub record FitStorage (limit : ℕ) (x : Parts) : Type 0 where
   pub prods : length x.prods < limit
 
 -- the start rule is a listed rule
-pub record HasListedStart (x : Parts) : Type 0 where
+pub record HasDeclaredStart (x : Parts) : Type 0 where
   pub added : 0 < x.start
   pub within : x.start ≤ length x.rules
 
 -- a production of a listed rule whose symbols are all listed
-pub record IsListedProd (rules tokens : ℕ) (p : Production) : Type 0 where
+pub record IsDeclaredProd (rules tokens : ℕ) (p : Production) : Type 0 where
   pub rule_added : 0 < p.rule
   pub rule_within : p.rule < rules
-  pub symbols : All (IsListedSymbol rules tokens) p.symbols
+  pub symbols : All (IsDeclaredSymbol rules tokens) p.symbols
 
 -- every production is of a listed rule and has listed symbols
-abbrev pub HasListedSymbols : Parts → Type 0
-HasListedSymbols x = All (IsListedProd (length x.rules + 1) (length x.tokens)) x.prods
+abbrev pub HasDeclaredSymbols : Parts → Type 0
+HasDeclaredSymbols x = All (IsDeclaredProd (length x.rules + 1) (length x.tokens)) x.prods
 
 -- the parts make a grammar
 pub record AreSound (limit : ℕ) (x : Parts) : Type 0 where
   pub rules : x.rules ≢ []
   pub storage : FitStorage limit x
-  pub start : HasListedStart x
-  pub symbols : HasListedSymbols x
+  pub start : HasDeclaredStart x
+  pub symbols : HasDeclaredSymbols x
 
 -- This is the first fault of the parts: it holds, and those before it don't. The faults are tested in the order of
 -- these lines.
 abbrev pub IsFirstFault : ℕ → Parts → GrammarFault → Type 0
 IsFirstFault limit x NoRules = x.rules ≡ []
 IsFirstFault limit x StorageTooSmall = (x.rules ≢ []) × ¬ (FitStorage limit x)
-IsFirstFault limit x BadStart = (x.rules ≢ []) × FitStorage limit x × ¬ (HasListedStart x)
-IsFirstFault limit x BadSymbol = (x.rules ≢ []) × FitStorage limit x × HasListedStart x × ¬ (HasListedSymbols x)
+IsFirstFault limit x BadStart = (x.rules ≢ []) × FitStorage limit x × ¬ (HasDeclaredStart x)
+IsFirstFault limit x BadSymbol = (x.rules ≢ []) × FitStorage limit x × HasDeclaredStart x × ¬ (HasDeclaredSymbols x)
 IsFirstFault limit x _ = ⊥
 
 -- why the parts make no grammar: their first fault or, if they have none, a failed allocation
@@ -94,9 +94,9 @@ abbrev pub IsRefusalOf : ℕ → Parts → GrammarFault → Type 0
 IsRefusalOf limit x Memory = AreSound limit x
 IsRefusalOf limit x fault = IsFirstFault limit x fault
 
--- the production is one of these numbers of listed rules and tokens
+-- the production's rule and symbols are among these numbers of listed rules and tokens
 abbrev pub IsProdAmong : {S : Type 0} → (S → ℕ) → ℕ → ℕ → ProdPart S → Type 0
-IsProdAmong index rules tokens prod = IsListedProd (rules + 1) tokens (prod_of index prod)
+IsProdAmong index rules tokens prod = IsDeclaredProd (rules + 1) tokens (prod_of index prod)
 
 -- the parts make a grammar
 abbrev pub MakeGrammar : {S : Type 0} → (S → ℕ) → ℕ → GrammarParts S → Type 0

@@ -45,7 +45,7 @@ pub record Numbering : Type 0 where
   pub declared : List PlacedWord
   pub tokens : List PlacedWord
 
--- the lists of an outline
+-- the numbering of an outline
 abbrev pub numbering_of : TextOutline → Numbering
 numbering_of o = record { rules = rule_words o; declared = declared_words o; tokens = token_words o }
 
@@ -61,12 +61,12 @@ token_number tokens name = unwrap_or (number_of name tokens) 0
 abbrev pub symbol_of_word : Numbering → PlacedWord → GrammarSymbol
 symbol_of_word n w = if is_token n.declared w then Terminal (token_number n.tokens w.name) else Nonterminal (rule_number n.rules w.name)
 
--- from the start of the first word to the end of the last
+-- the part from the start of the first word to the end of the last
 abbrev pub span_between : Option PlacedWord → Option PlacedWord → Extent → Extent
 span_between (Some first) (Some last) nothing = record { start = first.span.start; end = last.span.end }
 span_between _ _ nothing = nothing
 
--- from the first symbol to the last; without symbols, the empty part before the sign that ends the alternative
+-- the part from the first symbol to the last; without symbols, the empty part before the sign that ends the alternative
 abbrev pub alternative_span : TextAlternative → Extent
 alternative_span x =
     span_between (slice_get x.symbols 0) (slice_get x.symbols (length x.symbols - 1)) (record { start = x.end.span.start; end = x.end.span.start })
@@ -174,7 +174,7 @@ HasFaultBy n o BadStart = ⊥
 HasFaultBy n o StorageTooSmall = ⊥
 HasFaultBy n o Memory = Unit {0}
 
--- the same, with the numbers of the outline itself
+-- this is the first fault of the outline's declarations and rules, by the outline's own numbers
 abbrev pub HasFault : TextOutline → GrammarFault → Type 0
 HasFault o fault = HasFaultBy (numbering_of o) o fault
 
@@ -206,11 +206,11 @@ pub record ReadsWithFault (text : List ℕ) (fault : GrammarFault) : Type 0 wher
 -- Why a text gives no grammar. `Syntax`: it has no outline, and reading it is stuck at this place. `StorageTooSmall`: the
 -- storage type is too small for the grammar that it spells. `Memory`: an allocation failed. Any other: this is the first
 -- fault of its declarations and rules.
-abbrev pub IsFaultOf : ℕ → List ℕ → GrammarFault → Type 0
-IsFaultOf limit text (Syntax place) = IsUnreadableAt text place
-IsFaultOf limit text StorageTooSmall = SpellsTooMany limit text
-IsFaultOf limit text Memory = Unit {0}
-IsFaultOf limit text fault = ReadsWithFault text fault
+abbrev pub IsGrammarFaultOf : ℕ → List ℕ → GrammarFault → Type 0
+IsGrammarFaultOf limit text (Syntax place) = IsUnreadableAt text place
+IsGrammarFaultOf limit text StorageTooSmall = SpellsTooMany limit text
+IsGrammarFaultOf limit text Memory = Unit {0}
+IsGrammarFaultOf limit text fault = ReadsWithFault text fault
 
 -- the text can't be read on from this place, or an allocation failed
 abbrev pub IsOutlineFault : List ℕ → GrammarFault → Type 0

@@ -4,7 +4,7 @@ use Rattle.lrpar_grammar_places.specs.declared.span.PIdx.{PIdx}
 use Rattle.lrpar_grammar_places.specs.declared.span.RIdx.{RIdx}
 use Rattle.lrpar_grammar_places.specs.declared.span.Symbol.{Symbol}
 use Rattle.lrpar_grammar_places.specs.declared.span.Symbol.TheVariants.{Rule, Token}
-use Rattle.lrpar_grammar_reader.specs.Grammar.{GrammarSymbol, IsListedSymbol, Nonterminal, Terminal}
+use Rattle.lrpar_grammar_reader.specs.Grammar.{GrammarSymbol, IsDeclaredSymbol, Nonterminal, Terminal}
 
 -- a symbol by the number in it
 abbrev pub symbol_of : {S : Type 0} → (S → ℕ) → Symbol S → GrammarSymbol
@@ -19,6 +19,6 @@ prod_numbers index prods = map (λ p. index p.0) prods
 abbrev pub IsRuleAmong : {S : Type 0} → (S → ℕ) → ℕ → RIdx S → Type 0
 IsRuleAmong index rules rule = (0 < index rule.0) × (index rule.0 < rules + 1)
 
--- the symbol is one of these numbers of listed rules and tokens
+-- the symbol is among these numbers of listed rules and tokens
 abbrev pub IsSymbolAmong : {S : Type 0} → (S → ℕ) → ℕ → ℕ → Symbol S → Type 0
-IsSymbolAmong index rules tokens symbol = IsListedSymbol (rules + 1) tokens (symbol_of index symbol)
+IsSymbolAmong index rules tokens symbol = IsDeclaredSymbol (rules + 1) tokens (symbol_of index symbol)

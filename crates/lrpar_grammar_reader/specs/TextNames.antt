@@ -80,7 +80,7 @@ IsStartRule index tables starts rule = index rule.0 ≡ start_number (numbering_
 abbrev pub IsNumberedWord : Tables → Word → Type 0
 IsNumberedWord tables word = has_number (numbering_by tables) (placed word) ≡ true
 
--- so has that of each word
+-- the symbol that each word represents has a number
 abbrev pub AreNumberedWords : Tables → List Word → Type 0
 AreNumberedWords tables words = All (λ w. has_number (numbering_by tables) w ≡ true) (map placed words)
 
@@ -88,7 +88,7 @@ AreNumberedWords tables words = All (λ w. has_number (numbering_by tables) w �
 abbrev pub IsNumbered : Tables → Alternative → Type 0
 IsNumbered tables alternative = AreNumbered (numbering_by tables) (alternative_of alternative)
 
--- so have those of each alternative
+-- the rules and the symbols of all alternatives have numbers
 abbrev pub AreAllNumbered : Tables → List Alternative → Type 0
 AreAllNumbered tables alternatives = All (AreNumbered (numbering_by tables)) (map alternative_of alternatives)
 

@@ -28,7 +28,7 @@ HasSymbolsInOrder outline = HasOrderedSymbols (outline_of outline)
 abbrev pub IsInOrder : Alternative → Type 0
 IsInOrder alternative = AreWordsInOrder (alternative_of alternative).symbols
 
--- so are those of each alternative
+-- the symbols of each alternative are in the order of the text
 abbrev pub AreInOrder : List Alternative → Type 0
 AreInOrder alternatives = All (λ x. AreWordsInOrder x.symbols) (map alternative_of alternatives)
 

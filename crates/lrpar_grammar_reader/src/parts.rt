@@ -105,7 +105,7 @@ pub enum GrammarFault {
 }
 
 impl<StorageT: StorageIndex> GrammarParts<StorageT> {
-    ghost use Rattle.lrpar_grammar_reader.specs.Parts.{parts_of, FitStorage, HasListedStart, HasListedSymbols, IsFirstFault, MakeGrammar};
+    ghost use Rattle.lrpar_grammar_reader.specs.Parts.{parts_of, FitStorage, HasDeclaredStart, HasDeclaredSymbols, IsFirstFault, MakeGrammar};
 
     /// The first fault of the parts, `Memory` aside. `None` if a grammar can be made of them. Takes time linear in the parts, and
     /// no memory.
@@ -117,9 +117,9 @@ impl<StorageT: StorageIndex> GrammarParts<StorageT> {
             Some(GrammarFault::NoRules)
         } else if !self.fit_storage() {
             Some(GrammarFault::StorageTooSmall)
-        } else if !self.has_listed_start() {
+        } else if !self.has_declared_start() {
             Some(GrammarFault::BadStart)
-        } else if !self.has_listed_symbols() {
+        } else if !self.has_declared_symbols() {
             Some(GrammarFault::BadSymbol)
         } else {
             None
@@ -136,20 +136,20 @@ impl<StorageT: StorageIndex> GrammarParts<StorageT> {
     }
 
     // Whether the start rule is a listed rule.
-    fn has_listed_start(&self) -> bool
-        ensures { IsTrue result ↔ HasListedStart (parts_of StorageT.index self.now) }
+    fn has_declared_start(&self) -> bool
+        ensures { IsTrue result ↔ HasDeclaredStart (parts_of StorageT.index self.now) }
     {
-        is_listed_rule(self.start, self.rules.len())
+        is_declared_rule(self.start, self.rules.len())
     }
 
     // Whether every production is of a listed rule and has listed symbols.
-    fn has_listed_symbols(&self) -> bool
-        ensures { IsTrue result ↔ HasListedSymbols (parts_of StorageT.index self.now) }
+    fn has_declared_symbols(&self) -> bool
+        ensures { IsTrue result ↔ HasDeclaredSymbols (parts_of StorageT.index self.now) }
     {
         let rules = self.rules.len();
         let tokens = self.tokens.len();
         for prod in &self.prods {
-            if !prod.is_listed(rules, tokens) {
+            if !prod.is_declared(rules, tokens) {
                 return false;
             }
         }
@@ -161,20 +161,20 @@ impl<StorageT: StorageIndex> ProdPart<StorageT> {
     ghost use Rattle.lrpar_grammar_reader.specs.Parts.{IsProdAmong};
 
     // Whether the production is of one of `rules` listed rules, and its symbols are listed.
-    fn is_listed(&self, rules: usize, tokens: usize) -> bool
+    fn is_declared(&self, rules: usize, tokens: usize) -> bool
         ensures { IsTrue result ↔ IsProdAmong StorageT.index rules tokens self.now }
     {
         for (symbol, _) in &self.symbols {
-            if !is_listed_symbol(*symbol, rules, tokens) {
+            if !is_declared_symbol(*symbol, rules, tokens) {
                 return false;
             }
         }
-        is_listed_rule(self.rule, rules)
+        is_declared_rule(self.rule, rules)
     }
 }
 
 // Whether the rule is one of `rules` listed rules.
-fn is_listed_rule<StorageT: StorageIndex>(rule: RIdx<StorageT>, rules: usize) -> bool
+fn is_declared_rule<StorageT: StorageIndex>(rule: RIdx<StorageT>, rules: usize) -> bool
     ensures { IsTrue result ↔ IsRuleAmong StorageT.index rules rule }
 {
     let rule = usize::from(rule);
@@ -182,7 +182,7 @@ fn is_listed_rule<StorageT: StorageIndex>(rule: RIdx<StorageT>, rules: usize) ->
 }
 
 // Whether the symbol is one of `rules` listed rules or `tokens` listed tokens.
-fn is_listed_symbol<StorageT: StorageIndex>(
+fn is_declared_symbol<StorageT: StorageIndex>(
     symbol: Symbol<StorageT>,
     rules: usize,
     tokens: usize,
@@ -190,7 +190,7 @@ fn is_listed_symbol<StorageT: StorageIndex>(
     ensures { IsTrue result ↔ IsSymbolAmong StorageT.index rules tokens symbol }
 {
     match symbol {
-        Symbol::Rule(rule) => is_listed_rule(rule, rules),
+        Symbol::Rule(rule) => is_declared_rule(rule, rules),
         Symbol::Token(token) => usize::from(token) < tokens,
     }
 }

@@ -2,7 +2,7 @@
 ghost use Rattle.std.specs.Prelude.{◌≤◌, IfErr, IfOk, OnOk, length};
 ghost use Rattle.lrpar_grammar_words.specs.Outline.{outline_of};
 ghost use Rattle.lrpar_grammar_reader.specs.Parts.{MakeGrammar};
-ghost use Rattle.lrpar_grammar_reader.specs.Spells.{AreDeclaredOnce, HasFault, IsClean, IsFaultOf, IsOutlineFault};
+ghost use Rattle.lrpar_grammar_reader.specs.Spells.{AreDeclaredOnce, HasFault, IsClean, IsGrammarFaultOf, IsOutlineFault};
 ghost use Rattle.lrpar_grammar_reader.specs.TextNames.{HasNumbering};
 ghost use Rattle.lrpar_grammar_reader.specs.TextParts.{ArePartsOf, AreSpelledBy, HavePlacesIn, RefusesOutline};
 ghost use Rattle.lrpar_grammar_reader.specs.TextWords.{AreEppsOf, HasDefinedRules, HasSymbolsInOrder, IsReadFrom};
@@ -28,7 +28,7 @@ pub fn read_parts<StorageT: StorageIndex>(
     ensures spelled { IfOk result (AreSpelledBy StorageT.index text.now) }
     ensures sound { IfOk result (MakeGrammar StorageT.index StorageT.limit) }
     ensures fits { IfOk result (HavePlacesIn StorageT.index text.now) }
-    ensures faulty { IfErr result (IsFaultOf StorageT.limit text.now) }
+    ensures faulty { IfErr result (IsGrammarFaultOf StorageT.limit text.now) }
 {
     let outline = read_outline(alloc, text)?;
     checked_parts(alloc, &outline)
@@ -74,7 +74,7 @@ fn has_one_start(outline: &Outline) -> Result<(), GrammarFault>
     }
 }
 
-// The same, if there is at most one start and no second text for a token.
+// The parts that the declarations and rules spell, if there is at most one start and no second text for a token.
 fn named_parts<StorageT: StorageIndex>(
     alloc: Global,
     outline: &Outline,
@@ -95,7 +95,7 @@ fn named_parts<StorageT: StorageIndex>(
     fitting_parts(alloc, outline, tables)
 }
 
-// The same, if the declarations and rules are clean.
+// The parts that clean declarations and rules spell, if the storage type can number them.
 fn fitting_parts<StorageT: StorageIndex>(
     alloc: Global,
     outline: &Outline,

@@ -40,24 +40,16 @@ pub fn has_known_names(outline: &Outline, tables: &Tables) -> Result<(), Grammar
 fn find_among(words: &[Word], names: &Names) -> Option<Span>
     ensures { FindsAmong names.now words.now result }
 {
-    for word in words {
-        if names.contains(word.name) {
-            return Some(word.span());
-        }
-    }
-    None
+    let found = words.iter().find(|word| names.contains(word.name))?;
+    Some(found.span())
 }
 
 // The place of the first word whose name isn't among the names.
 fn find_missing(words: &[Word], names: &Names) -> Option<Span>
     ensures { FindsMissing names.now words.now result }
 {
-    for word in words {
-        if !names.contains(word.name) {
-            return Some(word.span());
-        }
-    }
-    None
+    let found = words.iter().find(|word| !names.contains(word.name))?;
+    Some(found.span())
 }
 
 // The place of the first symbol of the alternatives that is neither a token nor a rule.
@@ -76,12 +68,8 @@ fn unknown_symbol(alternatives: &[Alternative], tables: &Tables) -> Option<Span>
 fn find_unknown(symbols: &[Word], tables: &Tables) -> Option<Span>
     ensures { FindsUnknown tables.now symbols.now result }
 {
-    for word in symbols {
-        if !is_known(word, tables) {
-            return Some(word.span());
-        }
-    }
-    None
+    let found = symbols.iter().find(|word| !is_known(word, tables))?;
+    Some(found.span())
 }
 
 // Whether the symbol is a token or a rule.

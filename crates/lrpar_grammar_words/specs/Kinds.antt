@@ -6,13 +6,13 @@ use Rattle.lrpar_grammar_words.specs.declared.words.WordKind.TheVariants.{Name, 
 use Rattle.lrpar_grammar_words.specs.declared.words.TheConstants.WordKind.{ALL}
 
 -- each kind is in the list
-pub is_listed : (kind : WordKind) → Contains ALL kind
-is_listed StartSign = (0, omega arith, refl)
-is_listed TokenSign = (1, omega arith, refl)
-is_listed EppSign = (2, omega arith, refl)
-is_listed RulesSign = (3, omega arith, refl)
-is_listed Name = (4, omega arith, refl)
-is_listed Quoted = (5, omega arith, refl)
-is_listed Colon = (6, omega arith, refl)
-is_listed Bar = (7, omega arith, refl)
-is_listed Semicolon = (8, omega arith, refl)
+pub is_among_all : (kind : WordKind) → Contains ALL kind
+is_among_all StartSign = (0, omega arith, refl)
+is_among_all TokenSign = (1, omega arith, refl)
+is_among_all EppSign = (2, omega arith, refl)
+is_among_all RulesSign = (3, omega arith, refl)
+is_among_all Name = (4, omega arith, refl)
+is_among_all Quoted = (5, omega arith, refl)
+is_among_all Colon = (6, omega arith, refl)
+is_among_all Bar = (7, omega arith, refl)
+is_among_all Semicolon = (8, omega arith, refl)

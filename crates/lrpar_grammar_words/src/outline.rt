@@ -108,7 +108,7 @@ impl<'a> Outline<'a> {
                     return Err(OutlineFault::Syntax(place));
                 };
                 let word = word_at(text, place, kind, piece.len);
-                outline.take(alloc, role, word)?;
+                outline.add_word(alloc, role, word)?;
                 expected = next;
             }
             place += piece.len;
@@ -137,7 +137,7 @@ impl<'a> Outline<'a> {
 
     // Adds one more word, by its role.
     #[tactic(auto, unfolding(crate::specs::Outline::with_word))]
-    fn take(&mut self, alloc: Global, role: Role, word: Word<'a>) -> Result<(), AllocError>
+    fn add_word(&mut self, alloc: Global, role: Role, word: Word<'a>) -> Result<(), AllocError>
         ensures { OnOk result (outline_of self.new ≡ with_word (outline_of self.old) role (placed word.entry)) }
     {
         match role {

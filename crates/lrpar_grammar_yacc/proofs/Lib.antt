@@ -7,3 +7,4 @@ pub mod OwnLemmas
 pub mod FaultLemmas
 pub mod BlankLemmas
 pub mod LiteralLemmas
+pub mod YaccFileLemmas

@@ -7,7 +7,7 @@ use Rattle.lrpar_grammar_words.specs.Words.{is_byte_at}
 use Rattle.lrpar_grammar_yacc.specs.declared.code.Run.{Run}
 use Rattle.lrpar_grammar_yacc.specs.declared.code.Run.TheVariants.{Braced, Typed}
 
--- n more bytes
+-- a number of bytes, with n more; none if there is none
 abbrev pub more : ℕ → Option ℕ → Option ℕ
 more n found = option_map (λ m. n + m) found
 
@@ -19,7 +19,7 @@ is_in_word c = (nat_le 97 c && nat_le c 122) || (nat_le 65 c && nat_le c 90) || 
 abbrev pub hashes_len : List ℕ → ℕ
 hashes_len s = prefix_len (λ c. c == 35) s
 
--- the byte c is that one, and not escaped
+-- the byte c is the byte `one`, and isn't escaped
 abbrev pub is_unescaped : Bool → ℕ → ℕ → Bool
 is_unescaped escaped c one = not escaped && (c == one)
 
@@ -89,12 +89,12 @@ piece_len c s =
     else (if (c == 45) && starts_with nat_eq s (codes ">") then Some 2
     else (if is_in_word c then word_len c s else Some 1)))))
 
--- the brackets that have to be closed in a run
+-- the bytes that open brackets, which have to be closed in a run
 abbrev pub opens : Run → ℕ → Bool
 opens Braced c = c == 123
 opens Typed c = (c == 40) || (c == 91) || (c == 123) || (c == 60)
 
--- their counterparts
+-- the bytes that close brackets in a run
 abbrev pub closes : Run → ℕ → Bool
 closes Braced c = c == 125
 closes Typed c = (c == 41) || (c == 93) || (c == 125) || (c == 62)

@@ -8,7 +8,7 @@ use Rattle.lrpar_grammar_yacc.specs.declared.declarations.Declarations.{Declarat
 use Rattle.lrpar_grammar_yacc.specs.declared.declarations.Level.{Level}
 use Rattle.lrpar_grammar_yacc.specs.declared.declarations.Number.{Number}
 use Rattle.lrpar_grammar_yacc.specs.declared.declarations.Prec.{Prec}
-use Rattle.lrpar_grammar_yacc.specs.declared.parts.AssocKind.{AssocKind}
+use Rattle.lrpar_table_precedence.specs.declared.precedence.AssocKind.{AssocKind}
 use Rattle.lrpar_grammar_yacc.specs.declared.parts.PartKind.{PartKind}
 use Rattle.lrpar_grammar_yacc.specs.declared.parts.PartKind.TheVariants.{Level as LevelPart, AvoidInsert, ExpectUnused, Expect, ExpectRr, Prec as PrecPart}
 use Rattle.lrpar_grammar_yacc.specs.declared.parts.YaccKind.{YaccKind}

@@ -71,6 +71,6 @@ abbrev pub first_fault : YaccKind → List ℕ → Option YaccFault
 first_fault kind text = fault_by text (parts_of kind text) (declarations kind text) (mid_action kind text)
 
 -- this is the first fault of the text, or an allocation failed
-abbrev pub IsFaultOf : YaccKind → List ℕ → YaccFault → Type 0
-IsFaultOf kind text Memory = Unit {0}
-IsFaultOf kind text fault = first_fault kind text ≡ Some fault
+abbrev pub IsYaccFaultOf : YaccKind → List ℕ → YaccFault → Type 0
+IsYaccFaultOf kind text Memory = Unit {0}
+IsYaccFaultOf kind text fault = first_fault kind text ≡ Some fault

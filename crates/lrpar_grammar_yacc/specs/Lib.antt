@@ -6,3 +6,4 @@ pub mod Declares
 pub mod Faults
 pub mod Laws
 pub mod Literals
+pub mod YaccFiles

@@ -8,7 +8,7 @@ pub data LiteralByte : Type 0 where
   Plain : (byte : ℕ) → LiteralByte
   Escaped : (byte : ℕ) → LiteralByte
 
--- the bytes of it
+-- the bytes that spell a byte of a literal
 abbrev pub bytes_of : LiteralByte → List ℕ
 bytes_of (Plain c) = c ∷ []
 bytes_of (Escaped c) = 92 ∷ c ∷ []

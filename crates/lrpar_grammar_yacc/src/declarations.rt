@@ -4,10 +4,11 @@ ghost use Rattle.lrpar_grammar_words.specs.Words.{placed};
 ghost use Rattle.lrpar_grammar_yacc.specs.Declares.{declared_by, names_of, number_as, number_in, number_of};
 ghost use Rattle.lrpar_grammar_yacc.specs.Erasure.{IsPartOfText};
 
-use crate::parts::{AssocKind, PartKind};
+use crate::parts::PartKind;
 use crate::text::TextPart;
 use lrpar_grammar_places::span::Span;
 use lrpar_grammar_words::words::{Word, piece_at, word_at};
+use lrpar_table_precedence::precedence::AssocKind;
 use std::alloc::{AllocError, Global};
 
 /// Names whose precedence is the same.
@@ -94,7 +95,7 @@ impl<'a> Declarations<'a> {
     {
         let mut declarations = Declarations::new(alloc);
         for part in parts {
-            declarations.take(alloc, text, *part)?;
+            declarations.add_part(alloc, text, *part)?;
         }
         Ok(declarations)
     }
@@ -115,7 +116,7 @@ impl<'a> Declarations<'a> {
 
     // Adds what one more part declares.
     #[tactic(auto, unfolding(crate::specs::Declares::with_part))]
-    fn take(&mut self, alloc: Global, text: &'a str, part: TextPart) -> Result<(), AllocError>
+    fn add_part(&mut self, alloc: Global, text: &'a str, part: TextPart) -> Result<(), AllocError>
         requires { IsPartOfText text.now part }
         ensures { OnOk result (declarations_of self.new ≡ with_part text.now (declarations_of self.old) part) }
     {
@@ -129,7 +130,7 @@ impl<'a> Declarations<'a> {
             PartKind::ExpectUnused => push_words(&mut self.unused, text, part)?,
             PartKind::Expect => self.expected.push(number_in(text, part))?,
             PartKind::ExpectRr => self.expected_rr.push(number_in(text, part))?,
-            PartKind::Prec => self.take_prec(alloc, text, part)?,
+            PartKind::Prec => self.add_prec(alloc, text, part)?,
             _ => {}
         }
         Ok(())
@@ -137,7 +138,7 @@ impl<'a> Declarations<'a> {
 
     // Adds a `%prec`.
     #[tactic(auto, unfolding(crate::specs::Declares::with_part))]
-    fn take_prec(&mut self, alloc: Global, text: &'a str, part: TextPart) -> Result<(), AllocError>
+    fn add_prec(&mut self, alloc: Global, text: &'a str, part: TextPart) -> Result<(), AllocError>
         requires part { IsPartOfText text.now part }
         requires kind { part.kind ≡ PartKind.Prec }
         ensures { OnOk result (declarations_of self.new ≡ with_part text.now (declarations_of self.old) part) }

@@ -5,7 +5,7 @@ ghost use Rattle.lrpar_grammar_words.specs.Words.{placed};
 ghost use Rattle.lrpar_grammar_yacc.specs.declared.faults.YaccFault.TheVariants.{BadNumber, Memory, MidRuleAction, RepeatedPrec, RepeatedPrecedence};
 ghost use Rattle.lrpar_grammar_yacc.specs.Declares.{declarations, declarations_of, declared_by, level_of, prec_of};
 ghost use Rattle.lrpar_grammar_yacc.specs.Erasure.{AreBlanked, IsPartOfText, erasure};
-ghost use Rattle.lrpar_grammar_yacc.specs.Faults.{IsFaultOf, bad_number, earlier, fault_by, first_fault, has_bad_number, has_number, is_same, place_of, repeated_after, repeated_name, repeated_prec};
+ghost use Rattle.lrpar_grammar_yacc.specs.Faults.{IsYaccFaultOf, bad_number, earlier, fault_by, first_fault, has_bad_number, has_number, is_same, place_of, repeated_after, repeated_name, repeated_prec};
 
 use crate::declarations::{Declarations, Level, Prec, number_of};
 use crate::parts::{PartKind, YaccKind};
@@ -82,7 +82,7 @@ impl<'a> YaccText<'a> {
         ensures places { IfOk result (λ y. AreBlanked text.now (string_bytes y.erased)) }
         ensures declared { IfOk result (λ y. declarations_of y.declarations ≡ declarations kind text.now) }
         ensures sound { OnOk result (first_fault kind text.now ≡ None) }
-        ensures faulty { IfErr result (IsFaultOf kind text.now) }
+        ensures faulty { IfErr result (IsYaccFaultOf kind text.now) }
     {
         let parts = TextParts::read(alloc, kind, text)?;
         let declarations = Declarations::of_parts(alloc, text, &parts.parts)?;
@@ -254,7 +254,7 @@ fn earlier(a: Option<YaccFault>, b: Option<YaccFault>) -> Option<YaccFault>
     ensures { result ≡ earlier a b }
 {
     match (a, b) {
-        (Some(a), Some(b)) => Some(if b.place() < a.place() { b } else { a }),
+        (Some(a), Some(b)) => Some(if b.offset() < a.offset() { b } else { a }),
         (Some(a), None) => Some(a),
         (None, b) => b,
     }
@@ -262,7 +262,7 @@ fn earlier(a: Option<YaccFault>, b: Option<YaccFault>) -> Option<YaccFault>
 
 impl YaccFault {
     // The place of the fault.
-    fn place(&self) -> usize
+    fn offset(&self) -> usize
         ensures { result ≡ place_of self.now }
     {
         match self {

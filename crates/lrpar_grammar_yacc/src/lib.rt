@@ -1,9 +1,10 @@
-//! What a `.y` file of yacc or of lrpar has beyond a grammar text: its erasure, and what it declares.
+//! `.y` files of lrpar and of yacc: their erasure to a grammar text, the grammar that is left, and what they declare beside it.
 #![tactic(auto)]
 
 mod code;
 pub mod declarations;
 pub mod faults;
+pub mod file;
 pub mod laws;
 pub mod parts;
 pub mod steps;

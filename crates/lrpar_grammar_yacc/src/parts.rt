@@ -7,6 +7,7 @@ ghost use Rattle.lrpar_grammar_yacc.specs.Parts.{EndsAtAscii, IsPartWithin, blan
 use crate::code::{Run, line_len, run_len};
 use lrpar_grammar_words::word_order::Expected;
 use lrpar_grammar_words::words::{WordKind, piece_at};
+use lrpar_table_precedence::precedence::AssocKind;
 
 /// The kinds of `.y` files, as cfgrammar names them. All parts are read in both but these: `-> Type` of a rule is one of
 /// `Grmtools` alone, and `%actiontype` one of `Original` alone.
@@ -16,17 +17,6 @@ pub enum YaccKind {
     Grmtools,
     /// The files of yacc: `%actiontype` names one type for all rules.
     Original,
-}
-
-/// How the tokens of a level of precedence associate.
-#[derive(Clone, Copy, Debug, PartialEq, Eq)]
-pub enum AssocKind {
-    /// To the left, as `%left` declares: `1-2-3` is `(1-2)-3`.
-    Left,
-    /// To the right, as `%right` declares: `1=2=3` is `1=(2=3)`.
-    Right,
-    /// Not at all, as `%nonassoc` declares: `1<2<3` is an error.
-    Nonassoc,
 }
 
 /// What a part of a `.y` file is.

@@ -19,7 +19,7 @@ found_by program text = option_map span (leftmost program text 0)
 abbrev pub FindsLen : Program → List ℕ → Option ℕ → Type 0
 FindsLen program rest found = (pattern : Re) → FindsAtStart program pattern → IsMatchLen rest pattern found
 
--- the same of the program with this index, if there is one
+-- if there is a program with this index: the number of bytes that its pattern matches at the start of `rest`, if it does
 abbrev pub FindsLenAt : List Program → ℕ → List ℕ → Option ℕ → Type 0
 FindsLenAt programs index rest found =
     (program : Program) (pattern : Re) → slice_get programs index ≡ Some program → FindsAtStart program pattern → IsMatchLen rest pattern found

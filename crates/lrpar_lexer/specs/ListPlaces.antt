@@ -11,7 +11,7 @@ abbrev pub span_of : {S : Type 0} → Result (Token S) NoToken → Extent
 span_of (Ok x) = x.span
 span_of (Err e) = e.span
 
--- it starts and ends in the text, each between two characters
+-- a lexeme or an error starts and ends in the text, each between two characters
 abbrev pub FitsText : {S : Type 0} → List ℕ → Result (Token S) NoToken → Type 0
 FitsText text answer = IsPartOf text (span_of answer)
 

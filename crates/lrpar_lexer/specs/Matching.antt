@@ -12,7 +12,7 @@ pub record IsMatch (rest : List ℕ) (pattern : Re) (n : ℕ) : Type 0 where
   pub some : 0 < n
   pub boundary : IsCharBoundary rest n
 
--- the pattern has no such match
+-- the pattern finds nothing in `rest` that begins at its start, has at least one byte and ends between two characters
 abbrev pub HasNoMatch : List ℕ → Re → Type 0
 HasNoMatch rest pattern = (n : ℕ) → ¬ (IsMatch rest pattern n)
 

@@ -16,10 +16,11 @@ is_blank byte = byte == 32 || byte == 9
 abbrev pub is_margin : ℕ → Bool
 is_margin byte = is_blank byte || byte == 13
 
--- the text without the bytes at its start that pass a test, up to the first that doesn't; then the same at its end
+-- the text from its first byte on that fails a test
 abbrev pub without_front : (ℕ → Bool) → List ℕ → List ℕ
 without_front test text = drop (prefix_len test text) text
 
+-- the text up to its last byte that fails a test
 abbrev pub without_end : (ℕ → Bool) → List ℕ → List ℕ
 without_end test text = take (length text - suffix_len test text) text
 
@@ -27,7 +28,7 @@ without_end test text = take (length text - suffix_len test text) text
 abbrev pub core_of : List ℕ → List ℕ
 core_of line = without_end is_margin (without_front is_margin line)
 
--- the same for each line, without the lines that are empty then
+-- each line without spaces, tabs and carriage returns at its ends, but for the lines that are empty then
 abbrev pub cores_of : List (List ℕ) → List (List ℕ)
 cores_of lines = filter (λ core. nat_lt 0 (length core)) (map core_of lines)
 
@@ -42,7 +43,7 @@ abbrev pub ending_of : Option (List ℕ) → List ℕ
 ending_of None = semicolon ∷ []
 ending_of (Some name) = quote ∷ name ++ quote ∷ []
 
--- the line is `front` and then such an ending; the name has no quote
+-- the line is `front` and then an ending: a name between quotes, in which there is no quote, or a semicolon
 pub record HasEnding (line front : List ℕ) (name : Option (List ℕ)) : Type 0 where
   pub is : line ≡ front ++ ending_of name
   pub unquoted : IfSome name (All (λ byte. byte ≢ quote))
@@ -58,7 +59,7 @@ pub record HasGap (text pattern : List ℕ) : Type 0 where
   pub ends : pattern ≡ front ++ last ∷ []
   pub solid : is_blank last ≡ false
 
--- what comes before the ending of the line, and the name of the ending, if it has one; nothing if the line has no such ending
+-- what comes before the ending of the line, and the name of the ending, if it has one; nothing if the line has no ending
 abbrev pub FindsEnding : List ℕ → Option (Bor (List ℕ) × Option (Bor (List ℕ))) → Type 0
 FindsEnding line found =
     MatchOption found ((front : List ℕ) (name : Option (List ℕ)) → ¬ (HasEnding line front name))

@@ -66,8 +66,8 @@ NamesLine IsSuch (Line number why) = IsSuch number why
 NamesLine IsSuch Memory = ⊤
 
 -- the fault is that of the first line, blank ones aside, that gives no rule, with the reason; or it is `Memory`
-abbrev pub IsFaultOf : {S : Type 0} → (S → ℕ) → Grammar → List ℕ → RulesFault → Type 0
-IsFaultOf index grammar text fault = NamesLine (IsFirstFault index grammar (text_lines text)) fault
+abbrev pub IsRulesFaultOf : {S : Type 0} → (S → ℕ) → Grammar → List ℕ → RulesFault → Type 0
+IsRulesFaultOf index grammar text fault = NamesLine (IsFirstFault index grammar (text_lines text)) fault
 
 -- the fault names line `number`, and a reason why this line gives no rule; or it is `Memory`
 abbrev pub IsFaultOfLine : Grammar → ℕ → List ℕ → RulesFault → Type 0

@@ -7,7 +7,7 @@ use Rattle.lrpar_lexer.specs.Anchored.{HasNothingAtStart}
 use Rattle.lrpar_lexer.specs.declared.rule_tree.Node.{Node}
 use Rattle.lrpar_lexer.specs.declared.rule_tree.Branch.{Branch}
 
--- the rules at a node, if it is one
+-- the rules at a node; none if there is no such node
 abbrev pub rules_of : Option Node → List ℕ
 rules_of None = []
 rules_of (Some node) = node.rules.items
@@ -15,7 +15,7 @@ rules_of (Some node) = node.rules.items
 abbrev pub rules_at : List Node → ℕ → List ℕ
 rules_at nodes n = rules_of (slice_get nodes n)
 
--- the branches of a node, if it is one
+-- the branches of a node; none if there is no such node
 abbrev pub branches_of : Option Node → List Branch
 branches_of None = []
 branches_of (Some node) = node.branches.items
@@ -52,11 +52,11 @@ abbrev pub IsMet : List Node → Program → ℕ → Type 0
 IsMet nodes program rule =
     (byte : ℕ) (text : List ℕ) → byte < 256 → ¬ (Meets nodes byte text rule) → HasNothingAtStart (pattern_of program) (byte ∷ text)
 
--- the same of the nodes as they are stored
+-- the program finds nothing at the start of a text along which the walk over the nodes, as they are stored, doesn't meet the rule
 abbrev pub IsMetIn : {A : Type 0} → Vec Node A → Program → ℕ → Type 0
 IsMetIn nodes program rule = IsMet nodes.items program rule
 
--- the same of each program, whose rule is the one with its place
+-- each program finds nothing at the start of a text along which the walk doesn't meet the rule with the program's number
 abbrev pub AreMet : List Node → List Program → Type 0
 AreMet nodes programs = (rule : ℕ) (program : Program) → slice_get programs rule ≡ Some program → IsMet nodes program rule
 
@@ -64,7 +64,7 @@ AreMet nodes programs = (rule : ℕ) (program : Program) → slice_get programs 
 abbrev pub FindsNoneFrom : Program → ℕ → Type 0
 FindsNoneFrom program byte = (text : List ℕ) → HasNothingAtStart (pattern_of program) (byte ∷ text)
 
--- the same of the texts that begin with the byte, and along which the walk doesn't meet the rule
+-- the program finds nothing at the start of a text that begins with the byte, if the walk along it doesn't meet the rule
 abbrev pub IsMetFrom : {A : Type 0} → Vec Node A → ℕ → Program → ℕ → Type 0
 IsMetFrom nodes byte program rule =
     (text : List ℕ) → ¬ (Meets nodes.items byte text rule) → HasNothingAtStart (pattern_of program) (byte ∷ text)
@@ -80,14 +80,14 @@ pub record IsNodePushed (old new : List Node) : Type 0 where
   pub no_rules : node.rules.items ≡ []
   pub no_branches : node.branches.items ≡ []
 
--- the same nodes, with one more branch after those of node n
+-- node n has one more branch, after those that it had; all else is as before
 pub record IsBranchPushed (old : List Node) (n : ℕ) (branch : Branch) (new : List Node) : Type 0 where
   pub node : Node
   pub is : new ≡ set old n node
   pub rules : node.rules.items ≡ rules_at old n
   pub branches : node.branches.items ≡ branches_at old n ++ branch ∷ []
 
--- the same nodes, with one more rule after those of node n
+-- node n has one more rule, after those that it had; all else is as before
 pub record IsRulePushed (old : List Node) (n rule : ℕ) (new : List Node) : Type 0 where
   pub node : Node
   pub is : new ≡ set old n node
@@ -100,7 +100,7 @@ pub record Grows (old new : List Node) : Type 0 where
   pub branches : (n byte next : ℕ) → next_of old n byte ≡ Some next → next_of new n byte ≡ Some next
   pub tree : IsTree old → IsTree new
 
--- the same of the nodes as they are stored
+-- the nodes, as they are stored, are still there, with their rules and branches; and a tree is still a tree
 abbrev pub HasGrown : {A : Type 0} → Vec Node A → Vec Node A → Type 0
 HasGrown old new = Grows old.items new.items
 

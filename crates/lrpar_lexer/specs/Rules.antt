@@ -37,7 +37,7 @@ pub record HasPatternBy {S : Type 0} (config : Config) (text : List ℕ) (rule :
   pub read : Reads config text tree names
   pub is : pattern_of rule ≡ meaning tree
 
--- the same with the default options
+-- the rule's pattern is what the grammar of `regex` reads in the text, with the default options
 abbrev pub HasPattern : {S : Type 0} → List ℕ → LexRule S → Type 0
 HasPattern text rule = HasPatternBy default_config text rule
 

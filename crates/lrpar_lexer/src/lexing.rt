@@ -21,7 +21,7 @@ pub(crate) fn answers<StorageT: StorageIndex>(
     let mut answers = Vec::new(alloc);
     let mut at = 0;
     'places: while at < text.len() {
-        let Some(winner) = matchers.winner(&text[at..]) else {
+        let Some(winner) = matchers.find_winner(&text[at..]) else {
             answers.push(Err(NoToken::at(at)))?;
             return Ok(answers);
         };

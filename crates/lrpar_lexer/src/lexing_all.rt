@@ -47,8 +47,8 @@ fn next_lexeme<StorageT: StorageIndex>(
     ensures boundary { IsCharBoundary text.now (at + result.1) }
     ensures same { programs_of matchers.new ≡ programs_of matchers.old }
 {
-    let Some(winner) = matchers.winner(&text[at..]) else {
-        return (Some(unmatched), matchers.unmatched_len(text, at, None));
+    let Some(winner) = matchers.find_winner(&text[at..]) else {
+        return (Some(unmatched), matchers.measure_unmatched(text, at, None));
     };
     (token_of(rules, winner.rule), winner.len)
 }

@@ -70,7 +70,7 @@ impl<'input, StorageT: StorageIndex> ListLexer<'input, StorageT> {
     }
 
     // The line and the column of a byte.
-    fn place(&self, byte: usize) -> (usize, usize)
+    fn position(&self, byte: usize) -> (usize, usize)
         requires { IsCharBoundary self.now.input.now byte }
         ensures line { result.0 ≡ line_of self.now.input.now byte }
         ensures column { result.1 ≡ column_of self.now.input.now byte }
@@ -103,7 +103,7 @@ impl<'input, StorageT: StorageIndex> NonStreamingLexer<'input, TokenTypes<Storag
     }
 
     fn line_col(&self, span: Span) -> ((usize, usize), (usize, usize)) {
-        (self.place(span.start()), self.place(span.end()))
+        (self.position(span.start()), self.position(span.end()))
     }
 }
 

@@ -51,17 +51,17 @@ impl<'r> Matchers<'r> {
     }
 
     // The winner at the start of a text, if a pattern matches there.
-    pub(crate) fn winner(&mut self, rest: &str) -> Option<Winner>
+    pub(crate) fn find_winner(&mut self, rest: &str) -> Option<Winner>
         ensures winner { FindsWinner (programs_of self.old) rest.now result }
         ensures same { programs_of self.new ≡ programs_of self.old }
     {
-        winner_met(&mut self.matchers, &self.tree, rest)
+        find_winner_met(&mut self.matchers, &self.tree, rest)
     }
 
     /// The winner at the start of a text among the patterns with these indices, if one of them matches there: the longest match, and the
     /// first in the list of indices among several. The winner's `rule` is a place in that list. An index past the last rule has no match.
     /// Looks at each index, but searches only for patterns whose matches can begin with the bytes there.
-    pub fn winner_among(&mut self, rest: &str, chosen: &[usize]) -> Option<Winner>
+    pub fn find_winner_among(&mut self, rest: &str, chosen: &[usize]) -> Option<Winner>
         ensures winner { FindsWinnerAmong (programs_of self.old) chosen.now rest.now result }
         ensures same { programs_of self.new ≡ programs_of self.old }
     {
@@ -92,7 +92,7 @@ impl<'r> Matchers<'r> {
     /// The number of bytes of the longest run of characters from byte `at` on at which none of the patterns that are tried matches, if none
     /// matches at `at`: those with the chosen indices, or all patterns if none are chosen. Takes the time of one match at each character of
     /// the run, and at the one after it.
-    pub fn unmatched_len(&mut self, text: &str, at: usize, chosen: Option<&[usize]>) -> usize
+    pub fn measure_unmatched(&mut self, text: &str, at: usize, chosen: Option<&[usize]>) -> usize
         requires { at < length text.now }
         ensures unmatched { FindsUnmatched (programs_of self.old) chosen.entry text.now at result }
         ensures same { programs_of self.new ≡ programs_of self.old }
@@ -115,17 +115,17 @@ impl<'r> Matchers<'r> {
         if !text.is_char_boundary(at) {
             return false;
         }
-        self.winner_tried(&text[at..], chosen).is_some()
+        self.try_patterns(&text[at..], chosen).is_some()
     }
 
     // The winner at the start of a text among the patterns that are tried.
-    fn winner_tried(&mut self, rest: &str, chosen: Option<&[usize]>) -> Option<Winner>
+    fn try_patterns(&mut self, rest: &str, chosen: Option<&[usize]>) -> Option<Winner>
         ensures winner { FindsWinnerTried (programs_of self.old) chosen.entry rest.now result }
         ensures same { programs_of self.new ≡ programs_of self.old }
     {
         match chosen {
-            Some(chosen) => self.winner_among(rest, chosen),
-            None => self.winner(rest),
+            Some(chosen) => self.find_winner_among(rest, chosen),
+            None => self.find_winner(rest),
         }
     }
 }
@@ -145,7 +145,7 @@ fn matchers_of<'r, StorageT>(
 }
 
 // The winner at the start of a text: the best of the rules that a walk along the text meets.
-fn winner_met(matchers: &mut Vec<Matcher<'_>>, tree: &RuleTree, rest: &str) -> Option<Winner>
+fn find_winner_met(matchers: &mut Vec<Matcher<'_>>, tree: &RuleTree, rest: &str) -> Option<Winner>
     requires { AreMet tree.now.nodes.items (programs_in matchers.old) }
     ensures winner { FindsWinner (programs_in matchers.old) rest.now result }
     ensures same { programs_in matchers.new ≡ programs_in matchers.old }
@@ -155,19 +155,19 @@ fn winner_met(matchers: &mut Vec<Matcher<'_>>, tree: &RuleTree, rest: &str) -> O
         return None;
     }
     let mut node = tree.first(bytes[0]);
-    let mut best = best_of(matchers, tree.rules(node), rest, None);
+    let mut best = keep_best(matchers, tree.rules(node), rest, None);
     'walk: for byte in &bytes[1..] {
         let Some(next) = tree.next(node, *byte) else {
             return best;
         };
         node = next;
-        best = best_of(matchers, tree.rules(node), rest, best);
+        best = keep_best(matchers, tree.rules(node), rest, best);
     }
     best
 }
 
 // The best match so far, or that of one of these rules if it is better.
-fn best_of(
+fn keep_best(
     matchers: &mut Vec<Matcher<'_>>,
     rules: &[usize],
     rest: &str,

@@ -50,7 +50,7 @@ impl<StorageT: StorageIndex> LexRule<StorageT> {
         LexRule::with_config(alloc, pattern, &Config::default(), token)
     }
 
-    /// The same, with these options of the pattern: the flags at its start, octal escapes, and how deep it may nest.
+    /// A rule with these options of its pattern: the flags at its start, octal escapes, and how deep it may nest.
     pub fn with_config(
         alloc: Global,
         pattern: &str,

@@ -1,7 +1,7 @@
 //! The rules of a lexer as a text.
 ghost use Rattle.std.specs.Prelude.{◌≡◌, IfErr, IfOk};
 ghost use Rattle.lrpar_lexer.specs.RuleLines.{FindsEnding, FindsGap, FindsParts, core_of};
-ghost use Rattle.lrpar_lexer.specs.RuleTexts.{AreRulesOfText, IsFaultOf, IsFaultOfLine, IsFaultOfName, IsFaultOfPattern, IsFirstNamed, IsRuleOf};
+ghost use Rattle.lrpar_lexer.specs.RuleTexts.{AreRulesOfText, IsRulesFaultOf, IsFaultOfLine, IsFaultOfName, IsFaultOfPattern, IsFirstNamed, IsRuleOf};
 
 use crate::rule::LexRule;
 use lrpar_grammar::grammar::YaccGrammar;
@@ -45,7 +45,7 @@ pub fn rules_of<StorageT: StorageIndex>(
     text: &str,
 ) -> Result<Vec<LexRule<StorageT>>, RulesFault>
     ensures rules { IfOk result (AreRulesOfText StorageT.index grm.now text.now) }
-    ensures fault { IfErr result (IsFaultOf StorageT.index grm.now text.now) }
+    ensures fault { IfErr result (IsRulesFaultOf StorageT.index grm.now text.now) }
 {
     let mut rules = Vec::new(alloc);
     let mut number = 0;

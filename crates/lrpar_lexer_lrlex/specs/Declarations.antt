@@ -49,7 +49,7 @@ declared states (line ∷ lines) =
     if is_rules_sign (trimmed line) then Ok (states, lines)
     else declare states (trimmed line) >>= λ states. declared states lines
 
--- the same of a text's lines, with the state `INITIAL` before all others
+-- the state `INITIAL` and the states that a text's lines declare, up to the first line `%%`; and the lines after that
 abbrev pub declarations : List Part → Result (List states.StateName × List Part) LrlexFault
 declarations lines = declared (record { name = codes "INITIAL"; exclusive = false } ∷ []) lines
 
@@ -61,11 +61,11 @@ module _ {T Z : Type 0} (old : Vec code_state.StateName Z) where
   abbrev pub AddsStates : code.Part → Vec code_state.StateName Z → Result T LrlexFault → Type 0
   AddsStates line new result = Keeps (plain_names new.items) (declare (plain_names old.items) (placed line)) result
 
-  -- the same of the states with these names, which are exclusive or not
+  -- the states with these names, which are exclusive or not, were added, or this is their first fault; the fault may also be `Memory`
   abbrev pub AddsAllStates : code.Part → code.Part → Bool → Vec code_state.StateName Z → Result T LrlexFault → Type 0
   AddsAllStates line names exclusive new result =
       Keeps (plain_names new.items) (declare_all (plain_names old.items) (placed line) (placed names) exclusive) result
 
-  -- the same of one state
+  -- the state with this name, which is exclusive or not, was added, or this is its fault; the fault may also be `Memory`
   abbrev pub AddsState : code.Part → Bool → Vec code_state.StateName Z → Result T LrlexFault → Type 0
   AddsState name exclusive new result = Keeps (plain_names new.items) (declare_one (plain_names old.items) (placed name) exclusive) result

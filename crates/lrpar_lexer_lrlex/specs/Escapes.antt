@@ -3,7 +3,7 @@ use Rattle.std.specs.Prelude.{◌≡◌, ℕ, ◌==◌, ◌&&◌, Bool, true, fa
 use Rattle.std.specs.Char.{is_ascii, is_ascii_alphabetic}
 use Rattle.regex_syntax.specs.Reading.{◌∈◌}
 
--- the character after a backslash has a meaning in `regex`, and in lrlex the same
+-- the character after a backslash has a meaning in `regex`, which is also its meaning in lrlex
 abbrev pub has_meaning : ℕ → Bool
 has_meaning c =
     if c ∈ "<>" then false
@@ -16,12 +16,12 @@ abbrev pub written : Bool → ℕ → List ℕ
 written false c = if c == 92 then [] else c ∷ []
 written true c = if has_meaning c then 92 ∷ c ∷ [] else c ∷ []
 
--- the characters without each backslash before one that has no meaning
+-- the characters without the backslashes that give the next character no meaning
 abbrev pub without_needless : Bool → List ℕ → List ℕ
 without_needless is_escaped [] = if is_escaped then 92 ∷ [] else []
 without_needless is_escaped (c ∷ cs) = written is_escaped c ++ without_needless (not is_escaped && c == 92) cs
 
--- the same of a text
+-- the text without the backslashes that give the next character no meaning
 abbrev pub unescaped : List ℕ → List ℕ
 unescaped text = encode_utf8_all (without_needless false (chars text))
 

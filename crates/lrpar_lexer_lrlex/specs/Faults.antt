@@ -1,4 +1,4 @@
--- Answers with a fault, unless memory ran out.
+-- Answers with a fault, unless an allocation failed.
 use Rattle.std.specs.Prelude.{◌≡◌, ◌≢◌, Result, Ok, Err, MatchResult}
 use Rattle.lrpar_lexer_lrlex.specs.declared.fault.LrlexFault.{LrlexFault}
 use Rattle.lrpar_lexer_lrlex.specs.declared.fault.LrlexFault.TheVariants.{Memory}
@@ -14,7 +14,7 @@ abbrev pub Gives : {A B : Type 0} → (A → B) → Result B LrlexFault → Resu
 Gives view is (Ok x) = is ≡ Ok (view x)
 Gives view is (Err fault) = fault ≢ Memory → is ≡ Err fault
 
--- the same of what a call without an answer has left
+-- what a call has left in place of an answer, or its fault, is this one; the fault may also be `Memory`
 abbrev pub Keeps : {A B : Type 0} → B → Result B LrlexFault → Result A LrlexFault → Type 0
 Keeps left is (Ok x) = is ≡ Ok left
 Keeps left is (Err fault) = fault ≢ Memory → is ≡ Err fault

@@ -20,7 +20,7 @@ unset = record {
 abbrev pub with_flags : TextFlags → (Flags → Flags) → TextFlags
 with_flags flags change = record flags { config = record (flags.config) { flags = change flags.config.flags } }
 
--- the flags after the one with that name is set so; nothing if there is none
+-- the flags after the one with that name is set to this value; none if no flag has the name
 abbrev pub with_flag : TextFlags → List ℕ → Bool → Option TextFlags
 with_flag flags name value =
     if bytes_eq name (codes "case_insensitive") then Some (with_flags flags (λ f. record f { case_insensitive = value }))
@@ -32,7 +32,7 @@ with_flag flags name value =
     else if bytes_eq name (codes "allow_wholeline_comments") then Some (record flags { comments = value })
     else None
 
--- the flags after one more, which a `!` in front turns off; an empty one says nothing
+-- the flags after one more is read: a `!` in front turns it off, and an empty one changes nothing
 abbrev pub changed : TextFlags → Part → Option Part → Option TextFlags
 changed flags flag None = with_flag flags flag.bytes true
 changed flags flag (Some name) = with_flag flags name.bytes false
@@ -41,7 +41,7 @@ abbrev pub set : TextFlags → Part → Result TextFlags LrlexFault
 set flags flag =
     if length flag.bytes == 0 then Ok flags else ok_or (changed flags flag (after_byte 33 flag)) (Flag (span_of flag))
 
--- the flags after each of these
+-- the flags after each of these is read
 abbrev pub set_all : TextFlags → List Part → Result TextFlags LrlexFault
 set_all flags [] = Ok flags
 set_all flags (flag ∷ more) = set flags (trimmed flag) >>= λ flags. set_all flags more

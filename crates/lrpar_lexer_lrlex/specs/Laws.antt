@@ -23,25 +23,25 @@ LexesInOneWay =
     (rules : StateRules) (text : List ℕ) (at top : ℕ) (below : List ℕ) (a b : List (Result (Token ℕ) NoToken))
     → LexesIn rules text at top below a → LexesIn rules text at top below b → a ≡ b
 
--- with a token for unmatched characters each text has a list
+-- with a token for unmatched characters each text has a list of lexemes and errors
 abbrev pub LexesEachTextIn : Type 0
 LexesEachTextIn =
     (rules : StateRules) (unmatched : ℕ) (text : List ℕ)
     → (answers : List (Result (Token ℕ) NoToken)) × LexesAllIn rules unmatched text 0 0 [] answers
 
--- from each place on, and with each stack, at most one
+-- from each place on, and with each stack, a text has at most one list of `LexesAllIn`
 abbrev pub LexesAllInOneWay : Type 0
 LexesAllInOneWay =
     (rules : StateRules) (unmatched : ℕ) (text : List ℕ) (at top : ℕ) (below : List ℕ) (a b : List (Result (Token ℕ) NoToken))
     → LexesAllIn rules unmatched text at top below a → LexesAllIn rules unmatched text at top below b → a ≡ b
 
--- it has no error
+-- a list of `LexesAllIn` has no error
 abbrev pub LexesAllInAsLexemes : Type 0
 LexesAllInAsLexemes =
     (rules : StateRules) (unmatched : ℕ) (text : List ℕ) (at top : ℕ) (below : List ℕ) (answers : List (Result (Token ℕ) NoToken))
     → LexesAllIn rules unmatched text at top below answers → All (λ answer. IsOk answer) answers
 
--- if a list of `LexesIn` has no error, it is that list
+-- if a list of `LexesIn` has no error, it is the list of `LexesAllIn`
 abbrev pub LexesAllInAsRules : Type 0
 LexesAllInAsRules =
     (rules : StateRules) (unmatched : ℕ) (text : List ℕ) (at top : ℕ) (below : List ℕ) (answers : List (Result (Token ℕ) NoToken))

@@ -17,7 +17,7 @@ pub record ReadsIn (rules : StateRules) (text : List ℕ) (state at rule n : ℕ
   pub wins : Wins (patterns_in rules state) (drop at text) place n
   pub is : slice_get (active rules state) place ≡ Some rule
 
--- a match pops the last state
+-- the error of a match that pops the last state
 abbrev pub nothing_below : ℕ → ℕ → NoToken
 nothing_below at n = record { span = record { start = at; end = at + n } }
 

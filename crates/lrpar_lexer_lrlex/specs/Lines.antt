@@ -30,7 +30,7 @@ read_line grammar states line =
     token_of grammar parts.name >>= λ token.
     Ok (record { pattern = unescaped (parts.pattern.bytes); place = span_of parts.pattern; states = numbers; target = target; token = token })
 
--- `index` gives the number of a value of the storage type
+-- what a line says, as it is stored; `index` gives the number of a value of the storage type
 abbrev pub plain_line : {S : Type 0} → (S → ℕ) → code.Line S → Line
 plain_line index line = record {
   pattern = string_bytes line.pattern;

@@ -21,7 +21,7 @@ state_of states name = ok_or (state_named states name.bytes) (UnknownState (span
 abbrev pub with_number_of : List StateName → List ℕ → Part → Result (List ℕ) LrlexFault
 with_number_of states numbers name = state_of states name >>= λ number. Ok (numbers ++ number ∷ [])
 
--- the same of each of these names
+-- the numbers so far, and then those of the states with these names
 abbrev pub numbers_of : List StateName → List ℕ → List Part → Result (List ℕ) LrlexFault
 numbers_of states numbers [] = Ok numbers
 numbers_of states numbers (name ∷ names) = with_number_of states numbers (trimmed name) >>= λ numbers. numbers_of states numbers names

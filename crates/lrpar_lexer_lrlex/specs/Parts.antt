@@ -10,10 +10,11 @@ pub record Part : Type 0 where
   pub start : ℕ
   pub bytes : List ℕ
 
+-- a part as it is stored, by its bytes and where it starts
 abbrev pub placed : code.Part → Part
 placed p = record { start = p.start; bytes = p.text.now }
 
--- the same of a part, if there is one
+-- a part as it is stored, if there is one
 abbrev pub placed_if : Option code.Part → Option Part
 placed_if p = option_map (λ p. placed p) p
 
@@ -33,22 +34,22 @@ is_white byte = byte == 32 || byte == 9 || byte == 13 || byte == 10
 abbrev pub trimmed : Part → Part
 trimmed p = record { start = p.start + prefix_len is_white p.bytes; bytes = without_end is_white (without_front is_white p.bytes) }
 
--- what comes before the first such byte: all, if there is none
+-- what comes before the first byte with this value: all, if there is none
 abbrev pub before_cut : ℕ → Part → Part
 before_cut byte p = record { start = p.start; bytes = before_first (λ b. b == byte) p.bytes }
 
--- what comes after the first such byte, if there is one
+-- what comes after the first byte with this value, if there is one
 abbrev pub after_cut : ℕ → Part → Option Part
 after_cut byte p =
     let at = position_or_len (λ b. b == byte) p.bytes in
     if nat_lt at (length p.bytes) then Some (record { start = p.start + (at + 1); bytes = after_first (λ b. b == byte) p.bytes }) else None
 
--- the part without its first byte, if that is this one
+-- the part without its first byte, if that has this value
 abbrev pub after_byte : ℕ → Part → Option Part
 after_byte byte p =
     if nat_lt 0 (length p.bytes) && (get_or p.bytes 0 0 == byte) then Some (record { start = p.start + 1; bytes = drop 1 p.bytes }) else None
 
--- the part without its last byte, if that is this one
+-- the part without its last byte, if that has this value
 abbrev pub before_last_byte : ℕ → Part → Option Part
 before_last_byte byte p =
     let last = length p.bytes - 1 in
@@ -60,7 +61,7 @@ last_word p =
     let word = after_last is_white p.bytes in
     record { start = p.start + (length p.bytes - length word); bytes = word }
 
--- what comes before it, without what is white at its end: nothing, if there is none
+-- what comes before the last white byte, without what is white at its end: nothing, if there is none
 abbrev pub before_word : Part → Part
 before_word p = record { start = p.start; bytes = without_end is_white (before_last is_white p.bytes) }
 
@@ -73,7 +74,7 @@ placed_from start (bytes ∷ more) = record { start = start; bytes = bytes } ∷
 abbrev pub pieces : ℕ → Part → List Part
 pieces byte p = placed_from p.start (slice_split (λ b. b == byte) p.bytes)
 
--- the same of what is left
+-- the parts between the bytes of this value in what is left; none if nothing is left
 abbrev pub pieces_left : ℕ → Option Part → List Part
 pieces_left byte None = []
 pieces_left byte (Some p) = pieces byte p

@@ -117,5 +117,5 @@ abbrev pub IsRefusedAt : Span → Error → LrlexFault → Type 0
 IsRefusedAt place error fault = fault ≢ Memory → (fault ≡ Pattern place error) × (error ≢ OutOfMemory)
 
 -- the fault is the first of the text; or it is `Memory`
-abbrev pub IsFaultOf : {S : Type 0} → (S → ℕ) → Grammar → List ℕ → LrlexFault → Type 0
-IsFaultOf index grammar text fault = fault ≢ Memory → HasFirstFault index grammar text fault
+abbrev pub IsLrlexFaultOf : {S : Type 0} → (S → ℕ) → Grammar → List ℕ → LrlexFault → Type 0
+IsLrlexFaultOf index grammar text fault = fault ≢ Memory → HasFirstFault index grammar text fault

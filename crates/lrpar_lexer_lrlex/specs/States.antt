@@ -21,7 +21,7 @@ state_named states name = position (λ state. bytes_eq state.name name) states
 abbrev pub is_in_name : ℕ → Bool
 is_in_name byte = is_ascii_alphanumeric byte || byte == 95 || byte == 46
 
--- a text of such bytes, of which the first is a letter
+-- an ASCII letter, and then letters, digits, `_` and `.`
 abbrev pub is_state_name : List ℕ → Bool
 is_state_name [] = false
 is_state_name (first ∷ rest) = is_ascii_alphabetic first && list_all is_in_name rest

@@ -22,7 +22,7 @@ module _ {S : Type 0} (index : S → ℕ) (rules : LrlexRules S) where
   abbrev pub AreActive : {A : Type 0} → ℕ → Vec ℕ A → Type 0
   AreActive state numbers = numbers.items ≡ active (plain_state_rules index rules) state
 
-  -- the same, if there is no target
+  -- if there is no target, these are the numbers of the rules that are active in the state
   abbrev pub AreActiveWithout : {A : Type 0} → Option code.Target → ℕ → Vec ℕ A → Type 0
   AreActiveWithout target state numbers = option_map plain_target target ≡ None → AreActive state numbers
 

@@ -115,7 +115,7 @@ pub(crate) fn read_at<StorageT: StorageIndex>(
     ensures boundary { IfSome result (λ found. IsCharBoundary text.now (at + found.1)) }
     ensures same { programs_of matchers.new ≡ programs_of matchers.old }
 {
-    let winner = matchers.winner_among(&text[at..], active)?;
+    let winner = matchers.find_winner_among(&text[at..], active)?;
     Some((rule_at(active, winner.rule), winner.len))
 }
 

@@ -67,7 +67,7 @@ fn next_lexeme<StorageT: StorageIndex>(
     ensures same { programs_of matchers.new ≡ programs_of matchers.old }
 {
     let Some((rule, len)) = read_at(matchers, rules, stack.top, active, text, at) else {
-        let run = matchers.unmatched_len(text, at, Some(active));
+        let run = matchers.measure_unmatched(text, at, Some(active));
         return Ok((Some(unmatched), run, None));
     };
     let target = target_of(rules, rule);

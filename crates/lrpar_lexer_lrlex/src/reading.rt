@@ -1,7 +1,7 @@
 //! The rules of a `.l` file.
 ghost use Rattle.std.specs.Prelude.{◌≡◌, IfOk, IfErr};
 ghost use Rattle.lrpar_lexer_lrlex.specs.Parts.{placed};
-ghost use Rattle.lrpar_lexer_lrlex.specs.Reading.{ArePaired, AreRulesIn, IsFaultIn, IsFaultOf, IsFirstFaultIn, IsReadFrom, IsRefusedAt, IsRuleIn, counts};
+ghost use Rattle.lrpar_lexer_lrlex.specs.Reading.{ArePaired, AreRulesIn, IsFaultIn, IsLrlexFaultOf, IsFirstFaultIn, IsReadFrom, IsRefusedAt, IsRuleIn, counts};
 ghost use Rattle.lrpar_lexer_lrlex.specs.States.{AreExclusive};
 
 use crate::declarations::declarations;
@@ -43,7 +43,7 @@ pub fn rules_of_lrlex<StorageT: StorageIndex>(
     text: &str,
 ) -> Result<LrlexRules<StorageT>, LrlexFault>
     ensures rules { IfOk result (IsReadFrom StorageT.index grm.now text.now) }
-    ensures fault { IfErr result (IsFaultOf StorageT.index grm.now text.now) }
+    ensures fault { IfErr result (IsLrlexFaultOf StorageT.index grm.now text.now) }
 {
     let (flags, rest) = match header(Part::whole(text)) {
         Ok(header) => header,

@@ -28,16 +28,16 @@ AreArguments token fact taken args = (symbols : List GrammarSymbol) × taken sym
 abbrev pub TakesAll : (ℕ → ℕ → List GrammarSymbol → Type 0) → Grammar → Type 0
 TakesAll taken g = (p : ℕ) → p < start_prod g → taken p (rule_of g p) (symbols_of g p)
 
--- What is said of a production, by its number and its rule in the code. `index` gives the number of a value of the storage type `S`.
+-- A production by its number and its rule as they are stored. `index` gives the number of a value of the storage type `S`.
 module _ {S : Type 0} (index : S → ℕ) where
-  -- the actions take it with these symbols
+  -- the actions take the production with these symbols
   abbrev pub TakesSymbols : (ℕ → ℕ → List GrammarSymbol → Type 0) → PIdx S → RIdx S → List (Symbol S) → Type 0
   TakesSymbols taken prod rule symbols = taken (index prod.0) (index rule.0) (map (symbol_of index) symbols)
 
-  -- the arguments fit it, as the actions take it; `parts` gives the parts of a lexeme
+  -- the arguments fit the production, as the actions take it; `parts` gives the parts of a lexeme
   abbrev pub FitProduction : {A X V : Type 0} → (X → LexemeParts S) → (A → ℕ → V → Type 0) → (A → ℕ → ℕ → List GrammarSymbol → Type 0) → A → PIdx S → RIdx S → List (AStackType X V) → Type 0
   FitProduction parts fact taken actions prod rule args = AreArguments (token_by index parts) (fact actions) (taken actions (index prod.0) (index rule.0)) args
 
-  -- its value over these arguments may be this one
+  -- the production's value over these arguments may be this one
   abbrev pub Answers : {L A P V Z : Type 0} → (ℕ → ℕ → L → Extent → List A → P → V → Type 0) → PIdx S → RIdx S → L → Extent → Vec A Z → P → V → Type 0
   Answers answers prod rule lexer span args param value = answers (index prod.0) (index rule.0) lexer span args.items param value

@@ -49,25 +49,28 @@ RepairsText {B = B} {C = C} lexes errors_of IsWhole result =
     IfOk result (λ answer. (lexed : List (Result B C)) × lexes lexed
     × MatchOption (first_error lexed) (All ListsRepair (errors_of answer) × IsWhole answer) (λ error. errors_of answer ≡ LexError error ∷ []))
 
--- the same for a parse to errors and a value
+-- a parse to errors and a value: unless the text has a lexing error, each error lists a repair, and there is a value
 abbrev pub HasValueOfText : {V S L B C Z F : Type 0} → (List (Result B C) → Type 0) → Result (Option V × Vec (LexParseError S L B C) Z) F → Type 0
 HasValueOfText lexes result = RepairsText lexes (λ answer. answer.1.items) (λ answer. IsSome answer.0) result
 
--- and for a parse to errors alone
+-- a parse to errors alone: unless the text has a lexing error, each error lists a repair
 abbrev pub HasRepairsOfText : {S L B C Z F : Type 0} → (List (Result B C) → Type 0) → Result (Vec (LexParseError S L B C) Z) F → Type 0
 HasRepairsOfText lexes result = RepairsText lexes (λ errors. errors.items) (λ errors. Unit {0}) result
 
--- each result that such a parse may have is as above; `S` is the storage type and `L` the type of the types of a lexer
+-- Each result that a parse to errors and a value may have is one by `HasValueOfText`. `S` is the storage type, and `L` the type of the
+-- types of a lexer.
 abbrev pub EachHasValue : {V B C : Type 0} → (S L : Type 0) → Subject B → (List (Result B C) → Type 0) → (Tree B → V → Type 0) → Type 0
 EachHasValue {V} {B} {C} S L about lexes Evaluates =
     (result : Result (Option V × Vec (LexParseError S L B C) Global) ParseFault) → ParsesTo about lexes Evaluates result → HasValueOfText lexes result
 
--- the same for a parse to a value or an error
+-- Each result that a parse to a value or an error may have is one by `HasValueOfText`. `S` is the storage type, and `L` the type of the
+-- types of a lexer.
 abbrev pub EachOutcomeHasValue : {V E B C : Type 0} → (S L : Type 0) → Subject B → (List (Result B C) → Type 0) → (ParseFault → E → Type 0) → (Tree B → Result V E → Type 0) → Type 0
 EachOutcomeHasValue {V} {E} {B} {C} S L about lexes converts Evaluates =
     (result : Result (Option V × Vec (LexParseError S L B C) Global) E) → ParsesToValue about lexes converts Evaluates result → HasValueOfText lexes result
 
--- and for one to errors alone
+-- Each result that a parse to errors alone may have is one by `HasRepairsOfText`. `S` is the storage type, and `L` the type of the types
+-- of a lexer.
 abbrev pub EachHasRepairs : {B C : Type 0} → (S L : Type 0) → Subject B → (List (Result B C) → Type 0) → Type 0
 EachHasRepairs {B} {C} S L about lexes =
     (result : Result (Vec (LexParseError S L B C) Global) ParseFault) → ParsesToErrors about lexes result → HasRepairsOfText lexes result
@@ -79,25 +82,25 @@ module _ {S X R C : Type 0} (index : S → ℕ) (parts : X → LexemeParts S) (a
   abbrev RepairsAlways : Type 0
   RepairsAlways = AlwaysRepairs (token_by index parts) (allows parser.recoverer) parser.checked
 
-  -- a tree
+  -- each text has a tree, if the recoverer always repairs
   abbrev pub EachTextHasTree : Type 0
   EachTextHasTree = RepairsAlways → EachHasValue S L (subject index parts allows parser) lexes (Folds IsTerm (IsNonterm index) parser.checked.grammar)
 
-  -- errors that each list a repair, if there are any
+  -- each error of a parse for errors alone lists a repair, if the recoverer always repairs
   abbrev pub EachTextHasRepairs : Type 0
   EachTextHasRepairs = RepairsAlways → EachHasRepairs S L (subject index parts allows parser) lexes
 
-  -- a value that two functions make of the tree
+  -- each text has a value that two functions make of its tree, if the recoverer always repairs
   abbrev pub EachTextHasMapped : {V Y : Type 0} → (X → V → Type 0) → (RIdx S → Vec V Y → V → Type 0) → Type 0
   EachTextHasMapped fterm fnonterm =
       RepairsAlways → EachHasValue S L (subject index parts allows parser) lexes (Folds fterm (made_by index fnonterm) parser.checked.grammar)
 
-  -- a value that actions make of it
+  -- each text has a value that actions make of its tree, if the recoverer always repairs
   abbrev pub EachTextHasActed : {V K P : Type 0} → (ℕ → ℕ → K → Extent → List (AStackType X V) → P → V → Type 0) → (ℕ → V → Type 0) → K → P → Type 0
   EachTextHasActed answers fact lexer param =
       RepairsAlways → EachHasValue S L (subject index parts allows parser) lexes (IsActedValue (span_by parts) answers fact parser.checked.grammar lexer param)
 
-  -- a value that a caller's function makes of it, unless the result is an error of the function
+  -- each text has a value that a caller's function makes of its tree, if the recoverer always repairs and the function returns no error
   abbrev pub EachTextHasGiven : {V E K : Type 0} → (ParseFault → E → Type 0) → (ℕ → ValueArguments K X V → Result V E → Type 0) → K → Type 0
   EachTextHasGiven converts gives lexer =
       RepairsAlways → EachOutcomeHasValue S L (subject index parts allows parser) lexes converts (IsGivenValue (span_by parts) gives parser.checked.grammar lexer)

@@ -94,7 +94,7 @@ pub record IsExpectedAnswer {S X E : Type 0} (index : S → ℕ) (facts : X → 
   pub bad_token : (i : ℕ) → IsErrOf result (BadToken i) ↔ IsFirstBadToken d.grammar (lexeme_facts facts lexed) i
   pub starts_decrease : (i : ℕ) → IsErrOf result (StartsDecrease i) ↔ IsFirstEarlyStart d.grammar (lexeme_facts facts lexed) i
 
--- out of memory, or the lexer allows an answer, and the result is the one for this answer
+-- the lexer allows an answer, and the result is the one for this answer; or an allocation failed
 abbrev pub Expects : {S X E : Type 0} → (S → ℕ) → (X → LexemeFacts) → Checked → (List (Result X E) → Type 0) → Result (Expected S E) ParseFault → Type 0
 Expects {X = X} {E = E} index facts d lexes result =
     IsErrOf result Memory ⊎ ((lexed : List (Result X E)) × lexes lexed × IsExpectedAnswer index facts d lexed result)

@@ -5,7 +5,7 @@ use Rattle.lrpar_grammar.specs.Sentence.{LexemeFacts, IsFirstBadToken, IsFirstEa
 use Rattle.lrpar_parse.specs.declared.fault.ParseFault.{ParseFault}
 use Rattle.lrpar_parse.specs.declared.fault.ParseFault.TheVariants.{BadToken, StartsDecrease}
 
--- it is the first fault of a lexeme, and there is none if and only if the list is valid
+-- the fault is the first one of a lexeme, and there is none if and only if the list is valid
 pub record IsLexemeFault (g : Grammar) (lexemes : List LexemeFacts) (fault : Option ParseFault) : Type 0 where
   pub bad_token : (i : ℕ) → (fault ≡ Some (BadToken i)) ↔ IsFirstBadToken g lexemes i
   pub starts_decrease : (i : ℕ) → (fault ≡ Some (StartsDecrease i)) ↔ IsFirstEarlyStart g lexemes i

@@ -26,8 +26,8 @@ pub record IsParse {T S L B C : Type 0} (about : Subject B) (errors_of : T → L
   pub bad_token : (i : ℕ) → IsErrOf result (BadToken i) ↔ ((first_error lexed ≡ None) × IsFirstBadToken about.checked.grammar (lexeme_facts about.facts lexed) i)
   pub starts_decrease : (i : ℕ) → IsErrOf result (StartsDecrease i) ↔ ((first_error lexed ≡ None) × IsFirstEarlyStart about.checked.grammar (lexeme_facts about.facts lexed) i)
 
--- out of memory, or the lexer allows an answer, and the result is that of the parse for this answer; `lexes` says which answers the lexer
--- allows
+-- the lexer allows an answer, and the result is that of the parse for this answer; or an allocation failed; `lexes` says which answers the
+-- lexer allows
 abbrev pub Parses : {T S L B C : Type 0} → Subject B → (List (Result B C) → Type 0) → (T → List (LexParseError S L B C)) → (Option (List B) → List ℕ → T → Type 0) → Result T ParseFault → Type 0
 Parses {B = B} {C = C} about lexes errors_of IsValued result =
     IsErrOf result Memory ⊎ ((lexed : List (Result B C)) × lexes lexed × IsParse about errors_of IsValued lexed result)

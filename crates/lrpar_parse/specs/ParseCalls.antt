@@ -25,7 +25,7 @@ use Rattle.lrpar_parse.specs.Values.{IsGivenValue, ParsesToValue}
 use Rattle.lrpar_parse.specs.declared.expected.Expected.{Expected}
 use Rattle.lrpar_parse.specs.declared.fault.ParseFault.{ParseFault}
 
--- what may come next, or a fault
+-- the call returns the tokens that may come next, or a fault
 abbrev pub ExpectsNext : {S X R C : Type 0} → (S → ℕ) → (X → LexemeParts S) → Parser R → (List (Result X C) → Type 0) → Result (Expected S C) ParseFault → Type 0
 ExpectsNext index parts parser lexes result = Expects index (facts_by index parts) parser.checked lexes result
 

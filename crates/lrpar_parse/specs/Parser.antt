@@ -17,15 +17,15 @@ pub record Parser (R : Type 0) : Type 0 where
 abbrev pub with_recoverer : {R Q : Type 0} → Parser R → Q → Parser Q
 with_recoverer parser recoverer = record { checked = parser.checked; recoverer = recoverer; shifts = parser.shifts }
 
--- it is the parser, and this number of lexemes must follow a repair
+-- the parser is the old one, except that this number of lexemes must follow a repair
 abbrev pub IsWithShifts : {R : Type 0} → Parser R → ℕ → Parser R → Type 0
 IsWithShifts parser count = λ new. new ≡ record parser { shifts = count }
 
--- it is the parser as it was
+-- the parser is as it was
 abbrev pub IsUnchanged : {R : Type 0} → Parser R → Parser R → Type 0
 IsUnchanged parser = λ new. new ≡ parser
 
--- what its parses are about; `parts` gives the parts of a lexeme, and `allows` says which answers a recoverer may give
+-- what the parser's parses are about; `parts` gives the parts of a lexeme, and `allows` says which answers a recoverer may give
 abbrev pub subject : {S X R : Type 0} → (S → ℕ) → (X → LexemeParts S) → (R → Asked X → List (List PlainStep) → Type 0) → Parser R → Subject X
 subject index parts allows parser =
     record {

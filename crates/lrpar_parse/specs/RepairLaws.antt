@@ -69,7 +69,7 @@ module _ {X : Type 0} (facts : X → LexemeFacts) (allows : Point X → List (Li
       → RepairRun facts allows k d.grammar d.table lexemes st 0 stops consumed prods
       → All (λ s. IsStack d.table s.stop.stack) stops
 
-  -- and so the top state of each error point has no action at the token there
+  -- over a checked table and a valid list, from a stack of the table, the top state of each error point has no action at the token there
   abbrev pub StopsByFailing : Type 0
   StopsByFailing =
       (d : Checked) (k : ℕ) (lexemes : List X) (st : List ℕ) (stops : List RepairStop) (consumed : Option (List X)) (prods : List ℕ)

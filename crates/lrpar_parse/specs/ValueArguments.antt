@@ -44,7 +44,7 @@ KeepsPlace old new = (new.lexer ≡ old.lexer) × (new.span ≡ old.span)
 abbrev pub TakesValue : {L X V : Type 0} → ValueArguments L X V → ValueArguments L X V → Option V → Type 0
 TakesValue old new result = IfSome result (λ value. old.left ≡ ActionType value ∷ new.left)
 
--- if there is none, the next argument isn't a value, and nothing is taken
+-- if no value is returned, the next argument isn't one, and nothing is taken
 abbrev pub LacksValue : {L X V : Type 0} → ValueArguments L X V → ValueArguments L X V → Option V → Type 0
 LacksValue old new result = IfNone result ((new ≡ old) × ¬ (IsValueNext old.left))
 
@@ -52,6 +52,6 @@ LacksValue old new result = IfNone result ((new ≡ old) × ¬ (IsValueNext old.
 abbrev pub TakesLexeme : {L X V : Type 0} → ValueArguments L X V → ValueArguments L X V → Option X → Type 0
 TakesLexeme old new result = IfSome result (λ lexeme. old.left ≡ Lexeme lexeme ∷ new.left)
 
--- if there is none, the next argument isn't a lexeme, and nothing is taken
+-- if no lexeme is returned, the next argument isn't one, and nothing is taken
 abbrev pub LacksLexeme : {L X V : Type 0} → ValueArguments L X V → ValueArguments L X V → Option X → Type 0
 LacksLexeme old new result = IfNone result ((new ≡ old) × ¬ (IsLexemeNext old.left))

@@ -17,7 +17,7 @@ use lrpar_grammar::span::{PIdx, RIdx, Span, StorageIndex, Symbol};
 use lrpar_parse_lexemes::lex_api::Lexeme;
 use lrpar_parse_run::building::Build;
 use lrpar_parse_run::placed::{Placed, span_of};
-use lrpar_parse_run::top::made_of_top;
+use lrpar_parse_run::top::pop_mapped;
 use lrpar_parse_run::values::AStackType;
 use std::alloc::{AllocError, Global};
 
@@ -93,14 +93,14 @@ impl<
       rises = λ es n. Rise 0 (spans_of es) n;
     } };
 
-    fn shifted(&self, lexeme: LexemeT) -> Self::Entry {
+    fn shift(&self, lexeme: LexemeT) -> Self::Entry {
         Placed {
             span: lexeme.span(),
             argument: AStackType::Lexeme(lexeme),
         }
     }
 
-    fn reduced(
+    fn reduce(
         &self,
         alloc: Global,
         grm: &YaccGrammar<StorageT>,
@@ -111,7 +111,7 @@ impl<
         let (before, own) = entries.split_at(entries.len() - count);
         let span = span_of(before, own);
         let ridx = grm.prod_to_rule(*pidx);
-        let args = arguments_of(alloc, count, entries)?;
+        let args = pop_arguments(alloc, count, entries)?;
         let value = self
             .actions
             .act(alloc, *pidx, ridx, self.lexer, span, args, self.param)?;
@@ -125,14 +125,14 @@ impl<
 }
 
 // Pops the top `count` entries, and returns their arguments, the lowest first.
-fn arguments_of<T: Drop>(
+fn pop_arguments<T: Drop>(
     alloc: Global,
     count: usize,
     entries: &mut Vec<Placed<T>>,
 ) -> Result<Vec<T>, AllocError>
     requires deep { count ≤ length entries.old.items }
     ensures kept { OnOk result (Pops count entries.old entries.new) }
-    ensures arguments { IfOk result (λ args. args.items ≡ arguments_of (on_top count entries.old.items)) }
+    ensures arguments { IfOk result (λ args. args.items ≡ pop_arguments (on_top count entries.old.items)) }
 {
-    made_of_top(alloc, count, entries, &|entry: Placed<T>| entry.argument)
+    pop_mapped(alloc, count, entries, &|entry: Placed<T>| entry.argument)
 }

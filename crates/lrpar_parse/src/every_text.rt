@@ -98,5 +98,5 @@ fn is_checked<
     ensures checked { IsChecked parser.now.checked }
     ensures shifts { 0 < parser.now.shifts }
 {
-    let (_table, _shifts) = (parser.checked().stable(), parser.shift_count());
+    let (_lemma, _second_lemma) = (parser.checked().stable(), parser.shift_count());
 }

@@ -32,15 +32,15 @@ pub(crate) fn expected_after<StorageT: StorageIndex, LexemeT: Lexeme<StorageT>>(
     ensures { IfOk result (MayComeAfter StorageT.index LexemeT.parts checked.now lexemes.now) }
 {
     // The contract of `stable` gives that the table is checked.
-    let _table = checked.stable();
-    let (place, stack) = fed(alloc, checked, lexemes)?;
+    let _lemma = checked.stable();
+    let (place, stack) = feed_all(alloc, checked, lexemes)?;
     let tokens = checked.expected(alloc, &stack)?;
     Ok((place, tokens))
 }
 
 // Feeds the valid lexemes from the start state on, up to the first one that can't be fed. Returns how many were fed, and the stack
 // after them, before any reduction at the token of that one.
-fn fed<StorageT: StorageIndex, LexemeT: Lexeme<StorageT>>(
+fn feed_all<StorageT: StorageIndex, LexemeT: Lexeme<StorageT>>(
     alloc: Global,
     checked: &ParserData<StorageT>,
     lexemes: &[LexemeT],
@@ -75,7 +75,7 @@ fn feed_if_expected<StorageT: StorageIndex>(
     requires token { StorageT.index token.0 < checked.now.table.tokens }
     ensures { IfOk result (MayFeed StorageT.index checked.now token stack.old.items stack.new.items) }
 {
-    let Some(kept) = fed_over(alloc, checked, stack, token, above)? else {
+    let Some(kept) = feed_above(alloc, checked, stack, token, above)? else {
         return Ok(false);
     };
     stack.truncate(kept);
@@ -84,7 +84,7 @@ fn feed_if_expected<StorageT: StorageIndex>(
 }
 
 // How many states of the stack stay if the token is fed, and in `above` those that are put above them. `None`: it can't be fed.
-fn fed_over<StorageT: StorageIndex>(
+fn feed_above<StorageT: StorageIndex>(
     alloc: Global,
     checked: &ParserData<StorageT>,
     stack: &[StIdx<StorageT>],

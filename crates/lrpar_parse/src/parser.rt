@@ -84,7 +84,7 @@ impl<'a, StorageT: StorageIndex, LexerTypesT: LexerTypes<StorageT = StorageT>> R
         ensures shifts { result.shifts ≡ 3 }
         ensures checked { IsChecked result.checked }
     {
-        let _table = checked.stable();
+        let _lemma = checked.stable();
         RTParserBuilder {
             checked,
             recoverer: NoRecovery,
@@ -100,7 +100,7 @@ impl<
     LexerTypesT: LexerTypes<StorageT = StorageT>,
     R: Recoverer<StorageT, LexerTypesT::LexemeT> + Drop,
 > RTParserBuilder<'a, StorageT, LexerTypesT, R> {
-    /// The same parser with another recoverer, which it calls at each error. The number of lexemes that must follow a repair stays.
+    /// This parser with another recoverer, which it calls at each error. The number of lexemes that must follow a repair stays.
     pub fn recoverer<Q: Recoverer<StorageT, LexerTypesT::LexemeT> + Drop>(
         self,
         recoverer: Q,
@@ -115,7 +115,7 @@ impl<
         }
     }
 
-    /// The same parser, but `count` lexemes must follow a repair. So a sequence works if this number of lexemes can be fed after it; or,
+    /// This parser, but `count` lexemes must follow a repair. So a sequence works if this number of lexemes can be fed after it; or,
     /// if fewer are left, if all of these can, and the parse then accepts. `count` must be at least 1; the `Err` has the parser as it
     /// was.
     pub fn shifts(self, count: usize) -> Result<Self, ZeroShifts<Self>>
@@ -182,7 +182,7 @@ impl<
             fnonterm: &fnonterm,
             values: PhantomData,
         };
-        match self.parsed(alloc, lexer, &functions) {
+        match self.parse_to_entry(alloc, lexer, &functions) {
             Ok((entry, errors)) => Ok((value_of(entry), errors)),
             Err(fault) => Err(fault),
         }
@@ -219,7 +219,7 @@ impl<
             lexer,
             param,
         };
-        match self.parsed(alloc, lexer, &acting) {
+        match self.parse_to_entry(alloc, lexer, &acting) {
             Ok((entry, errors)) => Ok((value_of(argument_of(entry)), errors)),
             Err(fault) => Err(fault),
         }
@@ -287,7 +287,7 @@ impl<
         // Out of memory, or the lexer allows an answer, and the result is that of the parse over this answer.
         ensures parse { GetsTree StorageT.index LexerTypesT.LexemeT.parts R.allows self.now (L.allows lexer.now) result }
     {
-        self.parsed(alloc, lexer, &Trees)
+        self.parse_to_entry(alloc, lexer, &Trees)
     }
 
     /// Parses the lexemes that the lexer returns, for the errors alone. The lexer is called once. The errors and each `Err` are as for
@@ -301,7 +301,7 @@ impl<
         // Out of memory, or the lexer allows an answer, and the result has the errors of the parse over this answer.
         ensures parse { GetsErrors StorageT.index LexerTypesT.LexemeT.parts R.allows self.now (L.allows lexer.now) result }
     {
-        match self.parsed(alloc, lexer, &Nothing) {
+        match self.parse_to_entry(alloc, lexer, &Nothing) {
             Ok((_, errors)) => Ok(errors),
             Err(fault) => Err(fault),
         }
@@ -346,7 +346,7 @@ impl<
     }
 
     // Parses the lexemes that the lexer returns to an entry of the builder.
-    fn parsed<
+    fn parse_to_entry<
         'input,
         L: NonStreamingLexer<'input, LexerTypesT>,
         B: Build<StorageT, LexerTypesT::LexemeT>,
@@ -365,13 +365,13 @@ impl<
             Err(error) => Ok((None, one_error(alloc, LexParseError::LexError(error))?)),
             Ok(lexemes) => match lexeme_fault(self.checked.grm(), &lexemes) {
                 Some(fault) => Err(fault),
-                None => Ok(self.ran(alloc, &lexemes, build)?),
+                None => Ok(self.run(alloc, &lexemes, build)?),
             },
         }
     }
 
     // The answer of the run over valid lexemes: an entry, if it accepts, and the errors of its error points.
-    fn ran<B: Build<StorageT, LexerTypesT::LexemeT>>(
+    fn run<B: Build<StorageT, LexerTypesT::LexemeT>>(
         &self,
         alloc: Global,
         lexemes: &[LexerTypesT::LexemeT],

@@ -47,6 +47,8 @@ pub record IsCompleted {X : Type 0} (token : X → ℕ) (own : Completer) (at : 
   pub nearest : at.checked ≡ own.checked → IsViable own.checked.grammar own.checked.graph own.checked.table
       → IsNearestRepair token at own.most answer
 
--- the same for an answer of the code. `index` is the number that a storage number represents, and `parts` gives the parts of a lexeme
+-- Each sequence of the answer, as it is stored, works; and at an error point over the completion's own table, if it is viable, the answer
+-- is the repair of a completion at the nearest place. `index` is the number that a storage number represents, and `parts` gives the parts
+-- of a lexeme.
 abbrev pub IsCompletedBy : {S X A B : Type 0} → (S → ℕ) → (X → LexemeParts S) → Completer → Asked X → Vec (Vec (RepairStep S) A) B → Type 0
 IsCompletedBy index parts own at answer = IsCompleted (token_by index parts) own at (plain_sequences index answer.items)

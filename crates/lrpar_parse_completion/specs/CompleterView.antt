@@ -13,7 +13,7 @@ use Rattle.lrpar_parse_completion.specs.Completing.{IsCompletion}
 use Rattle.lrpar_parse_completion.specs.Opening.{CanComplete, IsBegun, IsKernelCore, IsOpenedBy, MustOpen}
 use Rattle.lrpar_parse_completion.specs.declared.completer.Completer.{Completer}
 
--- its minimal sentences are those of the grammar's rules
+-- the completer's minimal sentences are those of the grammar's rules
 abbrev pub KnowsShortest : {S : Type 0} → Completer S → Type 0
 KnowsShortest completer = AreShortest completer.data.now.grammar MAX completer.shortest.now
 

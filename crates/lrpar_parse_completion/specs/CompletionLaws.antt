@@ -6,13 +6,14 @@ use Rattle.lrpar_table_viable.specs.Viable.{IsViable}
 use Rattle.lrpar_parse_repair.specs.AlwaysRepairs.{AlwaysRepairs}
 use Rattle.lrpar_parse_completion.specs.Answer.{Completer, IsCompleted}
 
--- over lexemes of type X
+-- over a table that is built, completions always repair; X is the type of lexemes
 abbrev pub CompletionsRepair : Type 0 → Type 0
 CompletionsRepair X =
     (token : X → ℕ) (own : Completer) → IsBuilt own.checked.grammar own.checked.graph own.checked.table
     → AlwaysRepairs token (IsCompleted token own) own.checked
 
--- the same over any viable table: its item sets may be merged, or it may come from another tool
+-- over any viable table, completions always repair: its item sets may be merged, or it may come from another tool; X is the type of
+-- lexemes
 abbrev pub ViableCompletionsRepair : Type 0 → Type 0
 ViableCompletionsRepair X =
     (token : X → ℕ) (own : Completer) → IsViable own.checked.grammar own.checked.graph own.checked.table

@@ -16,11 +16,11 @@ module _ {S : Type 0} (index : S → ℕ) where
   abbrev pub links_in : Found S → List LinkOf
   links_in found = links_of index found.links.items
 
-  -- each of them is one, and the marked rules are theirs
+  -- each link that is found is one of the grammar, and the marked rules are those of the links
   abbrev pub IsFound : Grammar → (ℕ → ℕ → Type 0) → Found S → Type 0
   IsFound g own found = AreFound g own (links_in found) found.marks.items
 
-  -- more may be found, after what was found
+  -- what was found is still found, and more may be
   abbrev pub HasGrown : Grammar → (ℕ → ℕ → Type 0) → Found S → Found S → Type 0
   HasGrown g own old new = Grows g own (links_in old) (links_in new) new.marks.items
 

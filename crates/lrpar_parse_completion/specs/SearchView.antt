@@ -45,13 +45,14 @@ module _ {S X : Type 0} (index : S → ℕ) where
     GoesOnBy stack place = CanGoOn (token_by index parts) search.point.now.checked.grammar search.point.now.checked.table
         search.point.now.lexemes search.point.now.shifts (states_of index stack) place
 
-    -- the fewest tokens that are tried at the place and after which a parse can go on there; or it can after none of those that are tried
+    -- the fewest tokens that are tried at the place and after which a parse can go on there; none, if it can after none of those that are
+    -- tried
     abbrev pub FirstAt : ℕ → Option ℕ → Type 0
     FirstAt place None =
         (m : ℕ) → m ≤ length (tokens_in search) → m ≤ search.most → ¬ (GoesOnAt (token_by index parts) search.point.now (tokens_in search) place m)
     FirstAt place (Some m) = IsFewest (token_by index parts) search.point.now (tokens_in search) place m × (m ≤ search.most)
 
-    -- the same at the end of the lexemes, where all tokens are tried
+    -- the fewest tokens after which a parse can go on at the end of the lexemes, where all are tried; none, if it can after none of them
     abbrev pub FirstAtEnd : Option ℕ → Type 0
     FirstAtEnd None = NeverGoesOn (token_by index parts) search.point.now (tokens_in search) (length search.point.now.lexemes)
     FirstAtEnd (Some m) = IsFewest (token_by index parts) search.point.now (tokens_in search) (length search.point.now.lexemes) m

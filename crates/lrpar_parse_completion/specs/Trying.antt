@@ -12,7 +12,7 @@ use Rattle.lrpar_parse_completion.specs.Nearest.{FeedsAll, GoesOnAt}
 abbrev pub stacks_of : {S A : Type 0} → (S → ℕ) → List (Vec (StIdx S) A) → List (List ℕ)
 stacks_of index stacks = map (λ stack. states_of index stack.items) stacks
 
--- the token, which is the grammar's but not its end token, was fed; or it is no such token, or can't be fed
+-- the token is one of the grammar other than the end token, and was fed; or it is no such token, or can't be fed
 abbrev pub IsInserted : Grammar → Table → ℕ → List ℕ → List ℕ → Bool → Type 0
 IsInserted g table t st after true = (t < end_token g) × ((prods : List ℕ) × Feeds g table t st prods after)
 IsInserted g table t st after false = t < end_token g → (prods next : List ℕ) → ¬ (Feeds g table t st prods next)

@@ -15,7 +15,7 @@ pub record LinkOf : Type 0 where
   pub prod : ℕ
   pub dot : ℕ
 
--- those of the code
+-- links as they are stored, with numbers for their rules and productions
 abbrev pub link_of : {S : Type 0} → (S → ℕ) → Link S → LinkOf
 link_of index link = record { rule = index link.rule.0; prod = index link.prod.0; dot = link.dot }
 
@@ -37,7 +37,7 @@ pub record IsLink (g : Grammar) (own : ℕ → ℕ → Type 0) (earlier : List L
   pub waits : drop link.dot (symbols_of g link.prod) ≡ Nonterminal link.rule ∷ rest
   pub from : own link.prod link.dot ⊎ ((link.dot ≡ 0) × Contains (rules_in earlier) (rule_of g link.prod))
 
--- each link of the list is one
+-- each link of the list is an item with its rule after the dot, the state's own or one of an earlier rule
 abbrev pub AreLinks : Grammar → (ℕ → ℕ → Type 0) → List LinkOf → Type 0
 AreLinks g own links = (i : ℕ) (link : LinkOf) → slice_get links i ≡ Some link → IsLink g own (take i links) link
 
@@ -55,7 +55,8 @@ pub record AreWaiting (g : Grammar) (graph : Graph) (table : Table) (s : ℕ) (l
   pub own : (p k : ℕ) → IsOwnCore g graph table s p k → HasRuleAfter g links p k
   pub closed : (r : ℕ) → Contains (rules_in links) r → IsClosedAt g links r
 
--- those of the code, for this state of a checked table
+-- the stored links have the rules after the dots of the state's own cores in a checked table, and with a rule each one that its
+-- productions begin with
 abbrev pub AreWaitingIn : {S A : Type 0} → (S → ℕ) → Checked → StIdx S → Vec (Link S) A → Type 0
 AreWaitingIn index d state links = AreWaiting d.grammar d.graph d.table (index state.0) (links_of index links.items)
 
@@ -64,7 +65,7 @@ pub record AreFound (g : Grammar) (own : ℕ → ℕ → Type 0) (links : List L
   pub each : AreLinks g own links
   pub marked : (r : ℕ) → IsTrue (is_marked marks r) → Contains (rules_in links) r
 
--- more may be in the list, after what it had
+-- the list has what it had, and more may come after that
 pub record Grows (g : Grammar) (own : ℕ → ℕ → Type 0) (links : List LinkOf) (after : List LinkOf) (marks : List Bool) : Type 0 where
   pub found : AreFound g own after marks
   pub tail : List LinkOf

@@ -34,7 +34,7 @@ impl<'a, StorageT: StorageIndex> Completer<'a, StorageT> {
         requires shortest { KnowsShortest self.now }
         ensures { IfOk result (CompletesStack StorageT.index self.now stack.now) }
     {
-        let _table = self.data.stable();
+        let _lemma = self.data.stable();
         if stack.is_empty() {
             return Ok(None);
         }
@@ -63,7 +63,7 @@ impl<'a, StorageT: StorageIndex> Completer<'a, StorageT> {
             if !self.has_state(base) {
                 return Ok(None);
             }
-            let Some((next, at)) = self.opened(alloc, base, prod, &mut tokens)? else {
+            let Some((next, at)) = self.find_opener(alloc, base, prod, &mut tokens)? else {
                 return Ok(None);
             };
             prod = next;
@@ -84,7 +84,7 @@ impl<'a, StorageT: StorageIndex> Completer<'a, StorageT> {
         requires { HasState StorageT.index self.now state }
         ensures { IsKernelOf StorageT.index self.now state result }
     {
-        let _table = self.data.stable();
+        let _lemma = self.data.stable();
         let cores = self.data.sgraph().begun_cores(state);
         if cores.is_empty() {
             return (self.data.grm().start_prod(), 0);
@@ -103,7 +103,7 @@ impl<'a, StorageT: StorageIndex> Completer<'a, StorageT> {
     // what comes after the production's rule there, and after the rules of the items between.
     //
     // An item comes later in the list of those that wait for rules than the one that waits for its own rule.
-    fn opened(
+    fn find_opener(
         &self,
         alloc: Global,
         state: StIdx<StorageT>,
@@ -116,7 +116,7 @@ impl<'a, StorageT: StorageIndex> Completer<'a, StorageT> {
         ensures { IfOk result (IsOpening StorageT.index self.now state prod tokens.old tokens.new) }
     {
         let grm = self.data.grm();
-        let _table = self.data.stable();
+        let _lemma = self.data.stable();
         let links = waiting(alloc, self.data, state)?;
         let mut wanted = grm.prod_to_rule(prod);
         let mut place = links.len();

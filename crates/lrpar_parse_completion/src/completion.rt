@@ -79,7 +79,7 @@ impl<'a, StorageT: StorageIndex> Completion<'a, StorageT> {
         ensures refused { IfErr result (IsNoCompletion StorageT.index checked.now) }
         ensures exact { HasCompleteTable checked.now → EachReachableHasTree checked.now.grammar → IfErr result (λ e. e ≡ Memory) }
     {
-        let _table = checked.stable();
+        let _lemma = checked.stable();
         let shortest = Shortest::new(alloc, checked.grm())?;
         if let Some(rule) = shortest.unproductive(alloc, checked.grm())? {
             return Err(NoCompletion::Unproductive(rule));

@@ -9,7 +9,7 @@ pub fn completions_always_repair<LexemeT>()
     ensures facts_repair { CompletionsRepair LexemeFacts }
 {}
 
-/// The same over any viable table: its item sets may be merged, as in an LALR table, or it may come from another tool. `check_viable`
+/// A completion always repairs over any viable table: its item sets may be merged, as in an LALR table, or it may come from another tool. `check_viable`
 /// says whether a table is viable, and each table that is built is.
 pub fn completions_always_repair_over_viable_tables<LexemeT>()
     ensures repair { ViableCompletionsRepair LexemeT }

@@ -37,7 +37,7 @@ pub(crate) fn waiting<StorageT: StorageIndex>(
     requires { StorageT.index state.0 < graph_len checked.now.graph }
     ensures { IfOk result (AreWaitingIn StorageT.index checked.now state) }
 {
-    let _table = checked.stable();
+    let _lemma = checked.stable();
     let grm = checked.grm();
     let mut found = Found::new(alloc, grm)?;
     found.add_kernel(checked, state)?;
@@ -76,7 +76,7 @@ impl<StorageT: StorageIndex> Found<StorageT> {
         requires counted { IsCounted StorageT.index checked.now.grammar self.old }
         ensures { OnOk result (AddsKernel StorageT.index checked.now state self.old self.new) }
     {
-        let _table = checked.stable();
+        let _lemma = checked.stable();
         let grm = checked.grm();
         for (prod, dot) in checked.sgraph().begun_cores(state) {
             self.add(grm, *prod, *dot)?;

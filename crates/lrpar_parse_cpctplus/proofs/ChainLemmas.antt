@@ -7,7 +7,7 @@ use Rattle.lrpar_parse_repair.specs.Asked.{Asked, IsStop}
 use Rattle.lrpar_parse_repair.specs.Sequences.{PlainStep, PlainInsert, PlainDelete, PlainShift}
 use Rattle.lrpar_table_stacks.specs.Run.{token_at}
 use Rattle.lrpar_parse_cpctplus.specs.AnyForm.{WorksAt}
-use Rattle.lrpar_parse_cpctplus.specs.Chains.{IsChain, IsChainToEnd, IsLink, RepairsAreChains}
+use Rattle.lrpar_parse_cpctplus.specs.LinkPaths.{IsLinkPath, IsPathToEnd, IsLink, RepairsArePaths}
 use Rattle.lrpar_parse_cpctplus.specs.Cheapest.{IsLeastCost, RepairsAt, cost_of}
 use Rattle.lrpar_parse_cpctplus.specs.Configurations.{Configured, GoesOnFrom, IsDistance, IsNearer, LeadTo, edge_cost, root_of}
 use Rattle.lrpar_parse_cpctplus.specs.Costs.{AreCosts, steps_cost}
@@ -92,19 +92,19 @@ module _ {X : Type 0} (token : X → ℕ) (costs : List ℕ) (at : Asked X) wher
       ]
 
   -- the last link of a chain
-  pub chain_last : (c : ℕ) (u v : Configured) (p : List PlainStep) (x : PlainStep) → IsChain token costs at c u (p ++ x ∷ []) v
-      → (w : Configured) × IsLink token costs at w x v × IsNearer token costs at c w × IsChain token costs at c u p w
+  pub chain_last : (c : ℕ) (u v : Configured) (p : List PlainStep) (x : PlainStep) → IsLinkPath token costs at c u (p ++ x ∷ []) v
+      → (w : Configured) × IsLink token costs at w x v × IsNearer token costs at c w × IsLinkPath token costs at c u p w
   chain_last c u v [] x h = (u, subst (λ (w : Configured). IsLink token costs at u x w) h.3 h.1, h.2, refl)
   chain_last c u v (y ∷ p) x h =
       let more = chain_last c h.0 v p x h.3 in
       (more.0, more.1, more.2, (h.0, h.1, h.2, more.3))
 
   -- its steps lead from one configuration to the other, and make up the difference of the distances
-  pub chain_runs : (c : ℕ) (u v : Configured) (steps : List PlainStep) → IsChain token costs at c u steps v → Runs token at u steps v
+  pub chain_runs : (c : ℕ) (u v : Configured) (steps : List PlainStep) → IsLinkPath token costs at c u steps v → Runs token at u steps v
   chain_runs c u v [] e = subst (λ (w : Configured). Runs token at u [] w) e (runs_nowhere token at u)
   chain_runs c u v (x ∷ steps) h = runs_on token at u h.0 v x steps h.1.edge (chain_runs c h.0 v steps h.3)
 
-  pub chain_far : (c : ℕ) (u v : Configured) (steps : List PlainStep) (d : ℕ) → IsDistance token costs at u d → IsChain token costs at c u steps v
+  pub chain_far : (c : ℕ) (u v : Configured) (steps : List PlainStep) (d : ℕ) → IsDistance token costs at u d → IsLinkPath token costs at c u steps v
       → IsDistance token costs at v (d + cost_from token costs at u steps)
   chain_far c u v [] d far e =
       let sum : d ≡ d + 0 = omega arith in
@@ -128,7 +128,7 @@ module _ {X : Type 0} (token : X → ℕ) (costs : List ℕ) (at : Asked X) wher
 
   -- a repair of least cost is a chain
   pub repair_is_chain : (c : ℕ) → IsStop token at → AreCosts costs → CostAtLeast c → (steps : List PlainStep) → RepairsAt token costs at c steps
-      → IsChainToEnd token costs at c steps
+      → IsPathToEnd token costs at c steps
   repair_is_chain c stop each least steps h =
       let root = root_of at in
       let repair = h.0 in
@@ -140,7 +140,7 @@ module _ {X : Type 0} (token : X → ℕ) (costs : List ℕ) (at : Asked X) wher
       let chain = cheapest_are_links token costs at c root v [] steps (runs_nowhere token at root) way.1
       (subst (λ (n : ℕ). IsDistance token costs at v n) (sym h.1) far) early in
       let some = some_steps token at stop steps repair.works in
-      let last = chain_last c root v some.0 some.1 (subst (λ (l : List PlainStep). IsChain token costs at c root l v) some.2 chain) in
+      let last = chain_last c root v some.0 some.1 (subst (λ (l : List PlainStep). IsLinkPath token costs at c root l v) some.2 chain) in
       record {
         formed = repair.printed.formed;
         end = v;
@@ -149,7 +149,7 @@ module _ {X : Type 0} (token : X → ℕ) (costs : List ℕ) (at : Asked X) wher
       }
 
   -- and a chain to an end is a repair
-  pub chain_is_repair : (c : ℕ) (steps : List PlainStep) → IsChainToEnd token costs at c steps → RepairsAt token costs at c steps
+  pub chain_is_repair : (c : ℕ) (steps : List PlainStep) → IsPathToEnd token costs at c steps → RepairsAt token costs at c steps
   chain_is_repair c steps h =
       let root = root_of at in
       let run = chain_runs c root h.end steps h.chain in
@@ -159,7 +159,7 @@ module _ {X : Type 0} (token : X → ℕ) (costs : List ℕ) (at : Asked X) wher
           printed = record {
             formed = h.formed;
             last = λ shift.
-                let back = chain_last c root h.end shift.0 PlainShift (subst (λ (l : List PlainStep). IsChain token costs at c root l h.end) shift.1 h.chain) in
+                let back = chain_last c root h.end shift.0 PlainShift (subst (λ (l : List PlainStep). IsLinkPath token costs at c root l h.end) shift.1 h.chain) in
                 near_link_moves c back.0 h.end PlainShift back.1 h.ends.distance back.2 refl;
           };
           works = works_to token at steps h.end run h.ends.goes_on;
@@ -167,7 +167,7 @@ module _ {X : Type 0} (token : X → ℕ) (costs : List ℕ) (at : Asked X) wher
         omega (arith, sum),
       )
 
-pub repairs_are_chains : {X : Type 0} → RepairsAreChains X
+pub repairs_are_chains : {X : Type 0} → RepairsArePaths X
 repairs_are_chains token costs at c stop each least steps = (
   repair_is_chain token costs at c stop each (least_cost token costs at c least) steps,
   chain_is_repair token costs at c steps,

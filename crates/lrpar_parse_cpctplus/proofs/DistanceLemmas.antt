@@ -4,7 +4,7 @@ use Rattle.std.proofs.Common.{◌≡◌, ◌<◌, ◌≤◌, ◌+◌, ◌∙◌,
 use Rattle.std.proofs.lemmas.List.{append_assoc}
 use Rattle.lrpar_parse_repair.specs.Asked.{Asked}
 use Rattle.lrpar_parse_repair.specs.Sequences.{PlainStep, Replays}
-use Rattle.lrpar_parse_cpctplus.specs.Chains.{IsChain, IsLink}
+use Rattle.lrpar_parse_cpctplus.specs.LinkPaths.{IsLinkPath, IsLink}
 use Rattle.lrpar_parse_cpctplus.specs.Cheapest.{cost_of}
 use Rattle.lrpar_parse_cpctplus.specs.Configurations.{Configured, IsDistance, IsEdge, IsNearer, LeadTo, edge_cost, root_of}
 use Rattle.lrpar_parse_cpctplus.specs.Costs.{steps_cost}
@@ -188,7 +188,7 @@ module _ {X : Type 0} (token : X → ℕ) (costs : List ℕ) (at : Asked X) wher
   pub cheapest_are_links : (c : ℕ) (u v : Configured) (p q : List PlainStep) → LeadTo token at p u → Runs token at u q v
       → IsDistance token costs at v (cost_of token costs at (p ++ q))
       → ((before : List PlainStep) (x : PlainStep) (after : List PlainStep) → p ++ q ≡ before ++ x ∷ after → cost_of token costs at before < c)
-      → IsChain token costs at c u q v
+      → IsLinkPath token costs at c u q v
   cheapest_are_links c u v p [] a b far early = runs_none token at u v b
   cheapest_are_links c u v p (x ∷ q) a b far early =
       let root = root_of at in

@@ -6,7 +6,7 @@ use Rattle.lrpar_table_rows.specs.Table.{Table}
 use Rattle.lrpar_parse_repair.specs.Asked.{Asked}
 use Rattle.lrpar_parse_repair.specs.Sequences.{PlainStep, PlainInsert, PlainDelete, PlainShift, Replays}
 use Rattle.lrpar_parse_repair.proofs.ReplayLemmas.{replay_one_way}
-use Rattle.lrpar_parse_cpctplus.specs.Chains.{EndsHaveRepairs, IsEnd}
+use Rattle.lrpar_parse_cpctplus.specs.LinkPaths.{EndsHaveRepairs, IsEnd}
 use Rattle.lrpar_parse_cpctplus.specs.Cheapest.{RepairsAt, cost_of}
 use Rattle.lrpar_parse_cpctplus.specs.Configurations.{Configured, LeadTo, edge_cost, root_of}
 use Rattle.lrpar_parse_cpctplus.specs.Costs.{steps_cost}

@@ -6,7 +6,7 @@ use Rattle.std.proofs.lemmas.List.{take_all}
 use Rattle.std.proofs.lemmas.List.Elements.{Contains-append_left, Contains-push, Contains-push_cases}
 use Rattle.lrpar_parse_repair.specs.Asked.{Asked, IsStop}
 use Rattle.lrpar_parse_repair.specs.Sequences.{PlainStep}
-use Rattle.lrpar_parse_cpctplus.specs.Chains.{IsLastStep}
+use Rattle.lrpar_parse_cpctplus.specs.LinkPaths.{IsLastStep}
 use Rattle.lrpar_parse_cpctplus.specs.Configurations.{Configured, IsEdge, edge_cost}
 use Rattle.lrpar_parse_cpctplus.specs.Costs.{AreCosts}
 use Rattle.lrpar_parse_cpctplus.specs.Graph.{PlainEnding, PlainLink, AreEndings, HaveEndings, IsEndingAmong}

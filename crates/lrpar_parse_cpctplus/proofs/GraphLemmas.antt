@@ -7,7 +7,7 @@ use Rattle.std.proofs.lemmas.List.Kept.{AllPairs-filter}
 use Rattle.std.proofs.lemmas.Option.{slice_get_within}
 use Rattle.lrpar_parse_repair.specs.Asked.{Asked, IsStop}
 use Rattle.lrpar_parse_repair.specs.Sequences.{PlainStep}
-use Rattle.lrpar_parse_cpctplus.specs.Chains.{IsChain, IsEnd, IsLastStep, IsLink}
+use Rattle.lrpar_parse_cpctplus.specs.LinkPaths.{IsLinkPath, IsEnd, IsLastStep, IsLink}
 use Rattle.lrpar_parse_cpctplus.specs.Cheapest.{IsLeastCost, RepairsAt}
 use Rattle.lrpar_parse_cpctplus.specs.Configurations.{Configured, IsNearer, LeadTo, root_of}
 use Rattle.lrpar_parse_cpctplus.specs.Costs.{AreCosts}
@@ -43,7 +43,7 @@ module _ {X : Type 0} (token : X → ℕ) (costs : List ℕ) (at : Asked X) (c :
   pub record IsFarChain (far : ℕ) (u : Configured) (steps : List PlainStep) : Type 0 where
     pub end : Configured
     pub ends : IsEnd token costs at c end
-    pub chain : IsChain token costs at c u steps end
+    pub chain : IsLinkPath token costs at c u steps end
     pub reach : GoesOnTo end far
 
   -- a repair of least cost after which a parse goes on to this place
@@ -82,7 +82,7 @@ module _ {X : Type 0} (token : X → ℕ) (costs : List ℕ) (at : Asked X) (c :
 
     -- the last step of a chain is that of an ending
     last_ending : HaveEndings token costs at c nodes endings → (x : PlainStep) (k : ℕ) (u end : Configured) → slice_get nodes k ≡ Some u
-        → IsEnd token costs at c end → IsChain token costs at c u (x ∷ []) end
+        → IsEnd token costs at c end → IsLinkPath token costs at c u (x ∷ []) end
         → (ending : PlainEnding) × Contains endings ending × (ending.from ≡ k) × (ending.step ≡ x) × GoesOnTo end ending.reach
     last_ending measured x k u end there ends chain =
         let link = subst (λ (w : Configured). IsLink token costs at u x w) chain.3 chain.1 in
@@ -97,7 +97,7 @@ module _ {X : Type 0} (token : X → ℕ) (costs : List ℕ) (at : Asked X) (c :
 
     -- so each chain has one
     pub chain_has_ending : HaveEndings token costs at c nodes endings → (steps : List PlainStep) (k : ℕ) (u end : Configured) → slice_get nodes k ≡ Some u
-        → IsEnd token costs at c end → IsChain token costs at c u steps end → (ending : PlainEnding) × Contains endings ending × GoesOnTo end ending.reach
+        → IsEnd token costs at c end → IsLinkPath token costs at c u steps end → (ending : PlainEnding) × Contains endings ending × GoesOnTo end ending.reach
     chain_has_ending measured [] k u end there ends chain =
         absurd (end_not_nearer u (subst (λ (w : Configured). IsEnd token costs at c w) (sym chain) ends) (nearer_at k u there))
     chain_has_ending measured (x ∷ []) k u end there ends chain =

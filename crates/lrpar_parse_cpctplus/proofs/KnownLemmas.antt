@@ -4,7 +4,7 @@ use Rattle.std.proofs.lemmas.Option.{none-some, same_Some, slice_get_within}
 use Rattle.lrpar_parse_repair.specs.Asked.{Asked, IsStop}
 use Rattle.lrpar_parse_repair.specs.Sequences.{PlainStep}
 use Rattle.lrpar_table_stacks.specs.Run.{token_at}
-use Rattle.lrpar_parse_cpctplus.specs.Chains.{IsLink}
+use Rattle.lrpar_parse_cpctplus.specs.LinkPaths.{IsLink}
 use Rattle.lrpar_parse_cpctplus.specs.Configurations.{Configured, IsDistance, IsEdge, IsNearer, edge_cost, root_of}
 use Rattle.lrpar_parse_cpctplus.specs.Costs.{AreCosts}
 use Rattle.lrpar_parse_cpctplus.specs.Graph.{PlainLink, IsLinkAmong}

@@ -3,7 +3,7 @@ use Rattle.std.proofs.Common.{◌≡◌, ◌≢◌, ◌≤◌, ◌+◌, ◌∙�
 use Rattle.lrpar_parse_repair.specs.Asked.{Asked, IsStop}
 use Rattle.lrpar_parse_repair.specs.Sequences.{PlainStep, PlainShift}
 use Rattle.lrpar_parse_cpctplus.specs.AnyForm.{WorksAt}
-use Rattle.lrpar_parse_cpctplus.specs.Chains.{IsChain, IsEnd, IsLastStep, IsLeastLastCost, IsLink, LastStepsAreLinks, LeastCostByLastSteps}
+use Rattle.lrpar_parse_cpctplus.specs.LinkPaths.{IsLinkPath, IsEnd, IsLastStep, IsLeastLastCost, IsLink, LastStepsAreLinks, LeastCostByLastSteps}
 use Rattle.lrpar_parse_cpctplus.specs.Cheapest.{IsLeastCost, IsRepair, RepairsAt, cost_of}
 use Rattle.lrpar_parse_cpctplus.specs.Configurations.{Configured, GoesOnFrom, IsDistance, IsEdge, IsNearer, LeadTo, edge_cost, root_of}
 use Rattle.lrpar_parse_cpctplus.specs.Costs.{AreCosts, steps_cost}
@@ -173,7 +173,7 @@ module _ {X : Type 0} (token : X → ℕ) (costs : List ℕ) (at : Asked X) wher
     pub other : step ≢ PlainShift
     pub link : IsLink token costs at tail step head
     pub far : IsDistance token costs at head c
-    pub shifts : IsChain token costs at (c + 1) head (replicate count PlainShift) v
+    pub shifts : IsLinkPath token costs at (c + 1) head (replicate count PlainShift) v
 
   -- at the error point nothing can be shifted
   no_shifts : IsStop token at → (count : ℕ) (v : Configured) → Runs token at (root_of at) (replicate count PlainShift) v → root_of at ≡ v

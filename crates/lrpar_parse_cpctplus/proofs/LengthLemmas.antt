@@ -3,7 +3,7 @@
 use Rattle.std.proofs.Common.{◌≡◌, ◌≢◌, ◌<◌, ◌≤◌, ◌+◌, ◌⊎◌, inl, inr, ℕ, List, [], ◌∷◌, length, refl, sym, subst, ap, arith}
 use Rattle.lrpar_parse_repair.specs.Asked.{Asked, IsStop}
 use Rattle.lrpar_parse_repair.specs.Sequences.{PlainStep, PlainInsert, PlainDelete, PlainShift}
-use Rattle.lrpar_parse_cpctplus.specs.Chains.{IsChain, IsLink}
+use Rattle.lrpar_parse_cpctplus.specs.LinkPaths.{IsLinkPath, IsLink}
 use Rattle.lrpar_parse_cpctplus.specs.Cheapest.{IsLeastCost, RepairsAt}
 use Rattle.lrpar_parse_cpctplus.specs.Configurations.{Configured, IsDistance, IsNearer, edge_cost, root_of}
 use Rattle.lrpar_parse_cpctplus.specs.Costs.{AreCosts}
@@ -81,7 +81,7 @@ module _ {X : Type 0} (token : X → ℕ) (costs : List ℕ) (at : Asked X) (eac
     apart : AreApart passed
     later : (v : Configured) → IsIn v passed → (u ≡ v) ⊎ IsAfter u v
 
-  passes : (c : ℕ) (u end : Configured) (steps : List PlainStep) → IsChain token costs at c u steps end → Passes c u steps
+  passes : (c : ℕ) (u end : Configured) (steps : List PlainStep) → IsLinkPath token costs at c u steps end → Passes c u steps
   passes c u end [] h = record { passed = []; long = refl; near = λ v m. absurd m; apart = tt; later = λ v m. absurd m }
   passes c u end (x ∷ steps) h =
       let next = h.0 in

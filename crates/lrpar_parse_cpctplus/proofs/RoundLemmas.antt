@@ -5,7 +5,7 @@ use Rattle.lrpar_parse_repair.specs.Asked.{Asked, IsStop}
 use Rattle.lrpar_parse_repair.specs.Sequences.{PlainStep, PlainInsert, PlainDelete, PlainShift}
 use Rattle.lrpar_table_stacks.specs.Run.{token_at}
 use Rattle.lrpar_parse_cpctplus.specs.AnyForm.{WorksAt}
-use Rattle.lrpar_parse_cpctplus.specs.Chains.{IsLastStep, IsLink}
+use Rattle.lrpar_parse_cpctplus.specs.LinkPaths.{IsLastStep, IsLink}
 use Rattle.lrpar_parse_cpctplus.specs.Configurations.{Configured, IsDistance, IsEdge, IsNearer, LeadTo, edge_cost, root_of}
 use Rattle.lrpar_parse_cpctplus.specs.Costs.{AreCosts, token_cost}
 use Rattle.lrpar_parse_cpctplus.proofs.ChainLemmas.{CostAtLeast, moves_cost, nearer_stops, works_leads_to}

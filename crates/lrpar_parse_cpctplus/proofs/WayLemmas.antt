@@ -6,7 +6,7 @@ use Rattle.lrpar_grammar.specs.Grammar.{end_token}
 use Rattle.lrpar_parse_repair.specs.Asked.{Asked}
 use Rattle.lrpar_parse_repair.specs.Sequences.{PlainStep, PlainInsert, PlainDelete, PlainShift}
 use Rattle.lrpar_parse_repair.proofs.SequenceLemmas.{steps_one_way}
-use Rattle.lrpar_parse_cpctplus.specs.Chains.{IsChain, IsChainToEnd}
+use Rattle.lrpar_parse_cpctplus.specs.LinkPaths.{IsLinkPath, IsPathToEnd}
 use Rattle.lrpar_parse_cpctplus.specs.Configurations.{Configured, IsEdge, root_of}
 use Rattle.lrpar_parse_cpctplus.specs.Forms.{IsFormed}
 use Rattle.lrpar_parse_cpctplus.specs.Listing.{AreAlike, InsertsAvoided, IsPreferred, avoids, is_earlier, is_shorter}
@@ -73,12 +73,12 @@ module _ {X : Type 0} (token : X → ℕ) (at : Asked X) where
   edge_below u v PlainShift edge = tt
 
 module _ {X : Type 0} (token : X → ℕ) (costs : List ℕ) (at : Asked X) where
-  chain_below : (c : ℕ) (u v : Configured) (steps : List PlainStep) → IsChain token costs at c u steps v → AreBelow (end_token at.checked.grammar) steps
+  chain_below : (c : ℕ) (u v : Configured) (steps : List PlainStep) → IsLinkPath token costs at c u steps v → AreBelow (end_token at.checked.grammar) steps
   chain_below c u v [] h = tt
   chain_below c u v (x ∷ steps) h = (edge_below token at u h.0 x h.1.edge, chain_below c h.0 v steps h.3)
 
   -- the ways from the error point are the chains to ends
-  pub ways_are_chains : (c : ℕ) (steps : List PlainStep) → IsWay token costs at c false (root_of at) steps ↔ IsChainToEnd token costs at c steps
+  pub ways_are_chains : (c : ℕ) (steps : List PlainStep) → IsWay token costs at c false (root_of at) steps ↔ IsPathToEnd token costs at c steps
   ways_are_chains c steps = (
     (λ h. record {
       formed = fit_formed (end_token at.checked.grammar) false steps (chain_below c (root_of at) h.end steps h.chain) h.fits;

@@ -6,18 +6,18 @@ use Rattle.lrpar_parse_repair.specs.Sequences.{PlainStep}
 use Rattle.lrpar_parse_cpctplus.specs.declared.form.Form.{Form}
 use Rattle.lrpar_parse_cpctplus.specs.declared.listing.Choice.{Choice}
 
--- the sequence at a place of `all` begins with this step, and goes on as the one at a place of what begins at a node
+-- the sequence at this index of `all` begins with the step, and goes on as the rest from a node at the index that the choice gives
 pub record IsChoice {S : Type 0} (index : S → ℕ) (rests : Form → ℕ → List (List PlainStep)) (all : List (List PlainStep)) (place : ℕ) (choice : Choice S) : Type 0 where
   pub within : choice.place < length (rests choice.form choice.node)
   pub no_more : choice.place ≤ place
   pub is : (d : List PlainStep) → slice_index_or all place d ≡ plain_step index choice.step ∷ slice_index_or (rests choice.form choice.node) choice.place d
 
--- it is below the bound, if there is one
+-- the number is below the bound, if there is a bound
 abbrev pub IsBelow : ℕ → Option ℕ → Type 0
 IsBelow reach None = Unit {0}
 IsBelow reach (Some bound) = reach < bound
 
--- the number above it
+-- the number above a place, or 0 without one
 abbrev pub above : Option ℕ → ℕ
 above None = 0
 above (Some reach) = reach + 1

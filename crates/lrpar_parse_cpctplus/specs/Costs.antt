@@ -4,7 +4,7 @@ use Rattle.lrpar_grammar.specs.Grammar.{Grammar}
 use Rattle.lrpar_table_stacks.specs.Run.{token_at}
 use Rattle.lrpar_parse_repair.specs.Sequences.{PlainStep, PlainInsert, PlainDelete, PlainShift}
 
--- what is kept; nothing if there is no list
+-- what a list keeps; nothing if there is no list
 abbrev pub items_of : {T A : Type 0} → Option (Vec T A) → List T
 items_of None = []
 items_of (Some list) = list.items

@@ -21,7 +21,7 @@ number_of numbers Nothing = 0
 abbrev pub count_of : Counts → Form → ℕ
 count_of counts form = number_of (cond form.deleted counts.after_delete counts.after_other) form.class
 
--- the number of a form at a node; there are none at a node that the layer doesn't have
+-- the number of rests with a form from a node; 0 for a node that the layer doesn't have
 abbrev pub count_at : Option Counts → Form → ℕ
 count_at None form = 0
 count_at (Some counts) form = count_of counts form
@@ -38,25 +38,25 @@ pub record AddsNode (node : ℕ) (counts : Counts) (old new : Layer) : Type 0 wh
   pub got : (u : ℕ) → get nat_eq new.counts u ≡ cond (node == u) (Some counts) (get nat_eq old.counts u)
   pub listed : new.nodes.items ≡ old.nodes.items ++ node ∷ []
 
--- as many as there are, or as many as a machine number can say
+-- the length of a list, or the greatest number of 64 bits if it is longer
 abbrev pub counted : {A : Type 0} → List A → ℕ
 counted xs = min (length xs) (2 ^ 64 - 1)
 
--- these are the numbers of what each form has
+-- each form has this number of rests
 abbrev pub AreCounts : (Form → List (List PlainStep)) → Counts → Type 0
 AreCounts rests counts = (form : Form) → count_of counts form ≡ counted (rests form)
 
--- these are the numbers of what each class has
+-- each class has this number of rests
 abbrev pub AreNumbers : (Class → List (List PlainStep)) → Numbers → Type 0
 AreNumbers rests numbers = (class : Class) → number_of numbers class ≡ counted (rests class)
 
--- the layer has the numbers at each node at which anything begins; `rests` are what begins at a node
+-- the layer has the numbers of rests for each node from which some rest begins; `rests` gives the rests from a node
 abbrev pub IsLayer : (Form → ℕ → List (List PlainStep)) → Layer → Type 0
 IsLayer rests layer =
     (u : ℕ) → MatchOption (get nat_eq layer.counts u) ((form : Form) → rests form u ≡ [])
     (λ counts. AreCounts (λ form. rests form u) counts × Contains layer.nodes.items u)
 
--- it has them at some of these nodes
+-- the layer has the numbers of rests for some of the nodes from which a rest begins, and for no others
 abbrev pub IsPartOfLayer : (Form → ℕ → List (List PlainStep)) → Layer → Type 0
 IsPartOfLayer rests layer =
     (u : ℕ) → MatchOption (get nat_eq layer.counts u) (Unit {0}) (λ counts. AreCounts (λ form. rests form u) counts × Contains layer.nodes.items u)

@@ -8,13 +8,13 @@ use Rattle.lrpar_parse_cpctplus.specs.Costs.{AreCosts}
 use Rattle.lrpar_parse_cpctplus.specs.Graph.{AreEndings, HaveEndings, IsGraph, PlainEnding, PlainLink}
 use Rattle.lrpar_parse_cpctplus.specs.Listing.{AreFirst, IsListedBefore, MayBeListed, Settings}
 
--- a graph of a search by numbers: so many configurations, the links between them, and the last steps
+-- a graph of a search by numbers: the number of its configurations, the links between them, and the last steps
 pub record PlainGraph : Type 0 where
   pub len : ℕ
   pub links : List PlainLink
   pub endings : List PlainEnding
 
--- it is that of the configurations that are nearer than c, the least cost of a repair
+-- the graph is that of the configurations that are nearer than c, the least cost of a repair
 pub record IsGraphAt {X : Type 0} (token : X → ℕ) (costs : List ℕ) (at : Asked X) (c : ℕ) (nodes : List Configured) (graph : PlainGraph) : Type 0 where
   pub stop : IsStop token at
   pub costs_of_tokens : AreCosts costs

@@ -15,7 +15,7 @@ pub record IsFormed (end : ℕ) (steps : List PlainStep) : Type 0 where
   pub inserts : (t : ℕ) → Has steps (PlainInsert t ∷ []) → t < end
   pub apart : (t : ℕ) → ¬ (Has steps (PlainDelete ∷ PlainInsert t ∷ []))
 
--- and its last step is no Shift
+-- well formed, and the last step is no Shift
 pub record IsPrinted (end : ℕ) (steps : List PlainStep) : Type 0 where
   pub formed : IsFormed end steps
   pub last : ¬ (EndsIn steps (PlainShift ∷ []))

@@ -4,7 +4,7 @@ use Rattle.std.specs.Prelude.{◌≡◌, ◌≢◌, ◌+◌, ◌↔◌, ℕ, Lis
 use Rattle.std.specs.List.{AllPairs, Contains}
 use Rattle.lrpar_parse_repair.specs.Asked.{Asked}
 use Rattle.lrpar_parse_repair.specs.Sequences.{PlainStep}
-use Rattle.lrpar_parse_cpctplus.specs.Chains.{IsLastStep, IsLink}
+use Rattle.lrpar_parse_cpctplus.specs.LinkPaths.{IsLastStep, IsLink}
 use Rattle.lrpar_parse_cpctplus.specs.Configurations.{Configured, IsNearer, root_of}
 use Rattle.lrpar_parse_cpctplus.specs.Reaching.{Reaches}
 
@@ -27,12 +27,12 @@ module _ {X : Type 0} (token : X → ℕ) (costs : List ℕ) (at : Asked X) (c :
     pub exact : (v : Configured) → Contains nodes v ↔ IsNearer token costs at c v
     pub once : AllPairs (λ u v. u ≢ v) nodes
 
-  -- it is a link between two of the configurations
+  -- the link is one between two of the configurations
   abbrev pub IsLinkAmong : List Configured → PlainLink → Type 0
   IsLinkAmong nodes link =
       (u v : Configured) × (slice_get nodes link.from ≡ Some u) × (slice_get nodes link.to ≡ Some v) × IsLink token costs at u link.step v
 
-  -- it is a last step at c from one of the configurations
+  -- the step is a last step of repairs that cost c, from one of the configurations
   abbrev pub IsEndingAmong : List Configured → PlainEnding → Type 0
   IsEndingAmong nodes ending =
       (u v : Configured) × (slice_get nodes ending.from ≡ Some u) × IsLastStep token costs at c u ending.step v

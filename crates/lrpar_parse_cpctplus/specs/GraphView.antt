@@ -16,7 +16,7 @@ use Rattle.lrpar_parse_cpctplus.specs.declared.link.Link.{Link}
 abbrev pub configured_at : List (List ℕ) → Configuration → Configured
 configured_at stacks key = record { stack = stack_at stacks key.stack; place = key.place }
 
--- several of them
+-- configurations, each with the stack of its number
 abbrev pub nodes_in : List (List ℕ) → List Configuration → List Configured
 nodes_in stacks keys = map (configured_at stacks) keys
 
@@ -56,6 +56,6 @@ pub record IsHeld (table : Table) (end : ℕ) (stacks : List (List ℕ)) (key : 
   pub stack : IsStack table (stack_at stacks key.stack)
   pub place : key.place ≤ end
 
--- all of them are
+-- each configuration has a stack of the table, one of the numbered ones, and a place that isn't past the last lexeme
 abbrev pub AreHeld : Table → ℕ → List (List ℕ) → List Configuration → Type 0
 AreHeld table end stacks keys = (i : ℕ) (key : Configuration) → slice_get keys i ≡ Some key → IsHeld table end stacks key

@@ -7,7 +7,7 @@ pub mod AnyForm
 pub mod Reaching
 pub mod Order
 pub mod Configurations
-pub mod Chains
+pub mod LinkPaths
 pub mod Listing
 pub mod Ways
 pub mod Graph

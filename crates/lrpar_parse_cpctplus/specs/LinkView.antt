@@ -12,11 +12,11 @@ use Rattle.lrpar_parse_cpctplus.specs.declared.link.Ending.{Ending}
 use Rattle.lrpar_parse_cpctplus.specs.declared.link.Link.{Link}
 use Rattle.lrpar_parse_cpctplus.specs.declared.link.Linked.{Linked}
 
--- one link
+-- a link as it is stored, with its step's token by number
 abbrev pub plain_link : {S : Type 0} → (S → ℕ) → Link S → PlainLink
 plain_link index link = record { from = link.from; step = plain_step index link.step; to = link.to }
 
--- one ending
+-- an ending as it is stored, with its step's token by number
 abbrev pub plain_ending : {S : Type 0} → (S → ℕ) → Ending S → PlainEnding
 plain_ending index ending = record { reach = ending.reach; from = ending.from; step = plain_step index ending.step }
 

@@ -27,15 +27,16 @@ pub record Settings : Type 0 where
 abbrev pub settings_with : ℕ → List ℕ → Settings
 settings_with limit costs = record { limit = limit; costs = costs; avoided = []; most = 100; lists_all = false }
 
--- it is set with these costs, and nothing else is set
+-- the settings have this limit and these costs, and nothing else is set
 abbrev pub HasCosts : {A : Type 0} → ℕ → Vec ℕ A → Settings → Type 0
 HasCosts limit costs = λ settings. settings ≡ settings_with limit costs.items
 
--- nothing but its costs is set
+-- nothing but the limit and the costs is set
 abbrev pub HasOnlyCosts : ℕ → Settings → Type 0
 HasOnlyCosts limit = λ settings. settings ≡ settings_with limit settings.costs
 
--- it has what the function says that the tokens of the grammar cost; `index` gives the number of a value of the storage type
+-- the settings have as costs what the function says that the tokens of the grammar cost; `index` gives the number of a value of the
+-- storage type
 abbrev pub HasSaidCosts : {S : Type 0} → (S → ℕ) → (TIdx S → ℕ → Type 0) → Grammar → Settings → Type 0
 HasSaidCosts index says g = λ settings. AreSaid (said_by index says) (tokens_len g) settings.costs
 
@@ -47,7 +48,7 @@ KeepsOthers old = λ new. new ≡ record old { avoided = new.avoided }
 abbrev pub AreAvoided : List Bool → List ℕ → Type 0
 AreAvoided avoided tokens = (t : ℕ) → IsTrue (slice_index_or avoided t false) ↔ Contains tokens t
 
--- so is this one, by its number, in addition to those that were before
+-- this token is to be avoided, too, by its number, and all that were before
 abbrev pub AvoidsAlso : ℕ → List Bool → List Bool → Type 0
 AvoidsAlso token old new = (t : ℕ) → IsTrue (slice_index_or new t false) ↔ (IsTrue (slice_index_or old t false) ⊎ (t ≡ token))
 
@@ -59,7 +60,7 @@ Avoids index tokens = λ settings. AreAvoided settings.avoided (tokens_of index 
 abbrev pub InsertsAvoided : List Bool → List PlainStep → Type 0
 InsertsAvoided avoided steps = (t : ℕ) × IsTrue (slice_index_or avoided t false) × Has steps (PlainInsert t ∷ [])
 
--- either both sequences insert such a token, or none does
+-- either both sequences insert a token that is to be avoided, or none does
 abbrev pub AreAlike : List Bool → List PlainStep → List PlainStep → Type 0
 AreAlike avoided xs ys = InsertsAvoided avoided xs ↔ InsertsAvoided avoided ys
 
@@ -67,9 +68,9 @@ AreAlike avoided xs ys = InsertsAvoided avoided xs ↔ InsertsAvoided avoided ys
 pub data IsPreferred (avoided : List Bool) (xs ys : List PlainStep) : Type 0 where
   -- only the other inserts a token that is to be avoided
   avoids : ¬ (InsertsAvoided avoided xs) → InsertsAvoided avoided ys → IsPreferred avoided xs ys
-  -- they are alike in that, and it has fewer steps
+  -- both insert such a token, or none does, and the first has fewer steps
   is_shorter : AreAlike avoided xs ys → length xs < length ys → IsPreferred avoided xs ys
-  -- or as many, and it is earlier
+  -- both insert such a token, or none does, and they have as many steps; the first is earlier
   is_earlier : AreAlike avoided xs ys → length xs ≡ length ys → IsEarlier xs ys → IsPreferred avoided xs ys
 
 -- one repair is listed before another: a parse goes on further after it; or as far, and it is preferred
@@ -100,7 +101,7 @@ module _ {X : Type 0} (token : X → ℕ) (settings : Settings) (at : Asked X) w
   abbrev pub MayBeListed : ℕ → List PlainStep → Type 0
   MayBeListed c steps = RepairsAt token settings.costs at c steps × (IsTrue settings.lists_all ⊎ GoesFurthest c steps)
 
-  -- what is answered: the first repairs of least cost, if the limit allows to find that cost, and none otherwise
+  -- the answer is the first repairs of least cost, if the limit allows that cost to be found, and none otherwise
   pub record AreListed (answer : List (List PlainStep)) : Type 0 where
     pub first : (c : ℕ) → IsFoundAt c → AreFirst settings.most (MayBeListed c) (IsListedBefore token at settings.avoided) answer
     pub else : (answer ≡ []) ⊎ ((c : ℕ) × IsFoundAt c)

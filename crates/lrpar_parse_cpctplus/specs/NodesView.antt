@@ -21,12 +21,12 @@ use Rattle.lrpar_parse_cpctplus.specs.declared.link.Link.{Link}
 use Rattle.lrpar_parse_cpctplus.specs.declared.listing.Choice.{Choice}
 use Rattle.lrpar_parse_cpctplus.specs.declared.nodes.Nodes.{Nodes}
 
--- what a row has; past the rows there is nothing
+-- the elements of a row; none past the rows
 abbrev pub row_of : {A : Type 0} → Option (Vec A Global) → List A
 row_of None = []
 row_of (Some row) = row.items
 
--- the first ones of the sequences are listed after those before, as long as there are at most so many
+-- the first ones of the sequences were appended to those that are listed, up to `most` in all
 abbrev pub AddsFirst : {S A B : Type 0} → (S → ℕ) → ℕ → List (List PlainStep) → Vec (Vec (RepairStep S) A) B → Vec (Vec (RepairStep S) A) B → Type 0
 AddsFirst index most sequences old new = plain_sequences index new.items ≡ added_first most (plain_sequences index old.items) sequences
 
@@ -55,7 +55,7 @@ module _ {S : Type 0} (index : S → ℕ) (nodes : Nodes S) where
   abbrev pub AreLayersOf : List Layer → Type 0
   AreLayersOf layers = (s : ℕ) (d : Layer) → s < length layers → IsLayer (rests_of s) (slice_index_or layers s d)
 
-  -- and no more steps are left, or none up to the number of nodes
+  -- one layer for each number of steps from 0 on; no more steps are left, or none up to the number of nodes
   abbrev pub AreAllLayers : List Layer → Type 0
   AreAllLayers layers = AreLayers rests_of nodes.end layers
 
@@ -63,16 +63,16 @@ module _ {S : Type 0} (index : S → ℕ) (nodes : Nodes S) where
   abbrev pub IsNextLayer : Layer → Layer → Type 0
   IsNextLayer layer next = (s : ℕ) → IsLayer (rests_of s) layer → IsLayer (rests_of (suc s)) next
 
-  -- what that layer says of a node
+  -- the numbers of a node in the layer of one step more
   abbrev pub AreNextCounts : Layer → ℕ → Counts → Type 0
   AreNextCounts layer node counts = (s : ℕ) → IsLayer (rests_of s) layer → AreCounts (λ form. rests_of (suc s) form node) counts
 
-  -- what it says of the node after a Delete, or after another step
+  -- the numbers of the node in the layer of one step more, after a Delete or after another step
   abbrev pub AreNextNumbers : Layer → ℕ → Bool → Numbers → Type 0
   AreNextNumbers layer node deleted numbers =
       (s : ℕ) → IsLayer (rests_of s) layer → AreNumbers (λ class. rests_of (suc s) (form_of class deleted) node) numbers
 
-  -- and what of one form
+  -- the number of the node in the layer of one step more, for one form
   abbrev pub IsNextNumber : Layer → ℕ → Form → ℕ → Type 0
   IsNextNumber layer node form number = (s : ℕ) → IsLayer (rests_of s) layer → number ≡ counted (rests_of (suc s) form node)
 
@@ -82,17 +82,17 @@ module _ {S : Type 0} (index : S → ℕ) (nodes : Nodes S) where
     pub there : (u : ℕ) → Contains sources u → IsTrue (has_node new u)
     pub stay : (u : ℕ) → IsTrue (has_node old u) → IsTrue (has_node new u)
 
-  -- those from which links lead to a node
+  -- a part of the layer of one step more gets the nodes from which links lead to a node, and keeps those that it has
   abbrev pub AddsSourcesOf : Layer → ℕ → Layer → Layer → Type 0
   AddsSourcesOf layer node old new = AddsSources layer (sources_of node) old new
 
-  -- the first step of the rest at a place of those of one step more, if there are so many
+  -- the first step of the rest at this index among the rests of one step more; none if there are no more than `place` of these
   abbrev pub IsChosen : Layer → ℕ → Form → ℕ → Option (Choice S) → Type 0
   IsChosen layer node form place chosen =
       (s : ℕ) → IsLayer (rests_of s) layer
       → MatchOption chosen (length (rests_of (suc s) form node) ≤ place) (IsChoice index (rests_of s) (rests_of (suc s) form node) place)
 
-  -- the repair at a place of those of a class and a number of steps
+  -- the repair at this index among those of a class and a number of steps
   abbrev pub IsRepairAt : {A : Type 0} → Class → ℕ → ℕ → Vec (RepairStep S) A → Type 0
   IsRepairAt class steps place repair = (d : List PlainStep) → slice_index_or (repairs_of class steps) place d ≡ plain_steps index repair.items
 
@@ -100,11 +100,11 @@ module _ {S : Type 0} (index : S → ℕ) (nodes : Nodes S) where
   abbrev pub AddsLength : {A B : Type 0} → Class → ℕ → ℕ → Vec (Vec (RepairStep S) A) B → Vec (Vec (RepairStep S) A) B → Type 0
   AddsLength class steps most old new = AddsFirst index most (repairs_of class steps) old new
 
-  -- those of a class with fewer than n steps
+  -- the first ones of a class with fewer than n steps are listed
   abbrev pub AddsClass : {A B : Type 0} → Class → ℕ → ℕ → Vec (Vec (RepairStep S) A) B → Vec (Vec (RepairStep S) A) B → Type 0
   AddsClass class n most old new = AddsFirst index most (shorter nodes.avoided.now nodes.end links_of class n) old new
 
-  -- those of all repairs
+  -- the first ones of all repairs are listed
   abbrev pub AddsRepairs : {A B : Type 0} → ℕ → Vec (Vec (RepairStep S) A) B → Vec (Vec (RepairStep S) A) B → Type 0
   AddsRepairs most old new = AddsFirst index most (in_order nodes.avoided.now nodes.end links_of (nodes.end + 1)) old new
 

@@ -10,7 +10,7 @@ IsStepBefore (PlainInsert t) PlainShift = Unit {0}
 IsStepBefore PlainDelete PlainShift = Unit {0}
 IsStepBefore _ _ = ⊥
 
--- so does one sequence before another, by the first steps that differ
+-- one sequence comes before another, by the first steps that differ
 pub record IsEarlier (xs ys : List PlainStep) : Type 0 where
   pub same : List PlainStep
   pub x : PlainStep

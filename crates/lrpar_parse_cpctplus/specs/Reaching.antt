@@ -19,7 +19,7 @@ pub data Reaches {X : Type 0} (token : X → ℕ) (g : Grammar) (table : Table) 
   -- lexeme i can't be fed
   fails_at : (st : List ℕ) (i : ℕ) → i < most → i < length lexemes
       → ((prods next : List ℕ) → ¬ (Feeds g table (token_at token g lexemes i) st prods next)) → Reaches token g table lexemes most st i i
-  -- it is far enough
+  -- place `most` is reached, and a lexeme is left
   is_far : (st : List ℕ) (i : ℕ) → most ≤ i → i < length lexemes → Reaches token g table lexemes most st i most
   -- no lexeme is left, and the stack doesn't accept
   ends_at : (st : List ℕ) (i : ℕ) → length lexemes ≤ i → ¬ (AcceptsAtEnd g table st) → Reaches token g table lexemes most st i (min i most)

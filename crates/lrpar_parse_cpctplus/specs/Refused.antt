@@ -18,12 +18,12 @@ abbrev pub IsFreeToken : List ℕ → CostFault → Type 0
 IsFreeToken costs (CostsNothing token) = IsFirstFree costs token
 IsFreeToken costs Memory = ⊥
 
--- the fault names the first of the first `count` tokens that costs nothing, as a function says what they cost; out of memory says
--- nothing of them
+-- the fault names the first of the first `count` tokens that costs nothing, as a function says what they cost; or it is `Memory`
 abbrev pub IsFreeBy : (ℕ → ℕ → Type 0) → ℕ → CostFault → Type 0
 IsFreeBy says count (CostsNothing token) = (costs : List ℕ) × AreSaid says count costs × IsFirstFree costs token
 IsFreeBy says count Memory = Unit {0}
 
--- the same for the tokens of a grammar; `index` gives the number of a value of the storage type
+-- the fault names the first token of a grammar that costs nothing, as a function says what they cost; or it is `Memory`. `index` gives the
+-- number of a value of the storage type.
 abbrev pub IsFreeTokenBy : {S : Type 0} → (S → ℕ) → (TIdx S → ℕ → Type 0) → Grammar → CostFault → Type 0
 IsFreeTokenBy index says g = λ fault. IsFreeBy (said_by index says) (tokens_len g) fault

@@ -15,12 +15,12 @@ module _ (avoided : List Bool) (end : ℕ) (next : ℕ → List PlainLink) where
   rests zero form u = cond ((u == end) && allows_none form.class) ([] ∷ []) []
   rests (suc s) form u = flat_map (λ link. map (λ steps. link.step ∷ steps) (rests s (form_after avoided form link.step) link.to)) (next u)
 
-  -- those of a class with fewer than n steps from the error point, those of fewer steps first
+  -- the rests of a class with fewer than n steps from the error point, those of fewer steps first
   abbrev pub shorter : Class → ℕ → List (List PlainStep)
   shorter class zero = []
   shorter class (suc n) = shorter class n ++ rests n (form_of class false) 0
 
-  -- all with fewer than n steps, those first that insert no token to be avoided
+  -- all repairs with fewer than n steps, first those that insert no token to be avoided
   abbrev pub in_order : ℕ → List (List PlainStep)
   in_order n = shorter Clean n ++ shorter Avoided n
 
@@ -41,7 +41,7 @@ pub record AreByNodes (links : List PlainLink) (next : ℕ → List PlainLink) :
   pub exact : (u : ℕ) (link : PlainLink) → Contains (next u) link ↔ (Contains links link × (link.from ≡ u))
   pub rising : DifferInSteps links → (u : ℕ) → AllPairs (λ one other. IsStepBefore one.step other.step) (next u)
 
--- the first ones of xs after those before, as long as there are at most so many
+-- the earlier elements, and then the first ones of xs, up to `most` in all
 abbrev pub added_first : {A : Type 0} → ℕ → List A → List A → List A
 added_first most before xs = before ++ take (most - length before) xs
 
@@ -58,12 +58,12 @@ pub data AreGroups (avoided : List Bool) (end n : ℕ) (links : List PlainLink) 
   one_group : (reach : ℕ) (group repairs : List (List PlainStep)) → IsGroup avoided end n links endings reach group
       → AreGroups avoided end n links endings high (suc reach) repairs → AreGroups avoided end n links endings high reach (repairs ++ group)
 
--- no ending is further than this place, which is that of one
+-- this is the furthest place of an ending
 pub record IsFurthest (endings : List PlainEnding) (reach : ℕ) : Type 0 where
   pub some : (ending : PlainEnding) × Contains endings ending × (ending.reach ≡ reach)
   pub none : (ending : PlainEnding) → Contains endings ending → ending.reach ≤ reach
 
--- the first ones of the groups, as many of them as are needed, or only of that of the furthest place
+-- the first repairs of the groups, up to `most`; or only those of the group of the furthest place
 pub data AreRanked (avoided : List Bool) (end n : ℕ) (links : List PlainLink) (endings : List PlainEnding) (most : ℕ) : Bool → List (List PlainStep) → Type 0 where
   of_places : (high low : ℕ) (repairs : List (List PlainStep)) → ((ending : PlainEnding) → Contains endings ending → ending.reach < high)
       → AreGroups avoided end n links endings high low repairs → (low ≡ 0) ⊎ (most ≤ length repairs)

@@ -59,11 +59,11 @@ module _ {S X : Type 0} (search : Search S X) where
   abbrev pub IsHeldBy : Shared → Configuration → Type 0
   IsHeldBy stacks at = IsHeld search.point.now.checked.table (length search.point.now.lexemes) stacks.stacks at
 
-  -- so does each of the graph's
+  -- each configuration of the graph has a stack of the table, and its place isn't past the last lexeme
   abbrev pub AreHeldBy : Shared → Graph S → Type 0
   AreHeldBy stacks graph = AreHeld search.point.now.checked.table (length search.point.now.lexemes) stacks.stacks graph.configurations.keys
 
-  -- the limit allows as many configurations
+  -- the graph has no more configurations than the limit allows
   abbrev pub IsWithinLimit : Graph S → Type 0
   IsWithinLimit graph = length graph.configurations.keys ≤ search.terms.now.limit
 
@@ -73,7 +73,7 @@ module _ {S X : Type 0} (index : S → ℕ) (search : Search S X) where
     pub exact : (t : ℕ) → Contains (tokens_of index tokens) t ↔ (top_action search.point.now.checked.table t (stack_at stacks.stacks at.stack) ≢ Fails)
     pub ascending : IsStrictlyIncreasing (tokens_of index tokens)
 
-  -- the Inserts of those of the tokens that cost as much are added
+  -- the Inserts of those tokens that cost this much are added
   abbrev pub AddsInserts : {A : Type 0} → List (TIdx S) → ℕ → ℕ → Vec (Attempt S) A → Vec (Attempt S) A → Type 0
   AddsInserts tokens from weight old new =
       Adds (IsInsertOf search.terms.now.costs (end_token search.point.now.checked.grammar) (tokens_of index tokens) from weight)
@@ -96,7 +96,7 @@ module _ {S X : Type 0} (index : S → ℕ) (parts : X → LexemeParts S) (searc
     pub held : IfSome reached (IsHeldBy search new)
     pub leads : LeadsOn (token_by index parts) search.point.now (configured_at old.stacks at) (plain_step index step) (option_map (configured_at new.stacks) reached)
 
-  -- it says whether a parse can go on from the configuration
+  -- the answer says whether a parse can go on from the configuration
   abbrev pub TellsGoingOn : Shared → Configuration → Bool → Type 0
   TellsGoingOn stacks at goes_on = IsTrue goes_on ↔ GoesOnFrom (token_by index parts) search.point.now (configured_at stacks.stacks at)
 
@@ -104,7 +104,7 @@ module _ {S X : Type 0} (index : S → ℕ) (parts : X → LexemeParts S) (searc
   abbrev pub ReachesBy : Shared → Configuration → ℕ → Type 0
   ReachesBy stacks at far = ReachesFrom (token_by index parts) search.point.now (configured_at stacks.stacks at) far
 
-  -- so far it goes on after the step, if it can
+  -- the place to which a parse goes on after the step; none if it can't go on, or the step can't be taken
   abbrev pub IsReachBy : Shared → Configuration → RepairStep S → Option ℕ → Type 0
   IsReachBy stacks at step far = IsReach (token_by index parts) search.point.now (configured_at stacks.stacks at) (plain_step index step) far
 
@@ -115,7 +115,7 @@ module _ {S X : Type 0} (index : S → ℕ) (parts : X → LexemeParts S) (searc
       ⊎ ((far : ℕ) × IsReachBy stacks at attempt.step (Some far)
       × (plain_endings index new.items ≡ plain_endings index old.items ++ record { reach = far; from = attempt.from; step = plain_step index attempt.step } ∷ []))
 
-  -- the Delete at the place is added, if a lexeme is left and costs as much
+  -- the Delete at the place is added, if a lexeme is left there and its token costs this much
   abbrev pub AddsDelete : {A : Type 0} → ℕ → ℕ → ℕ → Vec (Attempt S) A → Vec (Attempt S) A → Type 0
   AddsDelete place from weight old new =
       Adds (IsDeleteOf (token_by index parts) search.terms.now.costs search.point.now place from weight)
@@ -139,7 +139,7 @@ module _ {S X : Type 0} (index : S → ℕ) (parts : X → LexemeParts S) (searc
       AreAttempts (token_by index parts) search.terms.now.costs search.point.now (nodes_of stacks graph) graph.firsts.items (length graph.firsts.items)
       (plain_attempts index attempts)
 
-  -- these are the last steps of repairs among them
+  -- these are the last steps of repairs among the steps that are tried in a round
   abbrev pub AreEndingsBy : Shared → Graph S → List (Attempt S) → List (Ending S) → Type 0
   AreEndingsBy stacks graph attempts endings =
       AreEndingsOf (token_by index parts) search.point.now (nodes_of stacks graph) (plain_attempts index attempts) (plain_endings index endings)
@@ -161,13 +161,13 @@ module _ {S X : Type 0} (index : S → ℕ) (parts : X → LexemeParts S) (searc
     pub within : IsWithinLimit search graph
     pub least : IsNextLeast (length graph.firsts.items - 1)
 
-  -- the step is to be added to it
+  -- the step is to be added to the graph
   abbrev pub IsDueBy : Shared → Graph S → ℕ → ℕ → RepairStep S → Type 0
   IsDueBy stacks graph first from step =
       IsDue (token_by index parts) search.terms.now.costs search.point.now first (length graph.firsts.items - 1) (nodes_of stacks graph) (plain_links index graph.links.items)
       from (plain_step index step)
 
-  -- and so are these, each once
+  -- the steps are to be added to the graph, each once
   pub record AreDueBy (stacks : Shared) (graph : Graph S) (first : ℕ) (attempts : List (Attempt S)) : Type 0 where
     pub each : (x : PlainAttempt) → Contains (plain_attempts index attempts) x
         → IsDue (token_by index parts) search.terms.now.costs search.point.now first (length graph.firsts.items - 1) (nodes_of stacks graph)
@@ -181,7 +181,7 @@ module _ {S X : Type 0} (index : S → ℕ) (parts : X → LexemeParts S) (searc
     pub grown : Grows (token_by index parts) search.terms.now.costs search.point.now first (length graph.firsts.items - 1) Done
         (nodes_of stacks graph) (plain_links index graph.links.items) (nodes_of new_stacks new_graph) (plain_links index new_graph.links.items)
 
-  -- by this one
+  -- by this step one graph has become another one, with as many distances
   abbrev pub GrowsByStep : ℕ → ℕ → RepairStep S → Shared → Graph S → Shared → Graph S → Type 0
   GrowsByStep first from step stacks graph new_stacks new_graph = GrowsBy first (IsThis from (plain_step index step)) stacks graph new_stacks new_graph
 
@@ -190,17 +190,18 @@ module _ {S X : Type 0} (index : S → ℕ) (parts : X → LexemeParts S) (searc
     pub held : AreHeldBy search stacks graph
     pub past : IsPastLimit (token_by index parts) search.terms.now.costs search.point.now search.terms.now.limit (nodes_of stacks graph)
 
-  -- by steps, within the limit; or there are more configurations than may be kept
+  -- by the steps that have `Done` one graph has become another one, within the limit; or there are more configurations than may be kept
   abbrev pub GrowsOrExceeds : ℕ → (ℕ → PlainStep → Type 0) → Shared → Graph S → Shared → Graph S → Bool → Type 0
   GrowsOrExceeds first Done stacks graph new_stacks new_graph true = GrowsBy first Done stacks graph new_stacks new_graph × IsWithinLimit search new_graph
   GrowsOrExceeds first Done stacks graph new_stacks new_graph false = ExceedsBy new_stacks new_graph × (new_graph.firsts ≡ graph.firsts)
 
-  -- by these
+  -- by these steps one graph has become another one, within the limit; or there are more configurations than may be kept
   abbrev pub GrowsByAttempts : ℕ → List (Attempt S) → Shared → Graph S → Shared → Graph S → Bool → Type 0
   GrowsByAttempts first attempts stacks graph new_stacks new_graph =
       GrowsOrExceeds first (IsAmong (plain_attempts index attempts)) stacks graph new_stacks new_graph
 
-  -- by the Shifts from numbers from the first one on
+  -- by the Shifts from configurations with numbers from the first one on, one graph has become another one, within the limit; or there are
+  -- more configurations than may be kept
   abbrev pub GrowsByShifts : ℕ → Shared → Graph S → Shared → Graph S → Bool → Type 0
   GrowsByShifts first stacks graph new_stacks new_graph =
       GrowsOrExceeds first (IsShiftWithin first (length new_graph.configurations.keys)) stacks graph new_stacks new_graph
@@ -221,16 +222,16 @@ module _ {S X : Type 0} (index : S → ℕ) (parts : X → LexemeParts S) (searc
   IsNotFound = IsNothingFound (token_by index parts) search.terms.now.costs search.point.now search.terms.now.limit
 
   -- these last steps are found with the graph, or nothing is found
-  abbrev pub IsResult : {A : Type 0} → Shared → Graph S → Option (Vec (Ending S) A) → Type 0
-  IsResult stacks graph None = IsNotFound
-  IsResult stacks graph (Some endings) =
+  abbrev pub IsSearchResult : {A : Type 0} → Shared → Graph S → Option (Vec (Ending S) A) → Type 0
+  IsSearchResult stacks graph None = IsNotFound
+  IsSearchResult stacks graph (Some endings) =
       IsFoundBy (token_by index parts) search.terms.now.costs search.point.now search.terms.now.limit (nodes_of stacks graph)
       (plain_links index graph.links.items) (plain_endings index endings.items)
 
   -- what is found
   abbrev pub IsFoundIn : Option (Found S) → Type 0
   IsFoundIn None = IsNotFound
-  IsFoundIn (Some found) = IsResult found.stacks found.graph (Some found.endings)
+  IsFoundIn (Some found) = IsSearchResult found.stacks found.graph (Some found.endings)
 
 -- how many configurations there are in what is found, the links between them, and the last steps
 pub record AreLinksOf {S : Type 0} (found : Found S) (linked : Linked S) : Type 0 where

@@ -26,11 +26,11 @@ pub record PlainAttempt : Type 0 where
 abbrev pub AreOnce : {A : Type 0} → List A → Type 0
 AreOnce {A} xs = (i j : ℕ) (x : A) → slice_get xs i ≡ Some x → slice_get xs j ≡ Some x → i ≡ j
 
--- each one of the first list is in the other
+-- each element of the first list is in the other one
 abbrev pub AreAllIn : {A : Type 0} → List A → List A → Type 0
 AreAllIn {A} xs all = (x : A) → Contains xs x → Contains all x
 
--- the list is longer by those that have P, each once
+-- the elements that have P were appended, each once
 pub record Adds {A : Type 0} (P : A → Type 0) (old new : List A) : Type 0 where
   pub more : List A
   pub is : new ≡ old ++ more
@@ -42,12 +42,12 @@ pub record AreWeights (costs weights : List ℕ) : Type 0 where
   pub some : (t : ℕ) → Contains weights (token_cost costs t)
   pub once : AreOnce weights
 
--- an Insert of one of these tokens, below the end token, that costs as much
+-- an Insert of one of these tokens, below the end token, that costs this much
 abbrev pub IsInsertOf : List ℕ → ℕ → List ℕ → ℕ → ℕ → PlainAttempt → Type 0
 IsInsertOf costs end tokens from weight x =
     (x.from ≡ from) × ((t : ℕ) × (x.step ≡ PlainInsert t) × Contains tokens t × (t < end) × (token_cost costs t ≡ weight))
 
--- a Delete of the lexeme at the place, if one is left there and costs as much
+-- a Delete of the lexeme at the place, if one is left there and its token costs this much
 abbrev pub IsDeleteOf : {X : Type 0} → (X → ℕ) → List ℕ → Asked X → ℕ → ℕ → ℕ → PlainAttempt → Type 0
 IsDeleteOf token costs at place from weight x =
     (x.from ≡ from) × (x.step ≡ PlainDelete) × (place < length at.lexemes)
@@ -76,12 +76,12 @@ module _ {X : Type 0} (token : X → ℕ) (at : Asked X) where
     pub goes_on : GoesOnFrom token at head
     pub reach : ReachesFrom head far
 
-  -- so far a parse goes on after the step; or it can't go on, or the step can't be taken
+  -- the place to which a parse goes on after the step; none if it can't go on, or the step can't be taken
   abbrev pub IsReach : Configured → PlainStep → Option ℕ → Type 0
   IsReach u step None = (v : Configured) → IsEdge token at u step v → ¬ (GoesOnFrom token at v)
   IsReach u step (Some far) = EndsAt u step far
 
-  -- it is the last step of repairs, if it is one of these steps
+  -- the last step of repairs is one of these steps, and a parse can go on after it
   abbrev pub IsEndingOf : List Configured → List PlainAttempt → PlainEnding → Type 0
   IsEndingOf nodes attempts ending =
       Contains attempts (record { from = ending.from; step = ending.step })
@@ -197,10 +197,10 @@ module _ {X : Type 0} (token : X → ℕ) (costs : List ℕ) (at : Asked X) wher
 abbrev pub IsThis : ℕ → PlainStep → ℕ → PlainStep → Type 0
 IsThis from step other other_step = (other ≡ from) × (other_step ≡ step)
 
--- it is among these
+-- the step from the configuration with this number is among these steps
 abbrev pub IsAmong : List PlainAttempt → ℕ → PlainStep → Type 0
 IsAmong attempts from step = Contains attempts (record { from = from; step = step })
 
--- it is a Shift from one with a number in this range
+-- the step is a Shift from a configuration with a number in this range
 abbrev pub IsShiftWithin : ℕ → ℕ → ℕ → PlainStep → Type 0
 IsShiftWithin first next from step = (first ≤ from) × (from < next) × (step ≡ PlainShift)

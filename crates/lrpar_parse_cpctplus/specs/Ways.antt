@@ -2,10 +2,10 @@
 use Rattle.std.specs.Prelude.{◌≡◌, ◌||◌, ℕ, Bool, true, false, List, [], ◌∷◌, slice_index_or}
 use Rattle.lrpar_parse_repair.specs.Asked.{Asked}
 use Rattle.lrpar_parse_repair.specs.Sequences.{PlainStep, PlainInsert, PlainDelete, PlainShift}
-use Rattle.lrpar_parse_cpctplus.specs.Chains.{IsChain, IsEnd}
+use Rattle.lrpar_parse_cpctplus.specs.LinkPaths.{IsLinkPath, IsEnd}
 use Rattle.lrpar_parse_cpctplus.specs.Configurations.{Configured}
 
--- whether it is a Delete
+-- whether the step is a Delete
 abbrev pub is_delete : PlainStep → Bool
 is_delete (PlainInsert t) = false
 is_delete PlainDelete = true
@@ -17,7 +17,7 @@ FitsAfter deleted (PlainInsert t) = deleted ≡ false
 FitsAfter deleted PlainDelete = Unit {0}
 FitsAfter deleted PlainShift = Unit {0}
 
--- so may the steps, each after the one before it
+-- each of the steps may come after the one before it
 abbrev pub FitAfter : Bool → List PlainStep → Type 0
 FitAfter deleted [] = Unit {0}
 FitAfter deleted (step ∷ steps) = FitsAfter deleted step × FitAfter (is_delete step) steps
@@ -27,7 +27,7 @@ pub record IsWay {X : Type 0} (token : X → ℕ) (costs : List ℕ) (at : Asked
   pub fits : FitAfter deleted steps
   pub end : Configured
   pub ends : IsEnd token costs at c end
-  pub chain : IsChain token costs at c v steps end
+  pub chain : IsLinkPath token costs at c v steps end
 
 -- whether the step inserts a token that is to be avoided
 abbrev pub is_avoided : List Bool → PlainStep → Bool
@@ -35,7 +35,7 @@ is_avoided avoided (PlainInsert t) = slice_index_or avoided t false
 is_avoided avoided PlainDelete = false
 is_avoided avoided PlainShift = false
 
--- whether one of the steps does
+-- whether one of the steps inserts a token that is to be avoided
 abbrev pub has_avoided : List Bool → List PlainStep → Bool
 has_avoided avoided [] = false
 has_avoided avoided (step ∷ steps) = is_avoided avoided step || has_avoided avoided steps

@@ -87,7 +87,7 @@ impl<'a, StorageT: StorageIndex> Nodes<'a, StorageT> {
         }
     }
 
-    // The same after a Delete, or after another step.
+    // The numbers of the paths from the node after a Delete, or after another step.
     fn numbers_at(&self, layer: &Layer, node: usize, deleted: bool) -> Numbers
         ensures { AreNextNumbers StorageT.index self.now layer.now node deleted result }
     {
@@ -98,7 +98,7 @@ impl<'a, StorageT: StorageIndex> Nodes<'a, StorageT> {
         }
     }
 
-    // The same of one form: those after each of the links from the node.
+    // The number of the node's paths of one form: those after each of the links from the node.
     fn pulled(&self, layer: &Layer, node: usize, form: Form) -> usize
         ensures { IsNextNumber StorageT.index self.now layer.now node form result }
     {

@@ -314,7 +314,7 @@ impl<StorageT: StorageIndex, LexemeT: Lexeme<StorageT>> Recoverer<StorageT, Lexe
             (plain_sequences StorageT.index answer.items)) }
     {
         // Each token costs something, and some lexeme has to follow a repair.
-        let (_limit, _shifts) = (self.limit(), point.shifts());
+        let (_lemma, _second_lemma) = (self.limit(), point.shifts());
         let search = Search::new(point, self);
         let Some(found) = search.found(alloc)? else {
             return Ok(Vec::new(alloc));

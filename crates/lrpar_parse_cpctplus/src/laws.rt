@@ -1,7 +1,7 @@
 //! Laws about the definitions that contracts cite: each function has one as its contract, and does nothing.
 ghost use Rattle.lrpar_grammar.specs.Sentence.{LexemeFacts};
 ghost use Rattle.lrpar_parse_cpctplus.specs.AnyForm.{CostNoLess, HaveRepairs};
-ghost use Rattle.lrpar_parse_cpctplus.specs.Chains.{EndsHaveRepairs, LastStepsAreLinks, LeastCostByLastSteps, RepairsAreChains};
+ghost use Rattle.lrpar_parse_cpctplus.specs.LinkPaths.{EndsHaveRepairs, LastStepsAreLinks, LeastCostByLastSteps, RepairsArePaths};
 ghost use Rattle.lrpar_parse_cpctplus.specs.Listing.{ListedAreOne, ListedInOrder};
 
 /// The form of repairs leaves out nothing that is cheaper: for each sequence that works at an error point, whatever the order of
@@ -23,10 +23,10 @@ pub fn cheapest_repairs_have_one_answer<LexemeT>()
 
 /// The repairs of least cost are the well-formed chains of links from the error point to an end, and each end is that of a repair. So
 /// a search may keep each stack and place once, however many sequences lead to it.
-pub fn cheapest_repairs_are_chains<LexemeT>()
-    ensures repairs { RepairsAreChains LexemeT }
+pub fn cheapest_repairs_are_paths<LexemeT>()
+    ensures repairs { RepairsArePaths LexemeT }
     ensures ends { EndsHaveRepairs LexemeT }
-    ensures facts_repairs { RepairsAreChains LexemeFacts }
+    ensures facts_repairs { RepairsArePaths LexemeFacts }
     ensures facts_ends { EndsHaveRepairs LexemeFacts }
 {}
 

@@ -43,7 +43,7 @@ pub(crate) fn first_repairs<StorageT: StorageIndex, LexemeT>(
     ranked_repairs(alloc, wanted, linked)
 }
 
-// The same, by groups.
+// The repairs, group by group.
 fn ranked_repairs<StorageT: StorageIndex>(
     alloc: Global,
     wanted: &Wanted<'_>,
@@ -172,7 +172,7 @@ fn links_to_end<StorageT: StorageIndex>(
     Ok(links)
 }
 
-// The same links.
+// A copy of the links.
 fn copied<StorageT: StorageIndex>(
     alloc: Global,
     links: &[Link<StorageT>],

@@ -67,7 +67,7 @@ impl<StorageT: StorageIndex> Found<StorageT> {
 }
 
 impl<'a, 'p, StorageT: StorageIndex, LexemeT: Lexeme<StorageT>> Search<'a, 'p, StorageT, LexemeT> {
-    ghost use Rattle.lrpar_parse_cpctplus.specs.RoundView.{AddsAttemptsAt, AddsAttemptsOf, AddsDelete, AddsEnding, AddsInserts, AreAttemptsBy, AreDueBy, AreEndingsBy, AreHeldBy, AreNextTokens, GrowsByAttempts, GrowsByShifts, GrowsByStep, HasLevels, HasNoShifts, IsAddedLevel, IsDueBy, IsEngineOf, IsFoundIn, IsGrowingBy, IsHeldBy, IsNextLeast, IsReachBy, IsResult, IsRoundBy, IsWithinLimit, LeadsBy, ReachesBy, TellsGoingOn, token_there};
+    ghost use Rattle.lrpar_parse_cpctplus.specs.RoundView.{AddsAttemptsAt, AddsAttemptsOf, AddsDelete, AddsEnding, AddsInserts, AreAttemptsBy, AreDueBy, AreEndingsBy, AreHeldBy, AreNextTokens, GrowsByAttempts, GrowsByShifts, GrowsByStep, HasLevels, HasNoShifts, IsAddedLevel, IsDueBy, IsEngineOf, IsFoundIn, IsGrowingBy, IsHeldBy, IsNextLeast, IsReachBy, IsSearchResult, IsRoundBy, IsWithinLimit, LeadsBy, ReachesBy, TellsGoingOn, token_there};
 
     /// The search at this error point, by these terms.
     pub(crate) fn new(point: &'a RecoveryPoint<'p, StorageT, LexemeT>, terms: &'a CpctPlus) -> Self
@@ -86,7 +86,7 @@ impl<'a, 'p, StorageT: StorageIndex, LexemeT: Lexeme<StorageT>> Search<'a, 'p, S
         // Each token costs something.
         let (stack, place, _limit) = (stacks.number(), self.point.place(), self.terms.limit());
         let mut graph = Graph::new(alloc, Configuration { stack, place })?;
-        match self.rounds(alloc, &mut stacks, &mut graph, &weights)? {
+        match self.run_rounds(alloc, &mut stacks, &mut graph, &weights)? {
             Some(endings) => Ok(Some(Found {
                 stacks,
                 graph,
@@ -97,7 +97,7 @@ impl<'a, 'p, StorageT: StorageIndex, LexemeT: Lexeme<StorageT>> Search<'a, 'p, S
     }
 
     // Adds all that is nearer than the least cost of a repair, and returns the last steps at that cost.
-    fn rounds(
+    fn run_rounds(
         &self,
         alloc: Global,
         stacks: &mut SharedStacks<StorageT>,
@@ -106,7 +106,7 @@ impl<'a, 'p, StorageT: StorageIndex, LexemeT: Lexeme<StorageT>> Search<'a, 'p, S
     ) -> Result<Option<Vec<Ending<StorageT>>>, AllocError>
         requires round { IsRoundBy StorageT.index LexemeT.parts self.now stacks.old graph.old }
         requires weights { AreWeights self.now.terms.now.costs weights.now }
-        ensures { IfOk result (IsResult StorageT.index LexemeT.parts self.now stacks.new graph.new) }
+        ensures { IfOk result (IsSearchResult StorageT.index LexemeT.parts self.now stacks.new graph.new) }
     {
         // The point is an error point.
         let (limit, _shifts) = (self.terms.limit(), self.point.shifts());
@@ -115,8 +115,8 @@ impl<'a, 'p, StorageT: StorageIndex, LexemeT: Lexeme<StorageT>> Search<'a, 'p, S
         }
         let mut empty = 0;
         'rounds: while empty < DEAREST {
-            let attempts = self.attempts(alloc, stacks, graph, weights)?;
-            let endings = self.endings(alloc, stacks, graph, &attempts)?;
+            let attempts = self.collect_attempts(alloc, stacks, graph, weights)?;
+            let endings = self.collect_endings(alloc, stacks, graph, &attempts)?;
             if !endings.is_empty() {
                 return Ok(Some(endings));
             }
@@ -130,7 +130,7 @@ impl<'a, 'p, StorageT: StorageIndex, LexemeT: Lexeme<StorageT>> Search<'a, 'p, S
     }
 
     // The steps that lead to what is one further than the greatest distance so far, if it isn't nearer, and aren't Shifts.
-    fn attempts(
+    fn collect_attempts(
         &self,
         alloc: Global,
         stacks: &mut SharedStacks<StorageT>,
@@ -187,7 +187,7 @@ impl<'a, 'p, StorageT: StorageIndex, LexemeT: Lexeme<StorageT>> Search<'a, 'p, S
         ensures adds { OnOk result (AddsAttemptsOf StorageT.index LexemeT.parts self.now stacks.old at from weight attempts.old attempts.new) }
         ensures stacks { stacks.new.stacks ≡ stacks.old.stacks }
     {
-        let tokens = self.tokens(stacks, at);
+        let tokens = self.find_tokens(stacks, at);
         self.add_inserts(tokens, from, weight, attempts)?;
         self.add_delete(at.place, from, weight, attempts)
     }
@@ -254,7 +254,11 @@ impl<'a, 'p, StorageT: StorageIndex, LexemeT: Lexeme<StorageT>> Search<'a, 'p, S
     }
 
     // The tokens at which the top state of the configuration's stack has an action.
-    fn tokens(&self, stacks: &mut SharedStacks<StorageT>, at: Configuration) -> &'p [TIdx<StorageT>]
+    fn find_tokens(
+        &self,
+        stacks: &mut SharedStacks<StorageT>,
+        at: Configuration,
+    ) -> &'p [TIdx<StorageT>]
         requires held { IsHeldBy self.now stacks.old at }
         ensures tokens { AreNextTokens StorageT.index self.now stacks.old at result.now }
         ensures stacks { stacks.new.stacks ≡ stacks.old.stacks }
@@ -266,7 +270,7 @@ impl<'a, 'p, StorageT: StorageIndex, LexemeT: Lexeme<StorageT>> Search<'a, 'p, S
     }
 
     // The last steps of repairs: those of the steps after which a parse can go on, and how far it goes on.
-    fn endings(
+    fn collect_endings(
         &self,
         alloc: Global,
         stacks: &mut SharedStacks<StorageT>,
@@ -387,9 +391,9 @@ impl<'a, 'p, StorageT: StorageIndex, LexemeT: Lexeme<StorageT>> Search<'a, 'p, S
         requires due { IsDueBy StorageT.index LexemeT.parts self.now stacks.old graph.old first from step }
         ensures { OnOk result (GrowsByStep StorageT.index LexemeT.parts self.now first from step stacks.old graph.old stacks.new graph.new) }
     {
-        if let Some(reached) = self.taken(stacks, graph.at(from), step)? {
+        if let Some(reached) = self.try_step(stacks, graph.at(from), step)? {
             // No two numbers have the same stack.
-            let _stack = stacks.number();
+            let _lemma = stacks.number();
             graph.link(first, from, step, reached)?;
         }
         Ok(())
@@ -406,10 +410,10 @@ impl<'a, 'p, StorageT: StorageIndex, LexemeT: Lexeme<StorageT>> Search<'a, 'p, S
         ensures reach { IfOk result (IsReachBy StorageT.index LexemeT.parts self.now stacks.old at step) }
         ensures extends { OnOk result (Extends stacks.old stacks.new) }
     {
-        let Some(reached) = self.taken(stacks, at, step)? else {
+        let Some(reached) = self.try_step(stacks, at, step)? else {
             return Ok(None);
         };
-        if self.goes_on(stacks, reached)? {
+        if self.can_go_on(stacks, reached)? {
             Ok(Some(self.reach(stacks, reached)?))
         } else {
             Ok(None)
@@ -417,7 +421,7 @@ impl<'a, 'p, StorageT: StorageIndex, LexemeT: Lexeme<StorageT>> Search<'a, 'p, S
     }
 
     // The configuration to which the step leads, if it can be taken.
-    fn taken(
+    fn try_step(
         &self,
         stacks: &mut SharedStacks<StorageT>,
         at: Configuration,
@@ -429,7 +433,7 @@ impl<'a, 'p, StorageT: StorageIndex, LexemeT: Lexeme<StorageT>> Search<'a, 'p, S
     {
         stacks.go_to(at.stack);
         let engine = self.engine();
-        match engine.take(stacks, at.place, step)? {
+        match engine.try_step(stacks, at.place, step)? {
             Some(place) => Ok(Some(Configuration {
                 stack: stacks.number(),
                 place,
@@ -439,7 +443,7 @@ impl<'a, 'p, StorageT: StorageIndex, LexemeT: Lexeme<StorageT>> Search<'a, 'p, S
     }
 
     // Whether a parse can go on from the configuration.
-    fn goes_on(
+    fn can_go_on(
         &self,
         stacks: &mut SharedStacks<StorageT>,
         at: Configuration,
@@ -476,7 +480,7 @@ impl<'a, 'p, StorageT: StorageIndex, LexemeT: Lexeme<StorageT>> Search<'a, 'p, S
         if at.place.max(most) < end {
             return Ok(most as u128);
         }
-        let ends = engine.accepts(stacks)?;
+        let ends = engine.try_accept(stacks)?;
         Ok(most.min(end) as u128 + u128::from(ends))
     }
 

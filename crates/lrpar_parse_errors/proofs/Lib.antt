@@ -3,5 +3,4 @@ pub mod FailureLemmas
 pub mod ErrorTextLemmas
 pub mod LexParseTextLemmas
 pub mod ActedOnLemmas
-pub mod SpacesLemmas
 pub mod TestLemmas

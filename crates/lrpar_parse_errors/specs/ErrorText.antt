@@ -13,11 +13,11 @@ use Rattle.lrpar_parse_errors.specs.SequenceText.{IsPartsText, RepairsFit, inser
 abbrev pub digits : ℕ → ℕ
 digits n = length (decimal n)
 
--- what is wrong, and the line and the column of a byte of the input
+-- a text that says what is wrong, and the line and the column of a byte of the input
 abbrev pub place_text : List ℕ → List ℕ → ℕ → List ℕ
 place_text what input byte = what ++ codes " at line " ++ decimal (line_of input byte) ++ codes " column " ++ decimal (column_of input byte) ++ codes "."
 
--- what is wrong, and a byte of the input
+-- a text that says what is wrong, and at which byte of the input
 abbrev pub byte_text : List ℕ → ℕ → List ℕ
 byte_text what byte = what ++ codes " at byte " ++ decimal byte ++ codes "."
 

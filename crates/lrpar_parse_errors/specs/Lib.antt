@@ -1,4 +1,3 @@
-pub mod Strings
 pub mod Printed
 pub mod Failure
 pub mod FailureLaws

@@ -26,7 +26,7 @@ IsNamed prints old new false = prints None
 abbrev pub AppendsName : {S A : Type 0} → (S → ℕ) → (ℕ → Option (List ℕ) → Type 0) → TIdx S → String A → String A → Bool → Type 0
 AppendsName index names token old new = IsNamed (names (index token.0)) (string_bytes old) (string_bytes new)
 
--- the same with the names that a function answers
+-- a string gets the name that a function answers for the token, at its end; or the function answers none
 abbrev pub AppendsAnswer : {S A : Type 0} → (S → ℕ) → (TIdx S → Option (Bor (List ℕ)) → Type 0) → TIdx S → String A → String A → Bool → Type 0
 AppendsAnswer index answers token old new = AppendsName index (printed_by index answers) token old new
 

@@ -7,7 +7,7 @@ use Rattle.lrpar_parse_lexemes.specs.declared.repairs.ParseRepair.{ParseRepair}
 use Rattle.lrpar_parse_errors.specs.declared.printed_parts.Part.{Part}
 use Rattle.lrpar_parse_errors.specs.declared.printed_parts.Part.TheVariants.{Insert, Delete, Shift}
 
--- one part
+-- a printed part as it is stored, with its token by number
 abbrev pub part_of : {S : Type 0} → (S → ℕ) → Part S → texts.Part
 part_of index (Insert token) = texts.Inserts (index token.0)
 part_of index (Delete span) = texts.Deletes span

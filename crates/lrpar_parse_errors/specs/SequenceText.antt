@@ -48,13 +48,13 @@ RepairFits span input (Inserted t) = Unit {0}
 RepairFits span input (Deleted x) = IsPartOf input (span x)
 RepairFits span input (Shifted x) = IsPartOf input (span x)
 
--- the same for a printed part
+-- the part of the input that a printed part names starts and ends between two characters of the input
 abbrev pub PartFits : List ℕ → Part → Type 0
 PartFits input (Inserts t) = Unit {0}
 PartFits input (Deletes span) = IsPartOf input span
 PartFits input (Shifts span) = IsPartOf input span
 
--- all repairs of a sequence fit
+-- the parts of the input that the repairs of a sequence name start and end between two characters of the input
 abbrev pub RepairsFit : {X : Type 0} → (X → Extent) → List ℕ → List (Repair X) → Type 0
 RepairsFit span input repairs = AllByRecursion (RepairFits span input) repairs
 

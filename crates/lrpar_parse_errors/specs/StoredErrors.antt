@@ -21,15 +21,15 @@ module _ {S L X Y : Type 0} (place : Y → Extent) (parts : X → LexemeParts S)
   abbrev pub IsTextBy : {A : Type 0} → (ℕ → Option (List ℕ) → Type 0) → List ℕ → LexParseError S L X Y → String A → Type 0
   IsTextBy names input e = λ text. IsErrorText place (λ x. (parts x).span) names input e (string_bytes text)
 
-  -- the same with the names that a function answers
+  -- this is the error's text, with the names that a function answers
   abbrev pub IsTextWith : {A : Type 0} → (S → ℕ) → (TIdx S → Option (Bor (List ℕ)) → Type 0) → List ℕ → LexParseError S L X Y → String A → Type 0
   IsTextWith index answers input e = λ text. IsErrorText place (λ x. (parts x).span) (printed_by index answers) input e (string_bytes text)
 
-  -- the same with the names that a grammar prints
+  -- this is the error's text, with the names that a grammar prints
   abbrev pub IsTextOf : {A : Type 0} → Grammar → List ℕ → LexParseError S L X Y → String A → Type 0
   IsTextOf g input e = λ text. IsErrorText place (λ x. (parts x).span) (IsPrintedName g) input e (string_bytes text)
 
-  -- if there is a result, it is the text of the error that names a byte alone
+  -- if there is a result, it is the text that names the error's byte alone
   abbrev pub TellsByte : {A E : Type 0} → LexParseError S L X Y → Result (String A) E → Type 0
   TellsByte e result = IfOk result (HasText (unfit_text place (λ x. (parts x).span) e))
 
@@ -46,6 +46,6 @@ module _ {S L X Y : Type 0} (index : S → ℕ) (parts : X → LexemeParts S) wh
   abbrev pub IsFaultBy : (ℕ → Option (List ℕ) → Type 0) → LexParseError S L X Y → PpFault S → Type 0
   IsFaultBy names e = IsPpFault index names (error_tokens (λ x. (parts x).span) e)
 
-  -- the same with the names that a function answers
+  -- the fault names the first token of the error's sequences for which a function answers no name, or is `Memory`
   abbrev pub IsFaultWith : (TIdx S → Option (Bor (List ℕ)) → Type 0) → LexParseError S L X Y → PpFault S → Type 0
   IsFaultWith answers e = IsPpFault index (printed_by index answers) (error_tokens (λ x. (parts x).span) e)

@@ -49,11 +49,11 @@ module _ {S X : Type 0} (index : S → ℕ) (parts : X → LexemeParts S) where
   abbrev pub FitsRepair : List ℕ → ParseRepair X S → Type 0
   FitsRepair input repair = RepairFits (λ x. (parts x).span) input (repair_of index repair)
 
-  -- the same for all repairs of a sequence
+  -- the part of the input that each repair of a sequence names starts and ends between two characters of the input
   abbrev pub FitRepairs : List ℕ → List (ParseRepair X S) → Type 0
   FitRepairs input repairs = RepairsFit (λ x. (parts x).span) input (map (repair_of index) repairs)
 
-  -- the same for all sequences
+  -- the part of the input that each repair of each sequence names starts and ends between two characters of the input
   abbrev pub FitSequences : {A : Type 0} → List ℕ → List (Vec (ParseRepair X S) A) → Type 0
   FitSequences input sequences = AllByRecursion (RepairsFit (λ x. (parts x).span) input) (repairs_of index sequences)
 
@@ -63,7 +63,7 @@ module _ {S X : Type 0} (index : S → ℕ) (parts : X → LexemeParts S) where
     PushesSequence input sequence old new result =
         OnOk result ((text : List ℕ) × Appends old new text × IsPartsText names input (sequence_parts index (λ x. (parts x).span) sequence.items) text)
 
-    -- if it did, the texts of the sequences were added, each after its number, or the words that there are none
+    -- if the call succeeded, the texts of the sequences were added, each after its number, or the words that there are none
     abbrev pub PushesRepairs : {A B T E : Type 0} → List ℕ → List (Vec (ParseRepair X S) B) → String A → String A → Result T E → Type 0
     PushesRepairs input sequences old new result =
         OnOk result ((texts : List (List ℕ)) × Appends old new (repairs_text texts)
@@ -73,6 +73,6 @@ module _ {S X : Type 0} (index : S → ℕ) (parts : X → LexemeParts S) where
     abbrev pub IsFaultIn : {B : Type 0} → Vec (ParseRepair X S) B → PpFault S → Type 0
     IsFaultIn sequence = IsPpFault index names (inserted (sequence_parts index (λ x. (parts x).span) sequence.items))
 
-    -- the same for the tokens of all sequences
-    abbrev pub IsFaultOf : {B : Type 0} → List (Vec (ParseRepair X S) B) → PpFault S → Type 0
-    IsFaultOf sequences = IsPpFault index names (tokens_of (λ x. (parts x).span) (repairs_of index sequences))
+    -- the fault names the first token of the sequences for which nothing is printed, or is `Memory`
+    abbrev pub IsPpFaultOf : {B : Type 0} → List (Vec (ParseRepair X S) B) → PpFault S → Type 0
+    IsPpFaultOf sequences = IsPpFault index names (tokens_of (λ x. (parts x).span) (repairs_of index sequences))

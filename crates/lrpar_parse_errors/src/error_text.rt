@@ -3,15 +3,15 @@ ghost use Rattle.std.specs.Prelude.{◌↔◌, IfOk, IfErr, IsTrue};
 ghost use Rattle.std.specs.Str.{IsCharBoundary};
 ghost use Rattle.lrpar_grammar.specs.SpansFit.{IsPartOf};
 ghost use Rattle.lrpar_parse_errors.specs.ErrorText.{numbering, place_text};
-ghost use Rattle.lrpar_parse_errors.specs.StoredSequences.{FitRepairs, FitSequences, FitsRepair, IsFaultOf, PushesRepairs};
-ghost use Rattle.lrpar_parse_errors.specs.Strings.{Pushes};
+ghost use Rattle.lrpar_parse_errors.specs.StoredSequences.{FitRepairs, FitSequences, FitsRepair, IsPpFaultOf, PushesRepairs};
+ghost use Rattle.lrpar_parse_lexemes.specs.Strings.{Pushes};
 
 use crate::errors::LexParseError;
 use crate::names::{ByFunction, TokenNames};
 use crate::sequence_text::push_sequence;
-use crate::spaces::push_spaces;
 use lrpar_grammar::span::{Span, StorageIndex, TIdx};
 use lrpar_parse_lexemes::lex_api::{LexError, Lexeme, LexerTypes, NonStreamingLexer};
+use lrpar_parse_lexemes::spaces::push_spaces;
 use lrpar_parse_lexemes::{ParseRepair, PpFault};
 use std::alloc::{AllocError, Global};
 
@@ -77,11 +77,11 @@ impl<
         let mut out = String::new(alloc);
         match self {
             LexParseError::LexError(error) => {
-                push_place(&mut out, lexer, "Lexing error", error.span())?;
+                push_position(&mut out, lexer, "Lexing error", error.span())?;
                 Ok(out)
             }
             LexParseError::ParseError(error) => {
-                push_place(&mut out, lexer, "Parsing error", error.lexeme().span())?;
+                push_position(&mut out, lexer, "Parsing error", error.lexeme().span())?;
                 push_repairs(&mut out, alloc, lexer, names, error.repairs())?;
                 Ok(out)
             }
@@ -132,7 +132,7 @@ fn repair_fits<LexemeT: Lexeme<StorageT>, StorageT: StorageIndex>(
 }
 
 // Adds what is wrong, and the line and the column of the start of the span.
-fn push_place<'input, LexerTypesT: LexerTypes, L: NonStreamingLexer<'input, LexerTypesT>>(
+fn push_position<'input, LexerTypesT: LexerTypes, L: NonStreamingLexer<'input, LexerTypesT>>(
     out: &mut String,
     lexer: &L,
     what: &str,
@@ -182,7 +182,7 @@ fn push_repairs<
     requires fits { FitSequences StorageT.index LexemeT.parts (L.text lexer.now) sequences.now }
     ensures text { PushesRepairs StorageT.index LexemeT.parts
         (N.prints names.now) (L.text lexer.now) sequences.now out.old out.new result }
-    ensures fault { IfErr result (IsFaultOf StorageT.index LexemeT.parts (N.prints names.now) sequences.now) }
+    ensures fault { IfErr result (IsPpFaultOf StorageT.index LexemeT.parts (N.prints names.now) sequences.now) }
 {
     if sequences.is_empty() {
         out.push_str(" No repair sequences found.")?;

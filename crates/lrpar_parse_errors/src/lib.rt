@@ -8,6 +8,5 @@ mod message;
 mod names;
 pub mod printed_parts;
 mod sequence_text;
-pub mod spaces;
 
 pub use errors::{LexParseError, ParseError, ParseRepair, PpFault};

@@ -2,7 +2,7 @@
 ghost use Rattle.std.specs.Prelude.{IfErr};
 ghost use Rattle.lrpar_parse_errors.specs.SequenceText.{on_one_line};
 ghost use Rattle.lrpar_parse_errors.specs.StoredSequences.{FitRepairs, FitsPart, IsFaultIn, IsPartFault, PushesPart, PushesSequence};
-ghost use Rattle.lrpar_parse_errors.specs.Strings.{Pushes};
+ghost use Rattle.lrpar_parse_lexemes.specs.Strings.{Pushes};
 
 use crate::names::TokenNames;
 use crate::printed_parts::{Part, next_part};

@@ -1,2 +1,3 @@
 pub mod RepairLemmas
 pub mod PlaceLemmas
+pub mod SpacesLemmas

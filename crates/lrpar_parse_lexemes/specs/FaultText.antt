@@ -9,7 +9,7 @@ abbrev pub pp_fault_text : {S : Type 0} → (S → ℕ) → PpFault S → Option
 pp_fault_text index (NoPrintedName t) = Some (codes "no printed name for token " ++ decimal (index t.0))
 pp_fault_text index Memory = Some (codes "out of memory")
 
--- both name one token, or both are out of memory
+-- both faults name one token, or both say that an allocation failed
 abbrev pub IsSameFault : {S : Type 0} → (S → ℕ) → PpFault S → PpFault S → Type 0
 IsSameFault index (NoPrintedName t) (NoPrintedName u) = index t.0 ≡ index u.0
 IsSameFault index (NoPrintedName t) Memory = ⊥

@@ -10,7 +10,7 @@ pub record LexemeParts (S : Type 0) : Type 0 where
   pub span : Extent
   pub faulty : Bool
 
--- the same with the token's number
+-- a lexeme's parts, with a number for its token
 abbrev pub facts_of : {S : Type 0} → (S → ℕ) → LexemeParts S → LexemeFacts
 facts_of index x = record { token = index x.token; span = x.span; faulty = x.faulty }
 

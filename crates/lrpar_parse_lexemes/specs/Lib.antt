@@ -4,3 +4,4 @@ pub mod RepairLaws
 pub mod Repairs
 pub mod FaultText
 pub mod Views
+pub mod Strings

@@ -5,7 +5,7 @@ use Rattle.lrpar_parse_lexemes.specs.Repair.{Repair, Inserted, Deleted, Shifted,
 use Rattle.lrpar_parse_lexemes.specs.declared.repairs.ParseRepair.{ParseRepair}
 use Rattle.lrpar_parse_lexemes.specs.declared.repairs.ParseRepair.TheVariants.{Insert, Delete, Shift}
 
--- one repair
+-- a repair as it is stored, with its token by number
 abbrev pub repair_of : {X S : Type 0} → (S → ℕ) → ParseRepair X S → Repair X
 repair_of index (Insert token) = Inserted (index token.0)
 repair_of index (Delete lexeme) = Deleted lexeme
@@ -16,7 +16,7 @@ abbrev pub ComparesRepairs : {X S : Type 0} → (S → ℕ) → (X → X → Boo
 ComparesRepairs {X = X} {S = S} index lexeme_eq eq =
     (x y : ParseRepair X S) → eq x y ≡ repair_eq lexeme_eq (repair_of index x) (repair_of index y)
 
--- a list of repair sequences
+-- repair sequences as they are stored, with their tokens by number
 abbrev pub repairs_of : {X S A : Type 0} → (S → ℕ) → List (Vec (ParseRepair X S) A) → List (List (Repair X))
 repairs_of index sequences = map (λ sequence. map (repair_of index) sequence.items) sequences
 

@@ -6,15 +6,15 @@ use Rattle.lrpar_grammar_places.specs.Facts.{LexemeFacts}
 use Rattle.lrpar_grammar_places.specs.declared.span.TIdx.{TIdx}
 use Rattle.lrpar_parse_lexemes.specs.Lexemes.{LexemeParts, facts_of, lexeme_past}
 
--- its token by number, its span, and whether it is faulty
+-- a lexeme's token by number, its span, and whether it is faulty
 abbrev pub facts_by : {S X : Type 0} → (S → ℕ) → (X → LexemeParts S) → X → LexemeFacts
 facts_by index parts x = facts_of index (parts x)
 
--- the number of its token
+-- the number of a lexeme's token
 abbrev pub token_by : {S X : Type 0} → (S → ℕ) → (X → LexemeParts S) → X → ℕ
 token_by index parts x = index (parts x).token
 
--- its span
+-- a lexeme's span
 abbrev pub span_by : {S X : Type 0} → (X → LexemeParts S) → X → Extent
 span_by parts x = (parts x).span
 

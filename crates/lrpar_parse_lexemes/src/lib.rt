@@ -6,6 +6,7 @@ pub mod lex_api;
 pub mod places;
 pub mod pp_fault;
 pub mod repairs;
+pub mod spaces;
 
 pub use lex_api::{InputLexer, LexError, Lexeme, Lexer, LexerTypes, NonStreamingLexer};
 pub use pp_fault::PpFault;

@@ -6,8 +6,8 @@ use Rattle.std.specs.Cmp.{nat_cmp_is}
 use Rattle.std.specs.declared.cmp.Ordering.{Ordering}
 use Rattle.std.specs.declared.cmp.Ordering.TheVariants.{Equal, Greater, Less}
 use Rattle.std.proofs.lemmas.Bool.{cases_lt}
-use Rattle.lrpar_grammar_yacc.specs.declared.parts.AssocKind.{AssocKind}
-use Rattle.lrpar_grammar_yacc.specs.declared.parts.AssocKind.TheVariants.{Left, Nonassoc, Right}
+use Rattle.lrpar_table_precedence.specs.declared.precedence.AssocKind.{AssocKind}
+use Rattle.lrpar_table_precedence.specs.declared.precedence.AssocKind.TheVariants.{Left, Nonassoc, Right}
 use Rattle.lrpar_table_precedence.specs.Precedence.{against, by_kind, by_levels}
 use Rattle.lrpar_table_precedence.specs.declared.precedence.Precedence.{Precedence}
 use Rattle.lrpar_table_precedence.specs.declared.precedence.Resolution.TheVariants.{Reduce, Shift}

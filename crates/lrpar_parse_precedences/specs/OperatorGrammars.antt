@@ -34,14 +34,14 @@ pub record IsRespectful {X : Type 0} (g : Grammar) (precedences : PrecedenceList
   pub last : (p q b : ℕ) → EndsInItsRule g p g.start → BeginsWithItsRule g q g.start b → ReducesOrFails (resolution_of precedences p b) → HasNoneLast p q tree
   pub first : (p q b : ℕ) → EndsInItsRule g p g.start → BeginsWithItsRule g q g.start b → ShiftsOrFails (resolution_of precedences p b) → HasNoneFirst p q tree
 
--- over an operator grammar, the run over the leaves of such a tree accepts them, and makes its productions
+-- over an operator grammar, the run over the leaves of a tree that respects the precedences accepts them, and makes its productions
 abbrev pub RespectfulTreesAreTaken : Type 0 → Type 0
 RespectfulTreesAreTaken X =
     (token : X → ℕ) (precedences : PrecedenceLists) (g : Grammar) (graph : Graph) (table : Table) → IsWellFormed g → IsClosed table
     → IsBuiltBy g precedences graph table → IsOperatorGrammar g precedences → (tree : Tree X) → Fits token g tree (Nonterminal g.start)
     → IsRespectful g precedences tree → RunsTo token g table (leaves tree) (productions tree) Accepted
 
--- so there are no two of them with the same leaves
+-- over an operator grammar, no two trees that respect the precedences have the same leaves
 abbrev pub RespectfulTreesAreOne : Type 0 → Type 0
 RespectfulTreesAreOne X =
     (token : X → ℕ) (precedences : PrecedenceLists) (g : Grammar) (graph : Graph) (table : Table) → IsWellFormed g → IsClosed table

@@ -23,12 +23,12 @@ abbrev pub IsNodeOf : {X : Type 0} → ℕ → Tree X → Type 0
 IsNodeOf q (Leaf x) = ⊥
 IsNodeOf q (Branch p children) = p ≡ q
 
--- the first of the trees is one
+-- the first of the trees is a node of production q
 abbrev pub BeginsWithNode : {X : Type 0} → ℕ → Forest X → Type 0
 BeginsWithNode q Nil = ⊥
 BeginsWithNode q (Cons t ts) = IsNodeOf q t
 
--- the last of the trees is one
+-- the last of the trees is a node of production q
 abbrev pub EndsWithNode : {X : Type 0} → ℕ → Forest X → Type 0
 EndsWithNode q Nil = ⊥
 EndsWithNode q (Cons t Nil) = IsNodeOf q t
@@ -76,7 +76,7 @@ pub record Respects {X : Type 0} (precedences : PrecedenceLists) (table : Table)
   pub last : ReducesOrFails (resolution_of precedences p b) → (lists_in table.conflicts).reduce_reduce ≡ [] → HasNoneLast p q tree
   pub first : ShiftsOrFails (resolution_of precedences p b) → HasNoneFirst p q tree
 
--- over lexemes of type X, the trees of runs without errors, over a table that is built by precedences, respect these
+-- over lexemes of type X and a table that is built by precedences, the trees of runs without errors respect the precedences
 abbrev pub TreesRespectPrecedences : Type 0 → Type 0
 TreesRespectPrecedences X =
     (token : X → ℕ) (precedences : PrecedenceLists) (g : Grammar) (graph : Graph) (table : Table) → IsWellFormed g → IsClosed table
@@ -95,7 +95,7 @@ pub record RespectsRepaired {X : Type 0} (token : X → ℕ) (precedences : Prec
   pub first : ShiftsOrFails (resolution_of precedences p b) → NoneIsError table.resolved → EachReachableHasTree g → KeepOffEnd token g lexemes
       → HasNoneFirst p q tree
 
--- and so do the trees of any runs; `allows` says which answers the recoverer may give at an error point
+-- the trees of any runs respect the precedences; `allows` says which answers the recoverer may give at an error point
 abbrev pub RepairedTreesRespectPrecedences : {X : Type 0} → (X → LexemeFacts) → (Point X → List (List PlainStep) → Type 0) → Type 0
 RepairedTreesRespectPrecedences {X} facts allows =
     (k : ℕ) (precedences : PrecedenceLists) (g : Grammar) (graph : Graph) (table : Table) → IsWellFormed g → IsClosed table

@@ -27,20 +27,21 @@ use Rattle.lrpar_parse_prefixes.specs.ViableLaws.{OverBuiltTables, OverCompleteB
 abbrev pub ActsOnlyAsFollows : Grammar → Table → List ℕ → List ℕ → Type 0
 ActsOnlyAsFollows g table st front = (s t : ℕ) → top_of st ≡ Some s → action_of table s t ≢ Fails → CanFollow g front t
 
--- it has an action at exactly the tokens that can come after these
+-- the top of the stack has an action at exactly the tokens that can come after these
 abbrev pub ActsAsFollows : Grammar → Table → List ℕ → List ℕ → Type 0
 ActsAsFollows g table st front = (s t : ℕ) → top_of st ≡ Some s → (action_of table s t ≢ Fails) ↔ CanFollow g front t
 
--- So acts the top of each stack to which a run without repairs feeds lexemes, and that of each error point, which is the stack after
--- all reductions at the token of the lexeme there
+-- The top of each stack to which a run without repairs feeds lexemes has actions only at tokens that can come after these lexemes. So has
+-- the top of the stack of each error point, which is the one after all reductions at the lexeme there
 pub record ActionsKeepToSentences {X : Type 0} (token : X → ℕ) (g : Grammar) (table : Table) : Type 0 where
   pub fed : (lexemes : List X) (i : ℕ) (st : List ℕ) → FeedsFront token g table lexemes i st
       → ActsOnlyAsFollows g table st (map token (take i lexemes))
   pub stop : (lexemes : List X) (prods : List ℕ) (stop : Stop) → RunsTo token g table lexemes prods (Stopped stop)
       → ActsOnlyAsFollows g table stop.stack (map token (take stop.place lexemes))
 
--- The same with exactly the tokens that can come; at error points, if no lexeme has the end token. And then an error is found before
--- any reduction: the stack of an error point is the one to which the lexemes before it are fed
+-- The top of each stack to which a run without repairs feeds lexemes has actions at exactly the tokens that can come after these lexemes.
+-- So has the top of the stack of each error point, if no lexeme has the end token. And an error is found before any reduction: the stack
+-- of an error point is the one to which the lexemes before it are fed
 pub record ActionsFollowSentences {X : Type 0} (token : X → ℕ) (g : Grammar) (table : Table) : Type 0 where
   pub fed : (lexemes : List X) (i : ℕ) (st : List ℕ) → FeedsFront token g table lexemes i st
       → ActsAsFollows g table st (map token (take i lexemes))
@@ -49,11 +50,13 @@ pub record ActionsFollowSentences {X : Type 0} (token : X → ℕ) (g : Grammar)
   pub unreduced : (lexemes : List X) (prods : List ℕ) (stop : Stop) → KeepOffEnd token g lexemes
       → RunsTo token g table lexemes prods (Stopped stop) → FeedsFront token g table lexemes stop.place stop.stack
 
--- over a table that was built of a grammar in which each reachable rule is productive; the table may have conflicts
+-- over a table that was built of a grammar in which each reachable rule is productive, states act only at tokens that can come next; the
+-- table may have conflicts
 abbrev pub BuiltActionsKeepToSentences : Type 0 → Type 0
 BuiltActionsKeepToSentences X = OverBuiltTables X (λ token g table. ActionsKeepToSentences token g table)
 
--- and if the table is complete, these are exactly the tokens that can come
+-- over a complete table that was built of a grammar in which each reachable rule is productive, states act at exactly the tokens that can
+-- come next
 abbrev pub CompleteBuiltActionsFollowSentences : Type 0 → Type 0
 CompleteBuiltActionsFollowSentences X = OverCompleteBuiltTables X (λ token g table. ActionsFollowSentences token g table)
 
@@ -99,7 +102,8 @@ module _ {X : Type 0} (facts : X → LexemeFacts) (allows : Point X → List (Li
       → RepairRun facts allows k g table lexemes (table.start ∷ []) 0 stops consumed prods
       → AtEachErrorPoint facts lexemes (ActsOnlyAsFollows g table) stops
 
-  -- and at exactly these, if the table is complete and no lexeme has the end token
+  -- the state of each error point has an action at exactly the tokens that can come there, if the table is complete and no lexeme has the
+  -- end token
   abbrev pub ErrorStatesFollowSentences : Type 0
   ErrorStatesFollowSentences =
       (k : ℕ) (g : Grammar) (graph : Graph) (table : Table) (lexemes : List X) (stops : List RepairStop) (consumed : Option (List X)) (prods : List ℕ)

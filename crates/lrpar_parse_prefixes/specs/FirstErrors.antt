@@ -27,7 +27,7 @@ module _ {X : Type 0} (facts : X → LexemeFacts) (allows : Point X → List (Li
       → RepairRun facts allows k g table lexemes (table.start ∷ []) 0 (first ∷ later) consumed prods
       → BeginSentence g (map (λ x. (facts x).token) (take first.stop.place lexemes))
 
-  -- nor too early, if the table is complete: the first error point is the place at which the lexemes go wrong
+  -- if the table is complete, no first error comes too early either: the first error point is the place at which the lexemes go wrong
   abbrev pub FirstErrorsAreExact : Type 0
   FirstErrorsAreExact =
       (k : ℕ) (g : Grammar) (graph : Graph) (table : Table) (lexemes : List X) (first : RepairStop) (later : List RepairStop)
@@ -36,7 +36,7 @@ module _ {X : Type 0} (facts : X → LexemeFacts) (allows : Point X → List (Li
       → RepairRun facts allows k g table lexemes (table.start ∷ []) 0 (first ∷ later) consumed prods
       → GoWrongAt g (map (λ x. (facts x).token) lexemes) first.stop.place
 
-  -- the same over any table that is safe and viable
+  -- over any table that is safe and viable, the first error point doesn't come too late: the lexemes before it begin a sentence
   abbrev pub ViableFirstErrorsComeInTime : Type 0
   ViableFirstErrorsComeInTime =
       (k : ℕ) (g : Grammar) (graph : Graph) (table : Table) (lexemes : List X) (first : RepairStop) (later : List RepairStop)
@@ -45,7 +45,7 @@ module _ {X : Type 0} (facts : X → LexemeFacts) (allows : Point X → List (Li
       → RepairRun facts allows k g table lexemes (table.start ∷ []) 0 (first ∷ later) consumed prods
       → BeginSentence g (map (λ x. (facts x).token) (take first.stop.place lexemes))
 
-  -- and if it is complete, too
+  -- over a complete table that is safe and viable, the first error point is the place at which the lexemes go wrong
   abbrev pub ViableFirstErrorsAreExact : Type 0
   ViableFirstErrorsAreExact =
       (k : ℕ) (g : Grammar) (graph : Graph) (table : Table) (lexemes : List X) (first : RepairStop) (later : List RepairStop)

@@ -18,7 +18,7 @@ bare_table = with_bare_state (with_actions 0 ((0, ShiftTo 6) ∷ (1, ShiftTo 3) 
 abbrev pub stray_graph : Graph
 stray_graph = sum_graph ++ (item_at 2 0 2 ∷ []) ∷ []
 
--- its table, with the goto by T that this item calls for: to state 6 itself
+-- the small table with the goto by T that the stray item calls for: from state 6 to itself
 abbrev pub stray_table : Table
 stray_table = record bare_table { gotos = sum_table.gotos ++ ((2, 6) ∷ []) ∷ [] }
 

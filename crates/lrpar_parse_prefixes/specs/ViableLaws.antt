@@ -49,7 +49,8 @@ OverBuiltTables X Holds =
     (token : X → ℕ) (g : Grammar) (graph : Graph) (table : Table) → IsWellFormed g → IsClosed table → IsBuilt g graph table
     → EachReachableHasTree g → Holds token g table
 
--- the same over each such table that is complete
+-- of each way to give lexemes of type X tokens, this holds over each complete table that was built of a grammar in which each reachable
+-- rule is productive
 abbrev pub OverCompleteBuiltTables : (X : Type 0) → ((X → ℕ) → Grammar → Table → Type 0) → Type 0
 OverCompleteBuiltTables X Holds =
     (token : X → ℕ) (g : Grammar) (graph : Graph) (table : Table) → IsWellFormed g → IsClosed table → IsBuilt g graph table
@@ -60,17 +61,19 @@ OverCompleteBuiltTables X Holds =
 abbrev pub BuiltTablesKeepToSentences : Type 0 → Type 0
 BuiltTablesKeepToSentences X = OverBuiltTables X (λ token g table. KeepsToSentences token g table)
 
--- and if the table is complete, they have it in full
+-- over lexemes of type X, runs of a complete table that was built of a grammar have the viable prefix property in full, if each reachable
+-- rule is productive
 abbrev pub CompleteBuiltTablesFollowSentences : Type 0 → Type 0
 CompleteBuiltTablesFollowSentences X = OverCompleteBuiltTables X (λ token g table. FollowsSentences token g table)
 
--- the same over any table that is safe and viable: its lookaheads don't count, so its item sets may be merged
+-- over lexemes of type X, runs of any table that is safe and viable have the viable prefix property: its lookaheads don't count, so its
+-- item sets may be merged
 abbrev pub ViableTablesKeepToSentences : Type 0 → Type 0
 ViableTablesKeepToSentences X =
     (token : X → ℕ) (g : Grammar) (graph : Graph) (table : Table) → IsWellFormed g → IsClosed table → IsSafe g graph table
     → IsViable g graph table → EachReachableHasTree g → KeepsToSentences token g table
 
--- and if it is complete, too
+-- over lexemes of type X, runs of a complete table that is safe and viable have the viable prefix property in full
 abbrev pub CompleteViableTablesFollowSentences : Type 0 → Type 0
 CompleteViableTablesFollowSentences X =
     (token : X → ℕ) (g : Grammar) (graph : Graph) (table : Table) → IsWellFormed g → IsClosed table → IsSafe g graph table
@@ -80,7 +83,7 @@ CompleteViableTablesFollowSentences X =
 abbrev pub BuiltTablesAreViable : Type 0
 BuiltTablesAreViable = (g : Grammar) (graph : Graph) (table : Table) → IsBuilt g graph table → IsViable g graph table
 
--- and so is one whose conflicts precedences resolve
+-- a table that was built of a grammar, with conflicts that precedences resolve, is viable
 abbrev pub TablesByPrecedenceAreViable : Type 0
 TablesByPrecedenceAreViable =
     (g : Grammar) (precedences : PrecedenceLists) (graph : Graph) (table : Table) → IsBuiltBy g precedences graph table → IsViable g graph table

@@ -38,7 +38,7 @@ pub fn complete_built_tables_follow_sentences<LexemeT>()
     ensures facts_follow { CompleteBuiltTablesFollowSentences LexemeFacts }
 {}
 
-/// The same for the first error of a parse, whatever its recoverer, over a table that was built of a grammar in which each
+/// The first error of a parse is where the text goes wrong, whatever its recoverer, over a table that was built of a grammar in which each
 /// reachable rule is productive. A sentence begins with the lexemes before the first error point of a run with repairs; and if
 /// the table is complete, that is the first lexeme with which no sentence begins, or the end.
 pub fn first_errors_are_where_texts_go_wrong<
@@ -76,7 +76,7 @@ pub fn complete_viable_tables_follow_sentences<LexemeT>()
     ensures facts_follow { CompleteViableTablesFollowSentences LexemeFacts }
 {}
 
-/// The same for the first error of a parse, whatever its recoverer, over any table that is safe and viable: merged, built by
+/// The first error of a parse is where the text goes wrong, whatever its recoverer, over any table that is safe and viable: merged, built by
 /// precedences, or of another tool. A sentence begins with the lexemes before the first error point of a run with repairs; and if
 /// the table is complete, that is the first lexeme with which no sentence begins, or the end.
 pub fn viable_first_errors_are_where_texts_go_wrong<
@@ -123,7 +123,7 @@ pub fn complete_actions_follow_sentences<LexemeT>()
     ensures facts_follow { CompleteBuiltActionsFollowSentences LexemeFacts }
 {}
 
-/// The same for each error of a parse, the later ones, too, whatever its recoverer: the state of an error has an action only at
+/// Each error of a parse, the later ones, too, expects what can follow, whatever its recoverer: the state of an error has an action only at
 /// tokens that can come after the lexemes before it, as repaired so far; and at exactly these, if the table is complete and no
 /// lexeme has the end token, as in the parse calls. `ParseError::expected` returns these tokens.
 pub fn errors_expect_what_can_follow<

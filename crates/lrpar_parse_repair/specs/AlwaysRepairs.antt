@@ -29,6 +29,7 @@ module _ {X : Type 0} (token : X → ℕ) where
   abbrev pub MayFail : (Asked X → List (List PlainStep) → Type 0) → Asked X → Type 0
   MayFail allows at = (answer : List (List PlainStep)) × allows at answer × ¬ (SomeWorks at answer)
 
-  -- the answer is one of the first recoverer, and some sequence of it works; or the first may fail, and it is one of the second
+  -- the answer is one of the first recoverer, and some sequence in it works; or the first recoverer may fail, and the answer is one of the
+  -- second
   abbrev pub FirstOrSecond : (Asked X → List (List PlainStep) → Type 0) → (Asked X → List (List PlainStep) → Type 0) → Asked X → List (List PlainStep) → Type 0
   FirstOrSecond first second at answer = (first at answer × SomeWorks at answer) ⊎ (MayFail first at × second at answer)

@@ -34,7 +34,7 @@ SuitsAll {Y = Y} suits engine = (any : Y) → suits engine.checked.now.grammar e
 abbrev pub HasStates : {S X : Type 0} → Engine S X → List ℕ → Type 0
 HasStates engine st = IsStack engine.checked.now.table st
 
--- so are these
+-- the states, as they are stored, are a stack of the table
 abbrev pub HasStack : {S X : Type 0} → (S → ℕ) → Engine S X → List (StIdx S) → Type 0
 HasStack index engine stack = IsStack engine.checked.now.table (states_of index stack)
 

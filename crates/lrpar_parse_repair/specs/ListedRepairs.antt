@@ -21,6 +21,6 @@ module _ {S X : Type 0} (index : S → ℕ) (left : List X) where
   abbrev pub EndAt : RepairStep S → Type 0
   EndAt step = (steps : List PlainStep) → repairs_over left (plain_step index step ∷ steps) ≡ []
 
-  -- they begin with the step's repair, and go on over the lexemes that are then left
+  -- the repairs begin with the step's repair, and go on over the lexemes that are then left
   abbrev pub BeginBy : RepairStep S → ParseRepair X S × Bor (List X) → Type 0
   BeginBy step = λ next. (steps : List PlainStep) → repairs_over left (plain_step index step ∷ steps) ≡ repair_of index next.0 ∷ repairs_over next.1.now steps

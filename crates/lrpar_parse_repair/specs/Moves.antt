@@ -15,7 +15,7 @@ pub record StackShifts {X : Type 0} (states : X → List ℕ) (shifts : X → X 
   pub pushed : states new ≡ states old ++ next ∷ []
   pub of_rest : shifts old new
 
--- reductions and shifts, each at some token, make one stack of another; and so many of them are reductions
+-- reductions and shifts, each at some token, make one stack of another; `count` of them are reductions
 pub data IsMovedBy {X : Type 0} (states : X → List ℕ) (reduces : X → ℕ → ℕ → ℕ → X → Type 0) (shifts : X → X → Type 0) (g : Grammar) (table : Table) : ℕ → X → X → Type 0 where
   -- none is made
   stays : (x : X) → IsMovedBy states reduces shifts g table zero x x

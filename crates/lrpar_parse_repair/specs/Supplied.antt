@@ -36,7 +36,7 @@ module _ {S X : Type 0} (index : S → ℕ) (parts : X → LexemeParts S) where
     RepairsWithFirst together =
         (both : TwoRecoverers A B) (d : Checked) → AlwaysRepairs (token_by index parts) (first both.first) d → AlwaysRepairs (token_by index parts) (together both) d
 
-  -- the same for the second
+  -- if the second of two recoverers always repairs over a checked table, both together do
   abbrev pub RepairsWithSecond : {A B : Type 0} → (B → Asked X → List (List PlainStep) → Type 0) → (TwoRecoverers A B → Asked X → List (List PlainStep) → Type 0) → Type 0
   RepairsWithSecond {A} {B} second together =
       (both : TwoRecoverers A B) (d : Checked) → AlwaysRepairs (token_by index parts) (second both.second) d → AlwaysRepairs (token_by index parts) (together both) d

@@ -59,11 +59,11 @@ impl<'a, StorageT: StorageIndex, LexemeT: Lexeme<StorageT>> Engine<'a, StorageT,
         ensures listed { IfOk result (ListsWorking StorageT.index LexemeT.parts self.now (states_of StorageT.index stack.now) place answer) }
     {
         let mut states = Overlay::new(alloc, stack);
-        self.tested(alloc, &mut states, place, answer)
+        self.retain_working(alloc, &mut states, place, answer)
     }
 
     // The sequences of the answer that work from the borrowed states at the place. Each is tested once.
-    fn tested(
+    fn retain_working(
         &self,
         alloc: Global,
         states: &mut Overlay<'_, StorageT>,
@@ -166,7 +166,7 @@ impl<'a, StorageT: StorageIndex, LexemeT: Lexeme<StorageT>> Engine<'a, StorageT,
     {
         let mut at = place;
         for step in steps {
-            match self.take(stack, at, *step)? {
+            match self.try_step(stack, at, *step)? {
                 None => return Ok(false),
                 Some(next) => at = next,
             }
@@ -192,7 +192,7 @@ impl<'a, StorageT: StorageIndex, LexemeT: Lexeme<StorageT>> Engine<'a, StorageT,
         let mut at = place;
         'lexemes: for _ in 0..self.shifts {
             if at == self.lexemes.len() {
-                return self.accepts(stack);
+                return self.try_accept(stack);
             }
             match self.shift(stack, at)? {
                 None => return Ok(false),
@@ -203,7 +203,7 @@ impl<'a, StorageT: StorageIndex, LexemeT: Lexeme<StorageT>> Engine<'a, StorageT,
     }
 
     /// Takes the step from the stack at the place. Returns the place after it; `None`, if it can't be taken. `Err`: out of memory.
-    pub fn take<S: ShiftStack<StorageT>>(
+    pub fn try_step<S: ShiftStack<StorageT>>(
         &self,
         stack: &mut S,
         place: usize,
@@ -285,12 +285,12 @@ impl<'a, StorageT: StorageIndex, LexemeT: Lexeme<StorageT>> Engine<'a, StorageT,
         ensures moved { OnOk result (IsMovedFor self.now S.states S.reduces S.shifts 1 stack.old stack.new) }
     {
         // A checked table has the grammar's tokens.
-        let _table = self.checked.stable();
+        let _lemma = self.checked.stable();
         self.checked.feed_on(stack, token)
     }
 
     /// Makes all reductions at the end token, and returns whether the stack then accepts. `Err`: out of memory.
-    pub fn accepts<S: ShiftStack<StorageT>>(&self, stack: &mut S) -> Result<bool, AllocError>
+    pub fn try_accept<S: ShiftStack<StorageT>>(&self, stack: &mut S) -> Result<bool, AllocError>
         requires suits { SuitsAll S.suits self.now }
         requires stack { HasStates self.now (S.states stack.old) }
         ensures accepts { IfOk result (TellsAccepts self.now (S.states stack.old)) }

@@ -3,7 +3,7 @@ ghost use Rattle.std.specs.Prelude.{◌≡◌, [], List, IfOk, IsOk};
 ghost use Rattle.lrpar_table_stacks.specs.Stack.{states_of};
 ghost use Rattle.lrpar_parse_repair.specs.Sequences.{PlainStep};
 ghost use Rattle.lrpar_parse_repair.specs.AlwaysRepairs.{in_turn};
-ghost use Rattle.lrpar_parse_repair.specs.Asked.{Asked, Stops, StopsAt, asked_of};
+ghost use Rattle.lrpar_parse_repair.specs.Asked.{Asked, IsErrorPoint, StopsAt, asked_of};
 ghost use Rattle.lrpar_parse_repair.specs.Supplied.{HasSequences, IsAllowed, Supplies};
 
 use crate::or::Or;
@@ -76,7 +76,7 @@ impl<'a, StorageT: StorageIndex, LexemeT: Lexeme<StorageT>> RecoveryPoint<'a, St
     /// The grammar with its checked table.
     pub fn data(&self) -> &'a ParserData<StorageT>
         ensures data { result.now ≡ self.now.checked }
-        ensures stop { Stops StorageT.index LexemeT.parts self.now }
+        ensures stop { IsErrorPoint StorageT.index LexemeT.parts self.now }
     {
         self.data
     }
@@ -84,7 +84,7 @@ impl<'a, StorageT: StorageIndex, LexemeT: Lexeme<StorageT>> RecoveryPoint<'a, St
     /// How many lexemes must follow a repair: at least one.
     pub fn shifts(&self) -> usize
         ensures shifts { result ≡ self.now.shifts }
-        ensures stop { Stops StorageT.index LexemeT.parts self.now }
+        ensures stop { IsErrorPoint StorageT.index LexemeT.parts self.now }
     {
         self.shifts
     }
@@ -92,7 +92,7 @@ impl<'a, StorageT: StorageIndex, LexemeT: Lexeme<StorageT>> RecoveryPoint<'a, St
     /// All lexemes of the parse, also those before the error. Each has a token of the grammar other than the end token.
     pub fn lexemes(&self) -> &'a [LexemeT]
         ensures lexemes { result.now ≡ self.now.lexemes }
-        ensures stop { Stops StorageT.index LexemeT.parts self.now }
+        ensures stop { IsErrorPoint StorageT.index LexemeT.parts self.now }
     {
         self.lexemes
     }
@@ -100,7 +100,7 @@ impl<'a, StorageT: StorageIndex, LexemeT: Lexeme<StorageT>> RecoveryPoint<'a, St
     /// The place of the lexeme that has no action, counted from 0. At the end of the input it is the number of lexemes.
     pub fn place(&self) -> usize
         ensures place { result ≡ self.now.place }
-        ensures stop { Stops StorageT.index LexemeT.parts self.now }
+        ensures stop { IsErrorPoint StorageT.index LexemeT.parts self.now }
     {
         self.place
     }
@@ -109,7 +109,7 @@ impl<'a, StorageT: StorageIndex, LexemeT: Lexeme<StorageT>> RecoveryPoint<'a, St
     /// They are a stack of the table, and the state on top has no action at that token.
     pub fn stack(&self) -> &'a [StIdx<StorageT>]
         ensures stack { states_of StorageT.index result.now ≡ self.now.stack }
-        ensures stop { Stops StorageT.index LexemeT.parts self.now }
+        ensures stop { IsErrorPoint StorageT.index LexemeT.parts self.now }
     {
         self.stack
     }

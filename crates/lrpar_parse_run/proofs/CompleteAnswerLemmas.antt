@@ -6,7 +6,7 @@ use Rattle.lrpar_grammar.specs.Tree.{Tree, productions}
 use Rattle.lrpar_table_stacks.specs.Chain.{most_productions}
 use Rattle.lrpar_table_check.specs.Checked.{Checked, IsChecked}
 use Rattle.lrpar_table_conditions.specs.Complete.{IsComplete}
-use Rattle.lrpar_table_check.specs.CompleteRuns.{BeginsNoSentence, RunsTo, TakesSentences}
+use Rattle.lrpar_table_check.specs.CompleteRuns.{BeginsNoSentence, RunsTo, AcceptsExactlySentences}
 use Rattle.lrpar_table_stacks.specs.Run.{Accepted, Far, Stop, Stopped}
 use Rattle.lrpar_table_stacks.proofs.RunLemmas.{runs_one_way}
 use Rattle.lrpar_table_check.proofs.SentenceLemmas.{complete_tables_take_sentences}
@@ -55,7 +55,7 @@ module _ {X : Type 0} (facts : X → LexemeFacts) (allows : Point X → List (Li
   begins _ _ _ _ _ (is_repaired st i ps stop listing listed made after j recovered more consumed rest far is replays consumes run) =
       inr (record { first = record { stop = stop; listed = listing ∷ listed }; later = more; are = refl; prods = ps; far = far })
 
-  module _ {F : Type 0} (takes : TakesSentences token d.grammar d.table) (runs : List RepairStop) (consumed : Option (List X)) (prods : List ℕ) (errors : List F)
+  module _ {F : Type 0} (takes : AcceptsExactlySentences token d.grammar d.table) (runs : List RepairStop) (consumed : Option (List X)) (prods : List ℕ) (errors : List F)
       (to : runs ≡ [] → errors ≡ []) (back : errors ≡ [] → runs ≡ []) where
     -- any two trees over the lexemes are equal
     one_tree : (tree other : Tree X) → IsTreeOver token d.grammar lexemes tree → IsTreeOver token d.grammar lexemes other → tree ≡ other
@@ -118,7 +118,7 @@ module _ {X : Type 0} (facts : X → LexemeFacts) (allows : Point X → List (Li
       → MatchOption consumed (Unit {0}) (λ xs. length prods ≤ most_productions d.cap (length xs) (length runs))
       → IsChecked d → IsComplete d.grammar d.graph d.table → TakesSentence token d lexemes runs consumed prods errors
   takes_sentence runs consumed prods errors run to back bound checked complete =
-      let takes : TakesSentences token d.grammar d.table =
+      let takes : AcceptsExactlySentences token d.grammar d.table =
       complete_tables_take_sentences token d.grammar d.graph d.table checked.well_formed checked.closed checked.safe complete in
       elim (begins (d.table.start ∷ []) 0 runs consumed prods run) as (λ _. TakesSentence token d lexemes runs consumed prods errors) [
         | inl clean ↦

@@ -19,7 +19,8 @@ use Rattle.lrpar_parse_run.specs.RunStack.{Stacked}
 abbrev pub StartsRise : List LexemeFacts → Type 0
 StartsRise lexemes = (i : ℕ) → i < length lexemes → start_at lexemes i ≤ start_at lexemes (i + 1)
 
--- so do those of the code; `index` gives the number of a value of the storage type, and `parts` the parts of a lexeme
+-- the starts of the stored lexemes don't decrease; `index` gives the number of a value of the storage type, and `parts` the parts of a
+-- lexeme
 abbrev pub RiseIn : {S X : Type 0} → (S → ℕ) → (X → LexemeParts S) → List X → Type 0
 RiseIn index parts lexemes = StartsRise (known index parts lexemes)
 

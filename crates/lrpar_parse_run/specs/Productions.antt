@@ -8,15 +8,15 @@ use Rattle.lrpar_parse_run.specs.Reducing.{CanReduce, IsNode}
 use Rattle.lrpar_parse_trees.specs.declared.node.Node.{Node}
 
 module _ {S : Type 0} (index : S → ℕ) (g : Grammar) (prod : PIdx S) where
-  -- it isn't the start production
-  abbrev pub IsListed : Type 0
-  IsListed = index prod.0 < start_prod g
+  -- the production isn't the start production
+  abbrev pub IsNotStart : Type 0
+  IsNotStart = index prod.0 < start_prod g
 
-  -- the builder can make an entry of it of the n top entries
+  -- the builder can make an entry of the production from the n top entries
   abbrev pub CanReduceBy : {X E : Type 0} → Building X E → ℕ → List E → Type 0
   CanReduceBy builds n entries = CanReduce builds g (index prod.0) n entries
 
-  -- the entry is one of its nodes over the n top entries
+  -- the entry is one of a node of the production over the n top entries
   abbrev pub IsNodeBy : {X E : Type 0} → Building X E → ℕ → List E → E → Type 0
   IsNodeBy builds n entries entry = IsNode builds g (index prod.0) n entries entry
 

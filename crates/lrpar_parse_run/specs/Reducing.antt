@@ -21,7 +21,7 @@ pub record KeepsRest {B E : Type 0} (old new : Built B E) : Type 0 where
   pub build : new.build ≡ old.build
   pub lender : new.lender ≡ old.lender
 
--- The builder can make an entry of production p of the n top entries: it can build for the grammar; the production isn't the start
+-- The builder can make an entry of production p from the n top entries: it can build for the grammar; the production isn't the start
 -- production; the entries are those of its n symbols, and suit them; and all entries are in order.
 pub record CanReduce {X E : Type 0} (builds : Building X E) (g : Grammar) (p n : ℕ) (entries : List E) : Type 0 where
   pub can : builds.can_build g
@@ -35,7 +35,7 @@ pub record CanReduce {X E : Type 0} (builds : Building X E) (g : Grammar) (p n :
 abbrev pub IsNode : {X E : Type 0} → Building X E → Grammar → ℕ → ℕ → List E → E → Type 0
 IsNode builds g p n entries entry = builds.node g p (last_or None (below_top n entries)) (on_top n entries) entry
 
--- the n top entries are replaced by one of production p, of rule r, that is built of them
+-- the n top entries are replaced by an entry of production p, of rule r, which is built from them
 pub record IsBuiltOf {X E : Type 0} (builds : Building X E) (g : Grammar) (p r n : ℕ) (old new : List E) : Type 0 where
   pub entry : E
   pub made : IsNode builds g p n old entry
@@ -46,7 +46,7 @@ pub record IsBuiltOf {X E : Type 0} (builds : Building X E) (g : Grammar) (p r n
 abbrev pub reduced_by : {S : Type 0} → (S → ℕ) → Reduction S → List ℕ → List ℕ
 reduced_by index by states = below_top by.symbols states ++ index by.next.0 ∷ []
 
--- the entries are replaced by that of the reduction, which is built of them
+-- the top entries are replaced by the entry of the reduction, which is built from them
 abbrev pub IsReducedBy : {S X E : Type 0} → (S → ℕ) → Building X E → Grammar → Reduction S → List E → List E → Type 0
 IsReducedBy index builds g by old new = IsBuiltOf builds g (index by.prod.0) (rule_of g (index by.prod.0)) by.symbols old new
 
@@ -66,7 +66,7 @@ module _ {B X E : Type 0} (builds : B → Building X E) where
     pub run_stack : IsRunStack (builds s.build).suits table s.stack
     pub rising : (start : ℕ) × (builds s.build).rises s.stack.entries start
 
-  -- an entry of production p, of rule r with n symbols, can be built of the top entries
+  -- an entry of production p, of rule r with n symbols, can be built from the top entries
   pub record CanBuild (s : Built B E) (p r n : ℕ) : Type 0 where
     pub rule : r ≡ rule_of s.grammar p
     pub of_top : CanReduce (builds s.build) s.grammar p n s.stack.entries

@@ -30,7 +30,7 @@ module _ {E : Type 0} (suits : GrammarSymbol → E → Type 0) (g : Grammar) (ta
   kept_suit : AllZip suits along.below (kept_by g p stack.entries)
   kept_suit = subst (λ (n : ℕ). AllZip suits along.below (take n stack.entries)) below_are (zip_take suits along.below (symbols_of g p) stack.entries suit_split)
 
-  -- and those that are popped suit the production's symbols
+  -- the entries that are popped suit the production's symbols
   popped_suit : AllZip suits (symbols_of g p) (popped_by g p stack.entries)
   popped_suit = subst (λ (n : ℕ). AllZip suits (symbols_of g p) (drop n stack.entries)) below_are (zip_drop suits along.below (symbols_of g p) stack.entries suit_split)
 
@@ -57,7 +57,7 @@ module _ {B X E : Type 0} (builds : B → Building X E) (g : Grammar) (table : T
       }
 
   module _ (start : X → ℕ) (keeps : (b : B) (h : Grammar) → KeepsRising start (builds b).leaf ((builds b).node h) (builds b).rises) where
-    -- and it leaves stacks of a run, with their entries in order
+    -- a reduction leaves stacks of a run, with their entries in order
     pub builds_suit : (old : Built B E) (p : ℕ) (new : Built B E) → SuitsRun builds g table old
         → Reduces g table t old.stack.states p new.stack.states → Builds builds old p (rule_of g p) (prod_len g p) new → SuitsRun builds g table new
     builds_suit old p new is of_states by =

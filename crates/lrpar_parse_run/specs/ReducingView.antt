@@ -11,7 +11,7 @@ built s = record { grammar = s.grm.now; build = s.build.now; stack = s.stack.now
 
 -- `index` gives the number of a value of the storage type, and `builds` says what a builder builds
 module _ {S X B E : Type 0} (index : S → ℕ) (builds : B → Building X E) where
-  -- the entry of the reduction can be built of the top entries
+  -- the entry of the reduction can be built from the top entries
   abbrev pub CanBuildBy : Reducing S X B E → Reduction S → Type 0
   CanBuildBy s by = CanBuild builds (built s) (index by.prod.0) (index by.rule.0) by.symbols
 

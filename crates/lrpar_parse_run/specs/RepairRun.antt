@@ -33,14 +33,14 @@ module _ {X : Type 0} (facts : X → LexemeFacts) (allows : Point X → List (Li
   -- A run from the stack at place i: its error points, with what is listed there; the lexemes that it consumes, if it accepts; and its
   -- reductions.
   pub data RepairRun : List ℕ → ℕ → List RepairStop → Option (List X) → List ℕ → Type 0 where
-    -- it accepts, and consumes the lexemes from place i on
+    -- the run accepts, and consumes the lexemes from place i on
     runs_through : (st : List ℕ) (i : ℕ) (prods : List ℕ) → Far (λ x. (facts x).token) g table lexemes st i prods Accepted
         → RepairRun st i [] (Some (drop i lexemes)) prods
-    -- it has an error point, at which no sequence is listed, and ends there
+    -- the run has an error point, at which no sequence is listed, and ends there
     ends_there : (st : List ℕ) (i : ℕ) (prods : List ℕ) (stop : Stop) → Far (λ x. (facts x).token) g table lexemes st i prods (Stopped stop)
         → IsListedAt stop [] → RepairRun st i (record { stop = stop; listed = [] } ∷ []) None prods
-    -- it has an error point, the first listed sequence is replayed, and the run goes on from the result: it consumes the lexemes before
-    -- the error point, what the sequence consumes, and what is consumed from there on
+    -- the run has an error point, the first listed sequence is replayed, and the run goes on from the result: it consumes the lexemes
+    -- before the error point, what the sequence consumes, and what is consumed from there on
     is_repaired : (st : List ℕ) (i : ℕ) (prods : List ℕ) (stop : Stop) (first : List PlainStep) (listed : List (List PlainStep))
         (made after : List ℕ) (j : ℕ) (recovered : List X) (stops : List RepairStop) (consumed : Option (List X)) (rest : List ℕ)
         → Far (λ x. (facts x).token) g table lexemes st i prods (Stopped stop) → IsListedAt stop (first ∷ listed)

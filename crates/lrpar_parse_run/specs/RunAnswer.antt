@@ -13,7 +13,7 @@ use Rattle.lrpar_parse_errors.specs.declared.errors.LexParseError.TheVariants.{P
 abbrev pub IsLexemeAt : {X : Type 0} → (X → LexemeFacts) → Grammar → List X → ℕ → X → Type 0
 IsLexemeAt facts g lexemes i x = MatchOption (slice_get lexemes i) (facts x ≡ lexeme_past (end_token g) (map facts lexemes)) (λ y. x ≡ y)
 
--- no error, and the run accepts; or one parse error, and it doesn't
+-- the run accepts without an error; or it doesn't accept, and there is one parse error
 abbrev pub IsOneWay : {S L B C Y : Type 0} → Option Y → List (LexParseError S L B C) → Type 0
 IsOneWay {B = B} consumed errors =
     (IsSome consumed × (errors ≡ [])) ⊎ ((consumed ≡ None) × ((failure : Failure B) × (errors ≡ ParseError failure ∷ [])))

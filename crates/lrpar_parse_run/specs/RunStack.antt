@@ -20,7 +20,7 @@ pub record Stacked (E : Type 0) : Type 0 where
 abbrev pub begun : {E : Type 0} → ℕ → Stacked E
 begun state = record { states = state ∷ []; entries = [] }
 
--- The same by a state of the code. `index` gives the number of a value of the storage type.
+-- the stacks have this state, as it is stored, and no entry; `index` gives the number of a value of the storage type
 abbrev pub HasBegun : {S E : Type 0} → (S → ℕ) → StIdx S → Stacked E → Type 0
 HasBegun index state stacks = stacks ≡ begun (index state.0)
 
@@ -45,7 +45,7 @@ pub record IsPushed {S E : Type 0} (index : S → ℕ) (state : StIdx S) (entry 
 abbrev pub on_top : {E : Type 0} → ℕ → List E → List E
 on_top n stack = drop (length stack - n) stack
 
--- the elements below them
+-- the elements below the n on top of a stack
 abbrev pub below_top : {E : Type 0} → ℕ → List E → List E
 below_top n stack = take (length stack - n) stack
 
@@ -53,7 +53,7 @@ below_top n stack = take (length stack - n) stack
 abbrev pub Pops : {E Z : Type 0} → ℕ → Vec E Z → Vec E Z → Type 0
 Pops n old new = new.items ≡ below_top n old.items
 
--- the n elements on top are turned round
+-- the n elements on top are reversed
 abbrev pub TurnsTop : {E Z : Type 0} → ℕ → Vec E Z → Vec E Z → Type 0
 TurnsTop n old new = new.items ≡ below_top n old.items ++ reverse (on_top n old.items)
 

@@ -22,7 +22,7 @@ use Rattle.lrpar_parse_run.specs.Subject.{Subject}
 use Rattle.lrpar_parse_run.specs.TreeAnswer.{IsTreeAnswer}
 use Rattle.lrpar_parse_run.specs.declared.whole_run.WholeRun.{WholeRun}
 
--- what it is about
+-- what the whole run is about
 abbrev pub subject : {S L B R X C : Type 0} → (S → ℕ) → (X → LexemeParts S) → (R → Asked X → List (List PlainStep) → Type 0) → WholeRun S L B R X C → Subject X
 subject index parts allows whole_run =
     record {
@@ -60,12 +60,12 @@ module _ {S L B R X C : Type 0} (index : S → ℕ) (parts : X → LexemeParts S
   abbrev pub ListsAt : {A Z : Type 0} → WholeRun S L B R X C → List ℕ → ℕ → Vec (Vec (RepairStep S) A) Z → Type 0
   ListsAt of st place listed = IsListedBy (subject index parts allows of) of.lexemes.now (stop_at st place) (plain_sequences index listed.items)
 
-  -- the error of such an error point, at which this is listed
+  -- the error of an error point with this stack at a place, at which these sequences are listed
   abbrev pub IsErrorAt : {A : Type 0} → WholeRun S L B R X C → List ℕ → ℕ → List (Vec (RepairStep S) A) → LexParseError S L X C → Type 0
   IsErrorAt of st place listed error =
       IsRepairErrorOf (subject index parts allows of) of.lexemes.now (record { stop = stop_at st place; listed = plain_sequences index listed }) error
 
-  -- the error of such an error point is added, at which this is listed
+  -- the error of an error point with this stack at a place, at which these sequences are listed, is added
   abbrev pub RecordsAt : {A Z : Type 0} → WholeRun S L B R X C → List ℕ → ℕ → List (LexParseError S L X C) → List (LexParseError S L X C) → Vec (Vec (RepairStep S) A) Z → Type 0
   RecordsAt of st place errors more listed =
       IsRecorded (subject index parts allows of) of.lexemes.now (stop_at st place) errors more (plain_sequences index listed.items)

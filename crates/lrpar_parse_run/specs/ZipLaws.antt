@@ -10,13 +10,13 @@ zip_push R [] (z ∷ ys) x y all last = absurd all
 zip_push R (w ∷ xs) [] x y all last = absurd all
 zip_push R (w ∷ xs) (z ∷ ys) x y all last = (all.0, zip_push R xs ys x y all.1 last)
 
--- it holds for the places before a cut
+-- a relation that holds place by place holds for the places before a cut
 pub zip_take : {A B : Type 0} (R : A → B → Type 0) (xs zs : List A) (ys : List B) → AllZip R (xs ++ zs) ys → AllZip R xs (take (length xs) ys)
 zip_take R [] zs ys all = tt
 zip_take R (x ∷ xs) zs [] all = absurd all
 zip_take R (x ∷ xs) zs (y ∷ ys) all = (all.0, zip_take R xs zs ys all.1)
 
--- and for those after it
+-- a relation that holds place by place holds for the places after a cut
 pub zip_drop : {A B : Type 0} (R : A → B → Type 0) (xs zs : List A) (ys : List B) → AllZip R (xs ++ zs) ys → AllZip R zs (drop (length xs) ys)
 zip_drop R [] zs ys all = all
 zip_drop R (x ∷ xs) zs [] all = absurd all

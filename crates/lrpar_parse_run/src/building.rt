@@ -21,13 +21,13 @@ pub trait Build<StorageT: StorageIndex, LexemeT: Lexeme<StorageT>> {
     ghost builds: { Self → Building LexemeT Self.Entry };
 
     /// The entry for a lexeme that is shifted.
-    fn shifted(&self, lexeme: LexemeT) -> Self::Entry
+    fn shift(&self, lexeme: LexemeT) -> Self::Entry
         ensures leaf { (builds self.now).leaf lexeme result }
         ensures suit { (builds self.now).suits (Terminal (StorageT.index (LexemeT.parts lexeme).token)) result };
 
     /// Takes the entries of the production's symbols off the list, the last `count` ones, and returns the entry of the
     /// production. After an `Err`, which means out of memory, some of the entries may be gone.
-    fn reduced(
+    fn reduce(
         &self,
         alloc: Global,
         grm: &YaccGrammar<StorageT>,

@@ -18,7 +18,7 @@ impl<'a, StorageT: StorageIndex, LexemeT: Lexeme<StorageT>, B: Build<StorageT, L
 > {
     /// Runs from the place as far as it can. Returns the place of the error point; `None`, if the run accepts. `Err`: out of
     /// memory.
-    pub fn far(
+    pub fn run_far(
         &self,
         alloc: Global,
         lexemes: &[LexemeT],
@@ -29,9 +29,9 @@ impl<'a, StorageT: StorageIndex, LexemeT: Lexeme<StorageT>, B: Build<StorageT, L
         ensures { IfOk result (HasGoneFar StorageT.index LexemeT.parts B.builds self.now lexemes.now stack.old place stack.new) }
     {
         // A checked table never sticks.
-        let _table = self.checked.stable();
+        let _lemma = self.checked.stable();
         for at in place..lexemes.len() {
-            if !self.take(alloc, stack, lexemes[at])? {
+            if !self.feed_lexeme(alloc, stack, lexemes[at])? {
                 return Ok(Some(at));
             }
         }

@@ -23,9 +23,9 @@ impl<StorageT: StorageIndex, LexemeT: Lexeme<StorageT>> Build<StorageT, LexemeT>
       rises = λ es n. Unit {0};
     } };
 
-    fn shifted(&self, _lexeme: LexemeT) {}
+    fn shift(&self, _lexeme: LexemeT) {}
 
-    fn reduced(
+    fn reduce(
         &self,
         _alloc: Global,
         _grm: &YaccGrammar<StorageT>,

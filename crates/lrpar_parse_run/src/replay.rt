@@ -80,8 +80,8 @@ impl<'a, StorageT: StorageIndex, LexemeT: Lexeme<StorageT>, B: Build<StorageT, L
         ensures { OnOk result (IsFed StorageT.index LexemeT.parts B.builds self.now lexeme stack.old stack.new) }
     {
         // A checked table has the grammar's tokens.
-        let _table = self.checked.stable();
-        if !self.take(alloc, stack, lexeme)? {
+        let _lemma = self.checked.stable();
+        if !self.feed_lexeme(alloc, stack, lexeme)? {
             unreachable!()
         }
         Ok(())

@@ -40,7 +40,7 @@ impl<'a, StorageT: StorageIndex, LexemeT: Lexeme<StorageT>, B: Build<StorageT, L
 
     /// Makes all reductions at the lexeme's token, and shifts the lexeme if the table then has a shift. Returns whether it did.
     /// `Err`: out of memory.
-    pub fn take(
+    pub fn feed_lexeme(
         &self,
         alloc: Global,
         stack: &mut Stack<StorageT, B::Entry>,
@@ -53,7 +53,7 @@ impl<'a, StorageT: StorageIndex, LexemeT: Lexeme<StorageT>, B: Build<StorageT, L
     {
         match self.settle(alloc, stack, TIdx(lexeme.tok_id()))? {
             Action::Shift(state) => {
-                stack.push(state, self.build.shifted(lexeme))?;
+                stack.push(state, self.build.shift(lexeme))?;
                 Ok(true)
             }
             Action::Error => Ok(false),
@@ -74,7 +74,7 @@ impl<'a, StorageT: StorageIndex, LexemeT: Lexeme<StorageT>, B: Build<StorageT, L
     {
         let stable = self.checked.stable();
         // The table has entries for these numbers of tokens and rules only, so that a path is a stack.
-        let (_tokens, _rules) = (stable.tokens_len(), stable.rules_len());
+        let (_lemma, _second_lemma) = (stable.tokens_len(), stable.rules_len());
         let mut reducing = Reducing::new(alloc, self.checked.grm(), self.build, stack);
         Ok(self.checked.settle_on(&mut reducing, token)?.action)
     }

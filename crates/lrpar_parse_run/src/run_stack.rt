@@ -96,7 +96,7 @@ impl<StorageT: StorageIndex, E: Drop> Stack<StorageT, E> {
         ensures entries { OnOk result (IsReducedBy StorageT.index (B.builds build.now) grm.now by self.old.entries self.new.entries) }
         ensures unchanged { OnErr result (KeepsStates self.old self.new) }
     {
-        let entry = build.reduced(alloc, grm, &by.prod, by.symbols, &mut self.entries)?;
+        let entry = build.reduce(alloc, grm, &by.prod, by.symbols, &mut self.entries)?;
         self.entries.push(entry)?;
         self.states.reduce(by)
     }

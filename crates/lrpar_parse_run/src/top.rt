@@ -7,7 +7,7 @@ use std::alloc::{AllocError, Global};
 /// Pops the top `count` entries, and returns what the function makes of each, the lowest first. They are reversed in place, so
 /// that the returned list is the only one that takes memory. After an `Err`, which means out of memory, some of the entries may be
 /// gone.
-pub fn made_of_top<E: Drop, V: Drop, F: Fn(E) -> V>(
+pub fn pop_mapped<E: Drop, V: Drop, F: Fn(E) -> V>(
     alloc: Global,
     count: usize,
     entries: &mut Vec<E>,

@@ -2,7 +2,7 @@
 ghost use Rattle.std.specs.Prelude.{◌≤◌, IfOk, OnOk, length};
 ghost use Rattle.lrpar_grammar.specs.Grammar.{rule_of};
 ghost use Rattle.lrpar_parse_run.specs.Nodes.{IsNonterm, IsTerm};
-ghost use Rattle.lrpar_parse_run.specs.Productions.{IsListed, IsNontermBy};
+ghost use Rattle.lrpar_parse_run.specs.Productions.{IsNotStart, IsNontermBy};
 ghost use Rattle.lrpar_parse_run.specs.RunStack.{Pops, on_top};
 
 use crate::building::Build;
@@ -27,11 +27,11 @@ impl<StorageT: StorageIndex, LexemeT: Lexeme<StorageT>> Build<StorageT, LexemeT>
       rises = λ es n. Unit {0};
     } };
 
-    fn shifted(&self, lexeme: LexemeT) -> Node<LexemeT, StorageT> {
+    fn shift(&self, lexeme: LexemeT) -> Node<LexemeT, StorageT> {
         Node::Term { lexeme }
     }
 
-    fn reduced(
+    fn reduce(
         &self,
         _alloc: Global,
         grm: &YaccGrammar<StorageT>,
@@ -39,7 +39,7 @@ impl<StorageT: StorageIndex, LexemeT: Lexeme<StorageT>> Build<StorageT, LexemeT>
         count: usize,
         entries: &mut Vec<Node<LexemeT, StorageT>>,
     ) -> Result<Node<LexemeT, StorageT>, AllocError>
-        requires listed { IsListed StorageT.index grm.now pidx.now }
+        requires listed { IsNotStart StorageT.index grm.now pidx.now }
         requires deep { count ≤ length entries.old.items }
         ensures kept { OnOk result (Pops count entries.old entries.new) }
         ensures node { IfOk result (IsNontermBy StorageT.index grm.now pidx.now (on_top count entries.old.items)) }

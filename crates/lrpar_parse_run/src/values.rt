@@ -3,11 +3,11 @@ ghost use Rattle.std.specs.Prelude.{◌≤◌, IfOk, OnOk, length};
 ghost use Rattle.lrpar_grammar.specs.Grammar.{rule_of};
 ghost use Rattle.lrpar_parse_run.specs.Entries.{Gives, IsLexemeEntry, IsMadeEntry, SuitsSymbol};
 ghost use Rattle.lrpar_parse_run.specs.Made.{made_by};
-ghost use Rattle.lrpar_parse_run.specs.Productions.{IsListed, SuitsRule};
+ghost use Rattle.lrpar_parse_run.specs.Productions.{IsNotStart, SuitsRule};
 ghost use Rattle.lrpar_parse_run.specs.RunStack.{AreOfTop, Pops, on_top};
 
 use crate::building::Build;
-use crate::top::made_of_top;
+use crate::top::pop_mapped;
 use lrpar_grammar::grammar::YaccGrammar;
 use lrpar_grammar::span::{PIdx, RIdx, StorageIndex};
 use lrpar_parse_lexemes::lex_api::Lexeme;
@@ -49,11 +49,11 @@ impl<
       rises = λ es n. Unit {0};
     } };
 
-    fn shifted(&self, lexeme: LexemeT) -> Self::Entry {
+    fn shift(&self, lexeme: LexemeT) -> Self::Entry {
         AStackType::Lexeme(lexeme)
     }
 
-    fn reduced(
+    fn reduce(
         &self,
         alloc: Global,
         grm: &YaccGrammar<StorageT>,
@@ -62,14 +62,14 @@ impl<
         entries: &mut Vec<AStackType<LexemeT, V>>,
     ) -> Result<AStackType<LexemeT, V>, AllocError>
         requires can { F.IsAlwaysCallable self.now.fterm.now × G.IsAlwaysCallable self.now.fnonterm.now }
-        requires listed { IsListed StorageT.index grm.now pidx.now }
+        requires listed { IsNotStart StorageT.index grm.now pidx.now }
         requires deep { count ≤ length entries.old.items }
         ensures kept { OnOk result (Pops count entries.old entries.new) }
         ensures node { IfOk result (IsMadeEntry (F.post self.now.fterm.now) (made_by StorageT.index (G.post self.now.fnonterm.now))
             (rule_of grm.now (StorageT.index pidx.now.0)) (on_top count entries.old.items)) }
         ensures suit { IfOk result (SuitsRule StorageT.index grm.now pidx.now SuitsSymbol) }
     {
-        let values = values_of(alloc, self.fterm, count, entries)?;
+        let values = pop_values(alloc, self.fterm, count, entries)?;
         let ridx = grm.prod_to_rule(*pidx);
         let value = (self.fnonterm)(ridx, values);
         Ok(AStackType::ActionType(value))
@@ -79,7 +79,7 @@ impl<
 }
 
 // Pops the top `count` entries, and returns their values, the lowest first.
-fn values_of<LexemeT: Copy, V: Drop, F: Fn(LexemeT) -> V>(
+fn pop_values<LexemeT: Copy, V: Drop, F: Fn(LexemeT) -> V>(
     alloc: Global,
     fterm: &F,
     count: usize,
@@ -99,5 +99,5 @@ fn values_of<LexemeT: Copy, V: Drop, F: Fn(LexemeT) -> V>(
             AStackType::Lexeme(lexeme) => fterm(lexeme),
         }
     };
-    made_of_top(alloc, count, entries, &value_of)
+    pop_mapped(alloc, count, entries, &value_of)
 }

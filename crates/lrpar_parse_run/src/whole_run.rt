@@ -60,7 +60,7 @@ impl<
         let mut errors = Vec::new(alloc);
         let mut place = 0;
         'stops: loop {
-            let Some(stop) = self.run.far(alloc, self.lexemes, &mut stack, place)? else {
+            let Some(stop) = self.run.run_far(alloc, self.lexemes, &mut stack, place)? else {
                 return Ok((Some(stack.into_entry()), errors));
             };
             let Some(next) = self.resume(alloc, &mut stack, stop, &mut errors)? else {
@@ -85,8 +85,8 @@ impl<
     {
         // The table has entries for these numbers of tokens and rules only, so that a path is a stack.
         let stable = self.run.checked.stable();
-        let (_tokens, _rules) = (stable.tokens_len(), stable.rules_len());
-        let listed = self.recorded(alloc, stack, stop, errors)?;
+        let (_lemma, _second_lemma) = (stable.tokens_len(), stable.rules_len());
+        let listed = self.record_error(alloc, stack, stop, errors)?;
         let Some(first) = listed.first() else {
             return Ok(None);
         };
@@ -95,7 +95,7 @@ impl<
     }
 
     // Adds the error of the error point, and returns the sequences that it lists.
-    fn recorded(
+    fn record_error(
         &self,
         alloc: Global,
         stack: &Stack<StorageT, B::Entry>,
@@ -123,7 +123,7 @@ impl<
         ensures { IfOk result (ListsAt StorageT.index LexerTypesT.LexemeT.parts R.allows self.now stack.now.states place) }
     {
         // The table is a checked one.
-        let _table = self.run.checked.stable();
+        let _lemma = self.run.checked.stable();
         let states = stack.states();
         let point = RecoveryPoint::new(self.run.checked, self.shifts, self.lexemes, place, states);
         let answer = self.recoverer.recover(alloc, &point)?;
@@ -162,6 +162,6 @@ fn starts_rise<StorageT: StorageIndex, LexemeT: Lexeme<StorageT>>(
     ensures { RiseIn StorageT.index LexemeT.parts lexemes.now }
 {
     if let Some(last) = lexemes.last() {
-        let _start = last.span().start();
+        let _lemma = last.span().start();
     }
 }

@@ -9,7 +9,7 @@ use Rattle.lrpar_parse_trees.specs.declared.node.Node.{Node}
 use Rattle.lrpar_parse_trees.specs.declared.node.Node.TheOpen.{Node-F}
 use Rattle.lrpar_parse_trees.specs.declared.node.Node.TheViews.{out-Node}
 use Rattle.lrpar_parse_trees.specs.declared.node.Node.TheFolds.{fold_out-Node, map-Node}
-use Rattle.lrpar_parse_trees.specs.TreeText.{layer_nodes, nodes_below}
+use Rattle.lrpar_parse_trees.specs.Walks.{children, layer_children}
 use Rattle.lrpar_parse_trees.proofs.WriteLemmas.{appends_both}
 use Rattle.lrpar_parse_trees.specs.Graph.{Drawn, drawn, drawn_step, edge_line, graph_text}
 use Rattle.lrpar_parse_trees.specs.Lines.{layer_line, node_line, trees_lines}
@@ -37,23 +37,23 @@ module _ {X S : Type 0} (facts : X → LexemeFacts) (index : S → ℕ) (g : Gra
 
   layer_lines : (number : ℕ) (edge : List ℕ) (layer : Node-F X S (Node X S))
       → (drawn_step facts index g input (map-Node X S (Node X S) Drawn draw layer)).lines number edge
-      ≡ layer_line facts index g input number layer ++ edge ++ below number (number + 1) (layer_nodes layer)
+      ≡ layer_line facts index g input number layer ++ edge ++ below number (number + 1) (layer_children layer)
   layer_lines number edge (Node-F.Term x) = sym (append-nil _)
   layer_lines number edge (Node-F.Nonterm ridx nodes) = refl
 
   layer_count : (layer : Node-F X S (Node X S))
-      → (drawn_step facts index g input (map-Node X S (Node X S) Drawn draw layer)).nodes ≡ 1 + count (layer_nodes layer)
+      → (drawn_step facts index g input (map-Node X S (Node X S) Drawn draw layer)).nodes ≡ 1 + count (layer_children layer)
   layer_count (Node-F.Term x) = refl
   layer_count (Node-F.Nonterm ridx nodes) = refl
 
   -- the lines of a tree: its root's, that of the edge to it, and those below it
   pub lines_out : (number : ℕ) (edge : List ℕ) (node : Node X S)
-      → (draw node).lines number edge ≡ line number node ++ edge ++ below number (number + 1) (nodes_below node)
+      → (draw node).lines number edge ≡ line number node ++ edge ++ below number (number + 1) (children node)
   lines_out number edge node =
       ap (λ (d : Drawn). d.lines number edge) (fold_out-Node X S Drawn (drawn_step facts index g input) node)
       ∙ layer_lines number edge (out-Node X S node)
 
-  count_out : (node : Node X S) → (draw node).nodes ≡ 1 + count (nodes_below node)
+  count_out : (node : Node X S) → (draw node).nodes ≡ 1 + count (children node)
   count_out node =
       ap (λ (d : Drawn). d.nodes) (fold_out-Node X S Drawn (drawn_step facts index g input) node) ∙ layer_count (out-Node X S node)
 
@@ -90,16 +90,16 @@ module _ {X S : Type 0} (facts : X → LexemeFacts) (index : S → ℕ) (g : Gra
   -- the first of the current trees is entered, and the others are put aside
   pub left_enter : (parent next : ℕ) (above : List (ℕ × Bor (List (Node X S)))) (rest : Bor (List (Node X S))) (node : Node X S) (left : List (Node X S))
       → left ≡ node ∷ rest.now
-      → line next node ++ (edge_line parent next ++ left_lines next (next + 1) (above ++ (parent, rest) ∷ []) (nodes_below node))
+      → line next node ++ (edge_line parent next ++ left_lines next (next + 1) (above ++ (parent, rest) ∷ []) (children node))
       ≡ left_lines parent next above left
   left_enter parent next above rest node left is =
       let edge = edge_line parent next in
-      let inside = below next (next + 1) (nodes_below node) in
+      let inside = below next (next + 1) (children node) in
       let after : ℕ → List ℕ = λ n. below parent n rest.now ++ later above (n + count rest.now) in
-      let number : (next + 1) + count (nodes_below node) ≡ next + (draw node).nodes = omega (arith, count_out node) in
+      let number : (next + 1) + count (children node) ≡ next + (draw node).nodes = omega (arith, count_out node) in
       let whole : count (node ∷ rest.now) ≡ (draw node).nodes + count rest.now = sum_by-cons (λ (tree : Drawn). tree.nodes) (draw node) (map draw rest.now) in
       let sum : (next + (draw node).nodes) + count rest.now ≡ next + count (node ∷ rest.now) = omega arith in
-      ap (λ l. line next node ++ (edge ++ (inside ++ l))) (later_push above (parent, rest) ((next + 1) + count (nodes_below node)))
+      ap (λ l. line next node ++ (edge ++ (inside ++ l))) (later_push above (parent, rest) ((next + 1) + count (children node)))
       ∙ ap (λ n. line next node ++ (edge ++ (inside ++ after n))) number
       ∙ regroup (line next node) edge inside (below parent (next + (draw node).nodes) rest.now) (later above ((next + (draw node).nodes) + count rest.now))
       ∙ ap (λ l. (l ++ below parent (next + (draw node).nodes) rest.now) ++ later above ((next + (draw node).nodes) + count rest.now)) (sym (lines_out next edge node))
@@ -117,17 +117,17 @@ module _ {X S : Type 0} (facts : X → LexemeFacts) (index : S → ℕ) (g : Gra
   left_begins nodes = append-nil (below 0 1 nodes)
 
   -- the lines of a tree whose root has the number 0
-  pub root_lines : (tree : Node X S) → line 0 tree ++ below 0 1 (nodes_below tree) ≡ (draw tree).lines 0 []
-  root_lines tree = ap (λ l. l ++ below 0 1 (nodes_below tree)) (sym (append-nil (line 0 tree))) ∙ sym (lines_out 0 [] tree)
+  pub root_lines : (tree : Node X S) → line 0 tree ++ below 0 1 (children tree) ≡ (draw tree).lines 0 []
+  root_lines tree = ap (λ l. l ++ below 0 1 (children tree)) (sym (append-nil (line 0 tree))) ∙ sym (lines_out 0 [] tree)
 
   -- the text of a graph: its first line, that of the root, those of the trees below the root, and the last line
   pub graph_appends : (old first second third new : Option (List ℕ)) (tree : Node X S)
-      → Appends old first (codes "digraph tree {\n") → Appends first second (line 0 tree) → Appends second third (below 0 1 (nodes_below tree))
+      → Appends old first (codes "digraph tree {\n") → Appends first second (line 0 tree) → Appends second third (below 0 1 (children tree))
       → Appends third new (codes "}\n") → Appends old new (graph_text facts index g input tree)
   graph_appends old first second third new tree begun root trees ended =
       let head = codes "digraph tree {\n" in
       let end = codes "}\n" in
-      let inside = below 0 1 (nodes_below tree) in
+      let inside = below 0 1 (children tree) in
       subst (Appends old new) (joined head (line 0 tree) inside end ∙ ap (λ l. (head ++ l) ++ end) (root_lines tree))
       (appends_both old first new head (line 0 tree ++ (inside ++ end)) begun
       (appends_both first second new (line 0 tree) (inside ++ end) root
@@ -148,7 +148,7 @@ abbrev pub measure_left : {X S : Type 0} → List (ℕ × Bor (List (Node X S)))
 measure_left above left = left_measure (rests above) left
 
 pub enter_falls : {X S : Type 0} (parent : ℕ) (above : List (ℕ × Bor (List (Node X S)))) (rest : Bor (List (Node X S))) (node : Node X S) (left : List (Node X S))
-    → left ≡ node ∷ rest.now → measure_left (above ++ (parent, rest) ∷ []) (nodes_below node) < measure_left above left
+    → left ≡ node ∷ rest.now → measure_left (above ++ (parent, rest) ∷ []) (children node) < measure_left above left
 enter_falls parent above rest node left is = rw (rests_push above (parent, rest)) (enter_smaller (rests above) rest node left is)
 
 pub turn_falls : {X S : Type 0} (above : List (ℕ × Bor (List (Node X S)))) (aside : ℕ × Bor (List (Node X S)))

@@ -9,20 +9,12 @@ use Rattle.lrpar_parse_trees.specs.declared.node.Node.{Node}
 use Rattle.lrpar_parse_trees.specs.declared.node.Node.TheOpen.{Node-F}
 use Rattle.lrpar_parse_trees.specs.declared.node.Node.TheViews.{out-Node}
 use Rattle.lrpar_parse_trees.specs.declared.node.Node.TheFolds.{fold_out-Node, map-Node}
-use Rattle.lrpar_parse_trees.specs.TreeText.{layer_nodes, nodes_below}
-use Rattle.lrpar_parse_trees.proofs.WeightLemmas.{weight, weights, weight_step}
+use Rattle.lrpar_parse_trees.specs.Walks.{children, layer_children}
+use Rattle.lrpar_parse_trees.proofs.WeightLemmas.{weight, weight_out, weights}
 use Rattle.lrpar_parse_trees.proofs.WriteLemmas.{appends_both}
 use Rattle.lrpar_parse_trees.specs.Fronts.{front_text, is_rule, layer_front, layer_is_rule, trees_text}
 use Rattle.lrpar_parse_trees.specs.Nested.{end_of, gap, joined, nested_step, nested_text, rule_front}
 use Rattle.lrpar_parse_trees.specs.declared.form.Form.{Form}
-
--- one layer of a weight
-layer_weight : {X S : Type 0} (layer : Node-F X S (Node X S)) → weight_step (map-Node X S (Node X S) ℕ weight layer) ≡ 1 + weights (layer_nodes layer)
-layer_weight (Node-F.Term x) = refl
-layer_weight (Node-F.Nonterm ridx nodes) = refl
-
-pub weight_out : {X S : Type 0} (node : Node X S) → weight node ≡ 1 + weights (nodes_below node)
-weight_out {X = X} {S = S} node = fold_out-Node X S ℕ weight_step node ∙ layer_weight (out-Node X S node)
 
 -- how many nodes are in lists
 abbrev pub weights_of : {X S : Type 0} → List (Bor (List (Node X S))) → ℕ
@@ -52,17 +44,17 @@ module _ {X S : Type 0} (form : Form) (facts : X → LexemeFacts) (index : S →
 
   layer_text : (layer : Node-F X S (Node X S))
       → nested_step form facts index g input (map-Node X S (Node X S) (List ℕ) text layer)
-      ≡ layer_front form facts index g input layer ++ further (layer_is_rule layer) (layer_nodes layer)
+      ≡ layer_front form facts index g input layer ++ further (layer_is_rule layer) (layer_children layer)
   layer_text (Node-F.Term x) = sym (append-nil _)
   layer_text (Node-F.Nonterm ridx nodes) = append_assoc (rule_front form (rule_name g (index ridx.0))) (trees true nodes.items) (end_of form)
 
   -- the text of a tree: its front, and what follows it
-  pub text_out : (node : Node X S) → text node ≡ front node ++ further (is_rule node) (nodes_below node)
+  pub text_out : (node : Node X S) → text node ≡ front node ++ further (is_rule node) (children node)
   text_out node = fold_out-Node X S (List ℕ) (nested_step form facts index g input) node ∙ layer_text (out-Node X S node)
 
   -- that of a lexeme is its front
   pub leaf_text : (node : Node X S) → is_rule node ≡ false → text node ≡ front node
-  leaf_text node leaf = text_out node ∙ ap (λ b. front node ++ further b (nodes_below node)) leaf ∙ append-nil (front node)
+  leaf_text node leaf = text_out node ∙ ap (λ b. front node ++ further b (children node)) leaf ∙ append-nil (front node)
 
   -- what is left of the levels above, the highest last
   abbrev pub later : List (Bor (List (Node X S))) → List ℕ
@@ -94,15 +86,15 @@ module _ {X S : Type 0} (form : Form) (facts : X → LexemeFacts) (index : S →
   -- it is a node of a rule, and is entered: the others are put aside
   pub left_enter : (first : Bool) (below : List (Bor (List (Node X S)))) (rest : Bor (List (Node X S))) (node : Node X S) (left : List (Node X S))
       → left ≡ node ∷ rest.now → is_rule node ≡ true
-      → gap form first ++ (front node ++ left_text true (below ++ rest ∷ []) (nodes_below node)) ≡ left_text first below left
+      → gap form first ++ (front node ++ left_text true (below ++ rest ∷ []) (children node)) ≡ left_text first below left
   left_enter first below rest node left is rule =
-      let inside = trees true (nodes_below node) in
+      let inside = trees true (children node) in
       let after = left_text false below rest.now in
       let whole : text node ≡ front node ++ (inside ++ end_of form) =
-      text_out node ∙ ap (λ b. front node ++ further b (nodes_below node)) rule in
+      text_out node ∙ ap (λ b. front node ++ further b (children node)) rule in
       let pushed : end_of form ++ later (below ++ rest ∷ []) ≡ end_of form ++ after =
       ap (λ l. end_of form ++ l) (later_push below rest ∙ append_assoc (trees false rest.now) (end_of form) (later below)) in
-      let opened : front node ++ left_text true (below ++ rest ∷ []) (nodes_below node) ≡ text node ++ after =
+      let opened : front node ++ left_text true (below ++ rest ∷ []) (children node) ≡ text node ++ after =
       ap (λ l. front node ++ (inside ++ l)) pushed
       ∙ ap (λ l. front node ++ l) (sym (append_assoc inside (end_of form) after))
       ∙ sym (append_assoc (front node) (inside ++ end_of form) after)
@@ -126,10 +118,10 @@ module _ {X S : Type 0} (form : Form) (facts : X → LexemeFacts) (index : S →
   -- a separator and a front are written, and then what is left after a rule that is entered
   pub writes_enter : (first : Bool) (below : List (Bor (List (Node X S)))) (rest : Bor (List (Node X S))) (node : Node X S) (left : List (Node X S))
       (old gapped fronted last : Option (List ℕ)) → left ≡ node ∷ rest.now → is_rule node ≡ true → Appends old gapped (gap form first)
-      → Appends gapped fronted (front node) → Appends fronted last (left_text true (below ++ rest ∷ []) (nodes_below node))
+      → Appends gapped fronted (front node) → Appends fronted last (left_text true (below ++ rest ∷ []) (children node))
       → Appends old last (left_text first below left)
   writes_enter first below rest node left old gapped fronted last is rule gaps fronts more =
-      let inner = left_text true (below ++ rest ∷ []) (nodes_below node) in
+      let inner = left_text true (below ++ rest ∷ []) (children node) in
       subst (Appends old last) (left_enter first below rest node left is rule)
       (appends_both old gapped last (gap form first) (front node ++ inner) gaps (appends_both gapped fronted last (front node) inner fronts more))
 
@@ -160,15 +152,15 @@ module _ {X S : Type 0} (form : Form) (facts : X → LexemeFacts) (index : S →
   left_begins nodes = ap (λ l. trees true nodes ++ l) (append-nil (end_of form))
 
   -- a tree of a rule: its front, and its trees with their end
-  pub tree_begins : (tree : Node X S) → is_rule tree ≡ true → front tree ++ trees_text form facts index g input (nodes_below tree) ≡ text tree
-  tree_begins tree rule = sym (text_out tree ∙ ap (λ b. front tree ++ further b (nodes_below tree)) rule)
+  pub tree_begins : (tree : Node X S) → is_rule tree ≡ true → front tree ++ trees_text form facts index g input (children tree) ≡ text tree
+  tree_begins tree rule = sym (text_out tree ∙ ap (λ b. front tree ++ further b (children tree)) rule)
 
 -- how much is left: two for each node, and one for each list that was put aside
 abbrev pub left_measure : {X S : Type 0} → List (Bor (List (Node X S))) → List (Node X S) → ℕ
 left_measure below left = 2 * (weights left + weights_of below) + length below
 
 pub enter_smaller : {X S : Type 0} (below : List (Bor (List (Node X S)))) (rest : Bor (List (Node X S))) (node : Node X S) (left : List (Node X S))
-    → left ≡ node ∷ rest.now → left_measure (below ++ rest ∷ []) (nodes_below node) < left_measure below left
+    → left ≡ node ∷ rest.now → left_measure (below ++ rest ∷ []) (children node) < left_measure below left
 enter_smaller below rest node left is =
     let whole : weights left ≡ weight node + weights rest.now = ap weights is in
     omega (arith, whole, weight_out node, weights_push below rest, length-append below (rest ∷ []))

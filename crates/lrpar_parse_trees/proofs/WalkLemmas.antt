@@ -14,24 +14,16 @@ use Rattle.lrpar_parse_trees.specs.declared.node.Node.TheViews.{out-Node, the_le
 use Rattle.lrpar_parse_trees.specs.declared.node.Node.TheFolds.{fold_out-Node, map-Node}
 use Rattle.lrpar_parse_trees.specs.Visits.{Visit, Met, Entered, visit_eq}
 use Rattle.lrpar_parse_trees.specs.Walks.{walk, walks, walk_step, visit, children, layer_visit, layer_children, node_eq, nodes_eq}
-use Rattle.lrpar_parse_trees.proofs.WeightLemmas.{weight, weights, weight_step, weights_append}
+use Rattle.lrpar_parse_trees.proofs.WeightLemmas.{weight, weights, weight_out, weights_append}
 
--- one layer of a walk, and of a weight
+-- one layer of a walk
 layer_walk : {X S : Type 0} (layer : Node-F X S (Node X S))
     → walk_step (map-Node X S (Node X S) (List (Visit X S)) walk layer) ≡ layer_visit layer ∷ walks (layer_children layer)
 layer_walk (Node-F.Term x) = refl
 layer_walk (Node-F.Nonterm ridx nodes) = ap (λ n. Entered ridx.0 n ∷ walks nodes.items) (length-map nodes.items walk)
 
-layer_weight : {X S : Type 0} (layer : Node-F X S (Node X S))
-    → weight_step (map-Node X S (Node X S) ℕ weight layer) ≡ 1 + weights (layer_children layer)
-layer_weight (Node-F.Term x) = refl
-layer_weight (Node-F.Nonterm ridx nodes) = refl
-
 pub walk_out : {X S : Type 0} (node : Node X S) → walk node ≡ visit node ∷ walks (children node)
 walk_out {X = X} {S = S} node = fold_out-Node X S (List (Visit X S)) walk_step node ∙ layer_walk (out-Node X S node)
-
-pub weight_out : {X S : Type 0} (node : Node X S) → weight node ≡ 1 + weights (children node)
-weight_out {X = X} {S = S} node = fold_out-Node X S ℕ weight_step node ∙ layer_weight (out-Node X S node)
 
 -- the visit of a node of either kind
 pub visit_term : {X S : Type 0} (node : Node X S) (x : X) → node ≡ Term x → visit node ≡ Met x

@@ -1,11 +1,13 @@
 -- How many nodes a tree has.
-use Rattle.std.proofs.Common.{◌≡◌, ℕ, ◌+◌, ◌*◌, ◌<◌, ◌≤◌, List, [], ◌∷◌, ◌++◌, Vec, Option, Some, None, MatchOption, map, ap, sym, ◌∙◌, arith, set, length, get_or}
+use Rattle.std.proofs.Common.{refl, ◌≡◌, ℕ, ◌+◌, ◌*◌, ◌<◌, ◌≤◌, List, [], ◌∷◌, ◌++◌, Vec, Option, Some, None, MatchOption, map, ap, sym, ◌∙◌, arith, set, length, get_or}
 use Rattle.std.specs.declared.alloc.Global.{Global}
 use Rattle.lrpar_grammar_places.specs.declared.span.RIdx.{RIdx}
 use Rattle.lrpar_parse_trees.specs.declared.node.Node.{Node}
 use Rattle.lrpar_parse_trees.specs.declared.node.Node.TheVariants.{Term, Nonterm, rolls-Term, rolls-Nonterm}
 use Rattle.lrpar_parse_trees.specs.declared.node.Node.TheOpen.{Node-F}
-use Rattle.lrpar_parse_trees.specs.declared.node.Node.TheFolds.{fold-Node, fold-roll-Node}
+use Rattle.lrpar_parse_trees.specs.declared.node.Node.TheViews.{out-Node}
+use Rattle.lrpar_parse_trees.specs.declared.node.Node.TheFolds.{fold-Node, fold-roll-Node, fold_out-Node, map-Node}
+use Rattle.lrpar_parse_trees.specs.Walks.{children, layer_children}
 
 abbrev pub sum_of : List ℕ → ℕ
 sum_of [] = 0
@@ -20,6 +22,14 @@ weight {X = X} {S = S} = fold-Node X S ℕ weight_step
 
 abbrev pub weights : {X S : Type 0} → List (Node X S) → ℕ
 weights nodes = sum_of (map weight nodes)
+
+-- a tree has its root, and the nodes of the trees below it
+layer_weight : {X S : Type 0} (layer : Node-F X S (Node X S)) → weight_step (map-Node X S (Node X S) ℕ weight layer) ≡ 1 + weights (layer_children layer)
+layer_weight (Node-F.Term x) = refl
+layer_weight (Node-F.Nonterm ridx nodes) = refl
+
+pub weight_out : {X S : Type 0} (node : Node X S) → weight node ≡ 1 + weights (children node)
+weight_out {X = X} {S = S} node = fold_out-Node X S ℕ weight_step node ∙ layer_weight (out-Node X S node)
 
 pub weight_term : {X S : Type 0} (x : X) (node : Node X S) → node ≡ Term x → weight node ≡ 1
 weight_term {X = X} {S = S} x node is =

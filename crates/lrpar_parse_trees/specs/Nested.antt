@@ -43,7 +43,7 @@ abbrev pub bracket_leaf : List ℕ → List ℕ → Bool → List ℕ
 bracket_leaf name text false = name_before name text ++ codes "\"" ++ escaped text ++ codes "\""
 bracket_leaf name text true = name ++ codes " (inserted)"
 
--- that a repair made a lexeme, if one did
+-- the member `inserted`, if a repair made the lexeme
 abbrev pub json_inserted : Bool → List ℕ
 json_inserted faulty = if faulty then codes ",\"inserted\":true" else []
 

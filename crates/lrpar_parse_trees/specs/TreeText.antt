@@ -56,14 +56,6 @@ layer_met level (Node-F.Nonterm ridx nodes) = RuleAt level ridx.0
 abbrev pub root_at : {X S : Type 0} → ℕ → Node X S → Met X S
 root_at {X = X} {S = S} level node = layer_met level (out-Node X S node)
 
--- the trees below the root
-abbrev pub layer_nodes : {X S : Type 0} → Node-F X S (Node X S) → List (Node X S)
-layer_nodes (Node-F.Term x) = []
-layer_nodes (Node-F.Nonterm ridx nodes) = nodes.items
-
-abbrev pub nodes_below : {X S : Type 0} → Node X S → List (Node X S)
-nodes_below {X = X} {S = S} node = layer_nodes (out-Node X S node)
-
 -- the nodes of several trees whose roots are at one level
 abbrev pub all_met : {X S : Type 0} → ℕ → List (Node X S) → List (Met X S)
 all_met level nodes = flat_map (λ node. met_from node level) nodes

@@ -50,6 +50,6 @@ IsNodeOver ridx nodes = λ node. walk node ≡ Entered ridx.0 (length nodes) ∷
 abbrev pub node_eq : {X S : Type 0} → (X → X → Bool) → (S → S → Bool) → Node X S → Node X S → Bool
 node_eq eq same a b = pointwise (visit_eq eq same) (walk a) (walk b)
 
--- the same for two lists of trees
+-- two lists of trees are equal if their walks visit equal nodes
 abbrev pub nodes_eq : {X S : Type 0} → (X → X → Bool) → (S → S → Bool) → List (Node X S) → List (Node X S) → Bool
 nodes_eq eq same nodes others = pointwise (visit_eq eq same) (walks nodes) (walks others)

@@ -1,6 +1,6 @@
 //! Texts between double quotes.
 ghost use Rattle.std.specs.Prelude.{◌≡◌, ◌<◌};
-ghost use Rattle.lrpar_parse_errors.specs.Strings.{Pushes};
+ghost use Rattle.lrpar_parse_lexemes.specs.Strings.{Pushes};
 ghost use Rattle.lrpar_parse_trees.specs.Escapes.{escaped, escaped_char, hex_digit, hex_escape};
 
 use std::alloc::AllocError;

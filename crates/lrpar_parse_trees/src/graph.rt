@@ -1,6 +1,6 @@
 //! Trees as graphs for Graphviz.
-ghost use Rattle.std.specs.Prelude.{◌≡◌, ◌+◌, IfOk};
-ghost use Rattle.lrpar_parse_errors.specs.Strings.{Pushes};
+ghost use Rattle.std.specs.Prelude.{◌≡◌, ◌+◌, [], IfOk};
+ghost use Rattle.lrpar_parse_lexemes.specs.Strings.{Pushes};
 ghost use Rattle.lrpar_parse_trees.specs.Graph.{edge_line, label_front, leaf_shape, name_label, rule_line};
 ghost use Rattle.lrpar_parse_trees.specs.Leaves.{PushesLabel, PushesLeafLine};
 ghost use Rattle.lrpar_parse_trees.specs.StoredTrees.{WritesBelow, WritesGraph, WritesNode};
@@ -8,7 +8,7 @@ ghost use Rattle.lrpar_parse_trees.specs.Written.{WritesAll};
 
 use crate::Node;
 use crate::labels::push_label;
-use crate::node_parts::{Leaf, leaf_of, rule_name, trees_of};
+use crate::node_parts::{Leaf, leaf_of, rule_name};
 use lrpar_grammar::grammar::YaccGrammar;
 use lrpar_grammar::span::StorageIndex;
 use lrpar_parse_lexemes::lex_api::Lexeme;
@@ -31,25 +31,27 @@ pub fn write_graph<LexemeT: Lexeme<StorageT>, StorageT: StorageIndex, W: Write>(
 ) -> io::Result<()>
     ensures { WritesGraph StorageT.index LexemeT.parts grm.now input.now W.contents tree.now out.old out.new result }
 {
-    let mut line = String::new(alloc);
     out.write_all(b"digraph tree {\n")?;
+    let mut line = String::new(alloc);
     write_node(out, &mut line, grm, input, 0, tree)?;
-    write_below(alloc, out, &mut line, grm, input, trees_of(tree))?;
+    let mut above = Vec::new(alloc);
+    write_below(out, &mut line, &mut above, grm, input, tree.children())?;
     out.write_all(b"}\n")
 }
 
-// Writes the lines of the trees below the root. `line` is a buffer for one line.
-fn write_below<LexemeT: Lexeme<StorageT>, StorageT: StorageIndex, W: Write>(
-    alloc: Global,
+// Writes the lines of the trees below the root. `line` is a buffer for one line, and `above` holds for each level the number of the node
+// above and the trees that are left.
+fn write_below<'a, LexemeT: Lexeme<StorageT>, StorageT: StorageIndex, W: Write>(
     out: &mut W,
     line: &mut String,
+    above: &mut Vec<(usize, &'a [Node<LexemeT, StorageT>])>,
     grm: &YaccGrammar<StorageT>,
     input: &str,
-    nodes: &[Node<LexemeT, StorageT>],
+    nodes: &'a [Node<LexemeT, StorageT>],
 ) -> io::Result<()>
+    requires { above.old.items ≡ [] }
     ensures { WritesBelow StorageT.index LexemeT.parts grm.now input.now W.contents nodes.now out.old out.new result }
 {
-    let mut above = Vec::new(alloc);
     let mut left = nodes;
     let mut parent = 0;
     let mut next = 1;
@@ -61,7 +63,7 @@ fn write_below<LexemeT: Lexeme<StorageT>, StorageT: StorageIndex, W: Write>(
                 above.push((parent, rest))?;
                 parent = next;
                 next = number_after(next)?;
-                left = trees_of(node);
+                left = node.children();
             }
             None => match above.pop() {
                 Some((number, rest)) => {

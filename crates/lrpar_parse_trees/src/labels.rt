@@ -1,6 +1,6 @@
 //! Texts in labels of graphs.
 ghost use Rattle.std.specs.Prelude.{◌≡◌, ◌<◌};
-ghost use Rattle.lrpar_parse_errors.specs.Strings.{Pushes};
+ghost use Rattle.lrpar_parse_lexemes.specs.Strings.{Pushes};
 ghost use Rattle.lrpar_parse_trees.specs.Labels.{is_control, label_char, label_text, shown_hex};
 
 use crate::escapes::push_hex;

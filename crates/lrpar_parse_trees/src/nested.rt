@@ -1,6 +1,6 @@
 //! Trees on one line: the text of a node encloses the texts of its trees.
-ghost use Rattle.std.specs.Prelude.{false};
-ghost use Rattle.lrpar_parse_errors.specs.Strings.{Pushes};
+ghost use Rattle.std.specs.Prelude.{◌≡◌, [], false};
+ghost use Rattle.lrpar_parse_lexemes.specs.Strings.{Pushes};
 ghost use Rattle.lrpar_parse_trees.specs.Leaves.{PushesBracketLeaf, PushesJsonLeaf, PushesJsonPlace, PushesLeaf};
 ghost use Rattle.lrpar_parse_trees.specs.Nested.{bracket_leaf, bracket_rule, json_inserted, json_rule, name_before, rule_front};
 ghost use Rattle.lrpar_parse_trees.specs.StoredTrees.{WritesFront, WritesNested, WritesTrees};
@@ -8,7 +8,7 @@ ghost use Rattle.lrpar_parse_trees.specs.StoredTrees.{WritesFront, WritesNested,
 use crate::Node;
 use crate::escapes::push_escaped;
 use crate::form::Form;
-use crate::node_parts::{Leaf, is_rule, leaf_of, rule_name, trees_of};
+use crate::node_parts::{Leaf, is_rule, leaf_of, rule_name};
 use lrpar_grammar::grammar::YaccGrammar;
 use lrpar_grammar::span::StorageIndex;
 use lrpar_parse_lexemes::lex_api::Lexeme;
@@ -33,25 +33,35 @@ pub fn write_nested<LexemeT: Lexeme<StorageT>, StorageT: StorageIndex, W: Write>
     let mut piece = String::new(alloc);
     write_front(out, &mut piece, form, grm, input, tree)?;
     if is_rule(tree) {
-        write_trees(alloc, out, &mut piece, form, grm, input, trees_of(tree))
+        let mut below = Vec::new(alloc);
+        write_trees(
+            out,
+            &mut piece,
+            &mut below,
+            form,
+            grm,
+            input,
+            tree.children(),
+        )
     } else {
         Ok(())
     }
 }
 
-// Writes the trees of a node of a rule, and its end. `piece` is a buffer for one piece.
-fn write_trees<LexemeT: Lexeme<StorageT>, StorageT: StorageIndex, W: Write>(
-    alloc: Global,
+// Writes the trees of a node of a rule, and its end. `piece` is a buffer for one piece, and `below` holds the trees that are left, an
+// entry for each level.
+fn write_trees<'a, LexemeT: Lexeme<StorageT>, StorageT: StorageIndex, W: Write>(
     out: &mut W,
     piece: &mut String,
+    below: &mut Vec<&'a [Node<LexemeT, StorageT>]>,
     form: Form,
     grm: &YaccGrammar<StorageT>,
     input: &str,
-    nodes: &[Node<LexemeT, StorageT>],
+    nodes: &'a [Node<LexemeT, StorageT>],
 ) -> io::Result<()>
+    requires { below.old.items ≡ [] }
     ensures { WritesTrees StorageT.index LexemeT.parts grm.now input.now W.contents form nodes.now out.old out.new result }
 {
-    let mut below = Vec::new(alloc);
     let mut left = nodes;
     let mut is_first = true;
     'nodes: loop {
@@ -62,7 +72,7 @@ fn write_trees<LexemeT: Lexeme<StorageT>, StorageT: StorageIndex, W: Write>(
                 is_first = is_rule(node);
                 if is_first {
                     below.push(rest)?;
-                    left = trees_of(node);
+                    left = node.children();
                 } else {
                     left = rest;
                 }

@@ -1,6 +1,5 @@
 //! The parts of a tree's node: the name and the text of a lexeme, the name of a rule, and the trees below.
 ghost use Rattle.std.specs.Prelude.{◌≡◌, IfSome};
-ghost use Rattle.lrpar_parse_trees.specs.TreeText.{nodes_below};
 ghost use Rattle.lrpar_parse_trees.specs.Fronts.{is_rule};
 ghost use Rattle.lrpar_parse_trees.specs.Leaves.{HasNameOf, HasPlaceOf, HasTextOf, IsFaultyAs, IsNameOf};
 
@@ -62,15 +61,17 @@ pub(crate) fn rule_name<StorageT: StorageIndex>(
     }
 }
 
-/// The trees of a node. A lexeme has none.
-pub(crate) fn trees_of<LexemeT, StorageT>(
-    node: &Node<LexemeT, StorageT>,
-) -> &[Node<LexemeT, StorageT>]
-    ensures { result.now ≡ nodes_below node.now }
-{
-    match node {
-        Node::Term { lexeme: _ } => &[],
-        Node::Nonterm { ridx: _, nodes } => nodes,
+impl<LexemeT, StorageT> Node<LexemeT, StorageT> {
+    ghost use Rattle.lrpar_parse_trees.specs.Walks.{children};
+
+    /// The trees of the node's symbols. A lexeme has none.
+    pub(crate) fn children(&self) -> &[Node<LexemeT, StorageT>]
+        ensures { result.now ≡ children self.now }
+    {
+        match self {
+            Node::Term { lexeme: _ } => &[],
+            Node::Nonterm { ridx: _, nodes } => nodes,
+        }
     }
 }
 

@@ -1,14 +1,14 @@
 //! The text of a tree, with a line for each node, and the test whether a tree fits a grammar and an input.
-ghost use Rattle.std.specs.Prelude.{◌≡◌, ◌↔◌, ℕ, IfOk, IsTrue};
+ghost use Rattle.std.specs.Prelude.{◌≡◌, ◌↔◌, ℕ, [], IfOk, IsTrue, OnOk};
+ghost use Rattle.lrpar_grammar_places.specs.Strings.{HasText};
 ghost use Rattle.lrpar_parse_trees.specs.StoredTrees.{FitIn, FitsIn, IsTextOf, PushesRoot, RootFits};
-ghost use Rattle.lrpar_parse_trees.specs.TreeText.{nodes_below};
 
 use crate::node::Node;
 use crate::node::bounded::{CALLS, have_fewer_nodes};
 use lrpar_grammar::grammar::YaccGrammar;
 use lrpar_grammar::span::{StorageIndex, TIdx};
-use lrpar_parse_errors::spaces::push_spaces;
 use lrpar_parse_lexemes::lex_api::Lexeme;
+use lrpar_parse_lexemes::spaces::push_spaces;
 use std::alloc::{AllocError, Global};
 
 impl<LexemeT: Lexeme<StorageT>, StorageT: StorageIndex> Node<LexemeT, StorageT> {
@@ -25,7 +25,10 @@ impl<LexemeT: Lexeme<StorageT>, StorageT: StorageIndex> Node<LexemeT, StorageT> 
         }
         match self {
             Node::Term { lexeme: _ } => true,
-            Node::Nonterm { ridx: _, nodes } => all_fit(*nodes.allocator(), grm, input, nodes),
+            Node::Nonterm { ridx: _, nodes } => {
+                let mut left = Vec::new(*nodes.allocator());
+                all_fit(&mut left, grm, input, nodes)
+            }
         }
     }
 
@@ -45,36 +48,53 @@ impl<LexemeT: Lexeme<StorageT>, StorageT: StorageIndex> Node<LexemeT, StorageT> 
         ensures text { IfOk result (IsTextOf StorageT.index LexemeT.parts grm.now input.now self.now) }
     {
         let mut out = String::new(alloc);
-        push_line(&mut out, grm, input, 0, self)?;
         let mut below = Vec::new(alloc);
-        let mut left = children(self);
+        self.push_lines(&mut out, &mut below, grm, input)?;
+        Ok(out)
+    }
+
+    // Adds the text of the tree. `below` holds the trees that are left, an entry for each level.
+    fn push_lines<'a>(
+        &'a self,
+        out: &mut String,
+        below: &mut Vec<&'a [Node<LexemeT, StorageT>]>,
+        grm: &YaccGrammar<StorageT>,
+        input: &str,
+    ) -> Result<(), AllocError>
+        requires fits { FitsIn StorageT.index LexemeT.parts grm.now input.now self.now }
+        requires out { HasText [] out.old }
+        requires below { below.old.items ≡ [] }
+        ensures { OnOk result (IsTextOf StorageT.index LexemeT.parts grm.now input.now self.now out.new) }
+    {
+        push_line(out, grm, input, 0, self)?;
+        let mut left = self.children();
         loop {
             match left.split_first() {
                 Some((node, rest)) => {
                     below.push(rest)?;
-                    push_line(&mut out, grm, input, below.len(), node)?;
-                    left = children(node);
+                    push_line(out, grm, input, below.len(), node)?;
+                    left = node.children();
                 }
                 None => match below.pop() {
                     Some(rest) => left = rest,
-                    None => return Ok(out),
+                    None => return Ok(()),
                 },
             }
         }
     }
 }
 
-// Whether these trees fit. A list holds the trees that are left, an entry for each level. If it can't grow, the trees below a node
-// are tested without one.
+// Whether these trees fit. `left` holds the trees that are left, an entry for each level. If it can't grow, the trees below a node
+// are tested without it.
 fn all_fit<'a, LexemeT: Lexeme<StorageT>, StorageT: StorageIndex>(
-    alloc: Global,
+    left: &mut Vec<&'a [Node<LexemeT, StorageT>]>,
     grm: &YaccGrammar<StorageT>,
     input: &str,
     mut nodes: &'a [Node<LexemeT, StorageT>],
 ) -> bool
+    requires { left.old.items ≡ [] }
     ensures { IsTrue result ↔ FitIn StorageT.index LexemeT.parts grm.now input.now nodes.entry.now }
 {
-    let mut left = Vec::new(alloc);
     loop {
         match nodes.split_first() {
             Some((node, rest)) => {
@@ -82,9 +102,9 @@ fn all_fit<'a, LexemeT: Lexeme<StorageT>, StorageT: StorageIndex>(
                     return false;
                 }
                 match left.push(rest) {
-                    Ok(()) => nodes = children(node),
+                    Ok(()) => nodes = node.children(),
                     Err(_) => {
-                        if !fit_by_calls(grm, input, children(node), CALLS) {
+                        if !fit_by_calls(grm, input, node.children(), CALLS) {
                             return false;
                         }
                         nodes = rest;
@@ -114,7 +134,7 @@ fn fit_by_calls<'a, LexemeT: Lexeme<StorageT>, StorageT: StorageIndex>(
         if !root_fits(grm, input, node) {
             return false;
         }
-        let below = children(node);
+        let below = node.children();
         if calls > 0 || have_fewer_nodes(below, rest) {
             if !fit_by_calls(grm, input, below, calls.saturating_sub(1)) {
                 return false;
@@ -128,18 +148,6 @@ fn fit_by_calls<'a, LexemeT: Lexeme<StorageT>, StorageT: StorageIndex>(
         }
     }
     true
-}
-
-// The trees of the node's symbols. A lexeme has none.
-pub(crate) fn children<LexemeT, StorageT>(
-    node: &Node<LexemeT, StorageT>,
-) -> &[Node<LexemeT, StorageT>]
-    ensures { result.now ≡ nodes_below node.now }
-{
-    match node {
-        Node::Term { lexeme: _ } => &[],
-        Node::Nonterm { ridx: _, nodes } => nodes,
-    }
 }
 
 // Whether the root of the tree fits.

@@ -1,10 +1,10 @@
 //! The text of a tree, written line by line.
-ghost use Rattle.std.specs.Prelude.{◌+◌, OnOk};
+ghost use Rattle.std.specs.Prelude.{◌≡◌, ◌+◌, [], OnOk};
 ghost use Rattle.lrpar_parse_trees.specs.StoredTrees.{FitsIn, RootFitsAfter, WritesRoot, WritesTree};
 ghost use Rattle.lrpar_parse_trees.specs.Written.{BeginsWithSpaces, HasOnlySpaces, IsSpaces, KeepsSpaces};
 
 use crate::node::Node;
-use crate::tree_text::{children, push_node, root_fits};
+use crate::tree_text::{push_node, root_fits};
 use lrpar_grammar::grammar::YaccGrammar;
 use lrpar_grammar::span::StorageIndex;
 use lrpar_parse_lexemes::lex_api::Lexeme;
@@ -29,16 +29,33 @@ impl<LexemeT: Lexeme<StorageT>, StorageT: StorageIndex> Node<LexemeT, StorageT> 
         ensures fits { OnOk result (FitsIn StorageT.index LexemeT.parts grm.now input.now self.now) }
     {
         let mut line = String::new(alloc);
-        write_line(out, &mut line, grm, input, self)?;
         let mut below = Vec::new(alloc);
-        let mut left = children(self);
+        self.write_lines(out, &mut line, &mut below, grm, input)
+    }
+
+    // Writes the lines of the tree. `line` is a buffer for one line, and `below` holds the trees that are left, an entry for each level.
+    fn write_lines<'a, W: Write>(
+        &'a self,
+        out: &mut W,
+        line: &mut String,
+        below: &mut Vec<&'a [Node<LexemeT, StorageT>]>,
+        grm: &YaccGrammar<StorageT>,
+        input: &str,
+    ) -> io::Result<()>
+        requires line { IsSpaces 0 line.old }
+        requires below { below.old.items ≡ [] }
+        ensures text { WritesTree StorageT.index LexemeT.parts grm.now input.now W.contents self.now out.old out.new result }
+        ensures fits { OnOk result (FitsIn StorageT.index LexemeT.parts grm.now input.now self.now) }
+    {
+        write_line(out, line, grm, input, self)?;
+        let mut left = self.children();
         loop {
             match left.split_first() {
                 Some((node, rest)) => {
-                    indent(&mut line, below.len())?;
+                    indent(line, below.len())?;
                     below.push(rest)?;
-                    write_line(out, &mut line, grm, input, node)?;
-                    left = children(node);
+                    write_line(out, line, grm, input, node)?;
+                    left = node.children();
                 }
                 None => match below.pop() {
                     Some(rest) => left = rest,

@@ -5,8 +5,8 @@ use Rattle.lrpar_grammar_places.specs.Lines.{line_of}
 use Rattle.lrpar_grammar_places.specs.Span.{Extent}
 use Rattle.lrpar_grammar_reader.specs.declared.parts.GrammarFault.{GrammarFault}
 use Rattle.lrpar_grammar_reader.specs.declared.parts.GrammarFault.TheVariants.{BadStart, BadSymbol, Memory, NoRules, RepeatedEpp, RepeatedStart, StorageTooSmall, Syntax, TokenIsRule, UnknownRule, UnknownToken}
-use Rattle.lrpar_grammar.specs.declared.grammar.yacc.YaccFileFault.{YaccFileFault}
-use Rattle.lrpar_grammar.specs.declared.grammar.yacc.YaccFileFault.TheVariants.{Declared, Memory as FileMemory, Text, UnknownToken as UnknownName}
+use Rattle.lrpar_grammar_yacc.specs.declared.file.YaccFileFault.{YaccFileFault}
+use Rattle.lrpar_grammar_yacc.specs.declared.file.YaccFileFault.TheVariants.{Declared, Memory as FileMemory, Text, UnknownToken as UnknownName}
 use Rattle.lrpar_grammar_yacc.specs.declared.faults.YaccFault.{YaccFault}
 use Rattle.lrpar_grammar_yacc.specs.declared.faults.YaccFault.TheVariants.{BadNumber, Memory as YaccMemory, MidRuleAction, RepeatedPrec, RepeatedPrecedence}
 use Rattle.lrpar_grammar_yacc.specs.declared.parts.YaccKind.{YaccKind}
@@ -21,7 +21,7 @@ use Rattle.lrpar_report_lines.specs.Labels.{label_spans}
 use Rattle.lrpar_report_lines.specs.Places.{FaultPlace, IsFirstPlace, IsNextBoundary}
 use Rattle.lrpar_report_lines.specs.declared.reports.Report.{Report}
 
--- there is one span, which is such a span
+-- there is one span, and the fact holds of it
 abbrev pub IsOne : (Extent → Type 0) → List Extent → Type 0
 IsOne IsSuch spans = (span : Extent) × (spans ≡ span ∷ []) × IsSuch span
 
@@ -112,7 +112,7 @@ abbrev pub AreErrorSpans : {S L B C : Type 0} → (C → Extent) → (B → Exte
 AreErrorSpans place span text (LexError e) spans = IsOne (IsCharacterAt text (place e).start) spans
 AreErrorSpans place span text (ParseError e) spans = spans ≡ span e.lexeme ∷ []
 
--- the place of a fault that has such spans: the first of them, moved to boundaries of the text; without any, the text's start
+-- the place of a fault with these spans: the first of them, moved to boundaries of the text; without any, the text's start
 abbrev pub IsPlaceBy : (List Extent → Type 0) → List ℕ → Extent → Type 0
 IsPlaceBy AreSpans text place = (spans : List Extent) × AreSpans spans × IsFirstPlace text spans place
 

@@ -24,24 +24,24 @@ step_of index step = record { prod = index step.prod.0; place = step.place }
 abbrev pub DeriveNothing : Grammar → List GrammarSymbol → Type 0
 DeriveNothing g symbols = (trees : Forest ℕ) × AreTreesOf g symbols trees × (forest_leaves trees ≡ [])
 
--- what comes before the symbol derives nothing
-abbrev pub IsFrontPlace : Grammar → List GrammarSymbol → ℕ → Type 0
-IsFrontPlace g symbols place = DeriveNothing g (take place symbols)
+-- the symbols before this place in a rule derive the empty text
+abbrev pub HasNullableFront : Grammar → List GrammarSymbol → ℕ → Type 0
+HasNullableFront g symbols place = DeriveNothing g (take place symbols)
 
--- nor does what comes after it: the rule derives the symbol alone
-abbrev pub IsLonePlace : Grammar → List GrammarSymbol → ℕ → Type 0
-IsLonePlace g symbols place = IsFrontPlace g symbols place × DeriveNothing g (drop (place + 1) symbols)
+-- the symbols before this place and those after it derive the empty text: the rule derives the symbol there alone
+abbrev pub IsLoneSymbol : Grammar → List GrammarSymbol → ℕ → Type 0
+IsLoneSymbol g symbols place = HasNullableFront g symbols place × DeriveNothing g (drop (place + 1) symbols)
 
-abbrev pub IsPlaceOf : LoopKind → Grammar → List GrammarSymbol → ℕ → Type 0
-IsPlaceOf DerivesItself g symbols place = IsLonePlace g symbols place
-IsPlaceOf IsHiddenLeft g symbols place = IsFrontPlace g symbols place
+abbrev pub IsLoopSymbol : LoopKind → Grammar → List GrammarSymbol → ℕ → Type 0
+IsLoopSymbol DerivesItself g symbols place = IsLoneSymbol g symbols place
+IsLoopSymbol IsHiddenLeft g symbols place = HasNullableFront g symbols place
 
 -- a step from one rule to another: `from` has the production, with the rule `to` at that place
 pub record IsStep (kind : LoopKind) (g : Grammar) (from : ℕ) (step : StepOf) (to : ℕ) : Type 0 where
   pub prod : step.prod < prods_len g
   pub rule : rule_of g step.prod ≡ from
   pub symbol : slice_get (symbols_of g step.prod) step.place ≡ Some (Nonterminal to)
-  pub place : IsPlaceOf kind g (symbols_of g step.prod) step.place
+  pub place : IsLoopSymbol kind g (symbols_of g step.prod) step.place
 
 -- steps from one rule to another, each from the rule to which the step before it leads
 abbrev pub Lead : LoopKind → Grammar → ℕ → List StepOf → ℕ → Type 0
@@ -81,8 +81,8 @@ abbrev pub IsStepTo : {S : Type 0} → (S → ℕ) → LoopKind → Grammar → 
 IsStepTo index kind g from step to = IsStep kind g (index from.0) (step_of index step) (index to.0)
 
 -- in each grammar of which the choices are kept: if this is true, a step of the kind can lead to the symbol at the place
-abbrev pub TellsPlace : {S : Type 0} → (S → ℕ) → ℕ → List (Option ChoiceOf) → LoopKind → List (Symbol S) → ℕ → Bool → Type 0
-TellsPlace index most choices kind symbols place is = (g : Grammar) → AreShortest g most choices → OnTrue is (IsPlaceOf kind g (map (symbol_of index) symbols) place)
+abbrev pub TellsLoopSymbol : {S : Type 0} → (S → ℕ) → ℕ → List (Option ChoiceOf) → LoopKind → List (Symbol S) → ℕ → Bool → Type 0
+TellsLoopSymbol index most choices kind symbols place is = (g : Grammar) → AreShortest g most choices → OnTrue is (IsLoopSymbol kind g (map (symbol_of index) symbols) place)
 
 -- in each grammar of which the choices are kept: if this is true, the symbols derive the empty text
 abbrev pub TellsEmpty : {S : Type 0} → (S → ℕ) → ℕ → List (Option ChoiceOf) → List (Symbol S) → Bool → Type 0

@@ -3,7 +3,7 @@ ghost use Rattle.std.specs.Prelude.{◌<◌, ◌∷◌, IfOk, IfSome, List, leng
 ghost use Rattle.std.specs.Bool.{OnTrue};
 ghost use Rattle.lrpar_grammar.specs.Grammar.{prods_len};
 ghost use Rattle.lrpar_table_sentences.specs.Choices.{AreShortest};
-ghost use Rattle.lrpar_report.specs.Loops.{Begins, FindsLoop, IsLoopBy, IsRuleAt, IsStepTo, LeadTo, StepOf, TellsEmpty, TellsPlace, step_of};
+ghost use Rattle.lrpar_report.specs.Loops.{Begins, FindsLoop, IsLoopBy, IsRuleAt, IsStepTo, LeadTo, StepOf, TellsEmpty, TellsLoopSymbol, step_of};
 
 use lrpar_grammar::grammar::YaccGrammar;
 use lrpar_grammar::span::{PIdx, RIdx, StorageIndex, Symbol};
@@ -151,7 +151,7 @@ fn push_steps<StorageT: StorageIndex>(
 {
     let symbols = grm.prod(prod);
     for place in 0..symbols.len() {
-        if rule_at(symbols, place).is_some() && is_place(shortest, kind, symbols, place) {
+        if rule_at(symbols, place).is_some() && is_position(shortest, kind, symbols, place) {
             steps.push(LoopStep { prod, place })?;
         }
         if !derive_nothing(shortest, &symbols[place..place + 1]) {
@@ -324,7 +324,7 @@ fn end_of_step<StorageT: StorageIndex>(
     }
     let symbols = grm.prod(step.prod);
     let to = rule_at(symbols, step.place)?;
-    if is_place(shortest, kind, symbols, step.place) {
+    if is_position(shortest, kind, symbols, step.place) {
         Some(to)
     } else {
         None
@@ -332,14 +332,14 @@ fn end_of_step<StorageT: StorageIndex>(
 }
 
 // Whether a step of the kind can lead to the symbol at the place.
-fn is_place<StorageT: StorageIndex>(
+fn is_position<StorageT: StorageIndex>(
     shortest: &Shortest<StorageT>,
     kind: LoopKind,
     symbols: &[Symbol<StorageT>],
     place: usize,
 ) -> bool
     requires { place < length symbols.now }
-    ensures { TellsPlace StorageT.index usize.MAX shortest.now kind symbols.now place result }
+    ensures { TellsLoopSymbol StorageT.index usize.MAX shortest.now kind symbols.now place result }
 {
     match kind {
         LoopKind::DerivesItself => {

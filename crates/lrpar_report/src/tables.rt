@@ -108,14 +108,14 @@ fn report_of<StorageT: StorageIndex>(
     let report = Report::error(alloc, message.as_str())?;
     let mut label = String::new(alloc);
     push_loop_label(&mut label, grm, kind, steps)?;
-    match place_of(grm, steps) {
+    match position_of(grm, steps) {
         Some(span) => report.label(span, label.as_str()),
         None => Ok(report),
     }
 }
 
 // The place of the first production of a loop.
-fn place_of<StorageT: StorageIndex>(
+fn position_of<StorageT: StorageIndex>(
     grm: &YaccGrammar<StorageT>,
     steps: &[LoopStep<StorageT>],
 ) -> Option<Span> {

@@ -18,7 +18,7 @@ pub fn rule_warnings<StorageT: StorageIndex>(
     rule_warnings_but(alloc, grm, &[])
 }
 
-/// The same, but no warning of a rule that isn't reachable and has one of these names, as those after `%expect-unused`.
+/// The warnings of rules that are of no use, but not of a rule that isn't reachable and has one of these names, as those after `%expect-unused`.
 ///
 /// Takes the time of [`rule_warnings`], and that of a comparison with each name for each rule that isn't reachable. `Err`: out of memory.
 pub fn rule_warnings_but<StorageT: StorageIndex>(

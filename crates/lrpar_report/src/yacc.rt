@@ -6,11 +6,13 @@ ghost use Rattle.lrpar_report_lines.specs.Labels.{HasOneLabel, label_spans};
 ghost use Rattle.lrpar_report_lines.specs.declared.levels.Level.TheVariants.{Error};
 
 use crate::grammar::{grammar_report, named, outline_of, part, push_near};
-use lrpar_grammar::grammar::{GrammarFault, YaccFault, YaccFileFault, YaccKind, YaccText};
+use lrpar_grammar::grammar::GrammarFault;
 use lrpar_grammar::span::Span;
 use lrpar_grammar_words::word_order::Expected;
 use lrpar_grammar_words::words::{Word, WordKind};
-use lrpar_grammar_yacc::parts::part_at;
+use lrpar_grammar_yacc::faults::{YaccFault, YaccText};
+use lrpar_grammar_yacc::file::YaccFileFault;
+use lrpar_grammar_yacc::parts::{YaccKind, part_at};
 use lrpar_report_lines::Report;
 use std::alloc::{AllocError, Global};
 

@@ -27,7 +27,7 @@ pub(crate) fn push_captions(
     out.push('\n')?;
     let mut hung = hung_of(alloc, labels, marks, beside)?;
     if hung.len() > MOST_HUNG {
-        push_listed(out, lines, labels, on_line, &hung, margin)
+        push_label_texts(out, lines, labels, on_line, &hung, margin)
     } else {
         push_hung(out, labels, &mut hung, margin)
     }
@@ -142,7 +142,7 @@ fn push_bars(
 }
 
 // Adds the texts, each on a line with the column at which its label starts, counted from 1, in characters.
-fn push_listed(
+fn push_label_texts(
     out: &mut String,
     lines: &Lines<'_>,
     labels: &[Label],
@@ -166,7 +166,7 @@ fn column_of(lines: &Lines<'_>, on_line: &OnLine<'_>, number: usize) -> usize {
         Some(touch) => touch.start.max(on_line.start),
         None => on_line.start,
     };
-    match lines.place(start) {
+    match lines.position(start) {
         Some((_, column)) => column,
         None => 1,
     }

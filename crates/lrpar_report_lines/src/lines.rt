@@ -32,7 +32,7 @@ impl<'a> Lines<'a> {
     }
 
     /// The line and the column of a byte, if it is a boundary of characters.
-    pub(crate) fn place(&self, byte: usize) -> Option<(usize, usize)> {
+    pub(crate) fn position(&self, byte: usize) -> Option<(usize, usize)> {
         self.cache.byte_to_line_num_and_col_num(self.text, byte)
     }
 

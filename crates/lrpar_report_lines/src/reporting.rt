@@ -77,7 +77,7 @@ impl<'a> Reporter<'a> {
     fn push_title(&self, out: &mut String, report: &Report) -> Result<(), AllocError> {
         out.push_str(self.path)?;
         if let Some(label) = report.labels.first() {
-            self.push_place(out, label.span.start())?;
+            self.push_position(out, label.span.start())?;
         }
         out.push_str(": ")?;
         push_word(out, self.look, report.level)?;
@@ -87,8 +87,8 @@ impl<'a> Reporter<'a> {
     }
 
     // Adds the line and the column of a byte.
-    fn push_place(&self, out: &mut String, byte: usize) -> Result<(), AllocError> {
-        match self.lines.place(next_boundary(self.lines.text(), byte)) {
+    fn push_position(&self, out: &mut String, byte: usize) -> Result<(), AllocError> {
+        match self.lines.position(next_boundary(self.lines.text(), byte)) {
             Some((line, column)) => write!(out, ":{line}:{column}"),
             None => Ok(()),
         }

@@ -13,7 +13,7 @@ use Rattle.lrpar_table_conditions.specs.Complete.{IsComplete}
 abbrev pub IsCompleteWithoutConflicts : Grammar → Graph → Table → Type 0
 IsCompleteWithoutConflicts g graph table = IsComplete g graph table ↔ (table.conflicts ≡ None)
 
--- each table that is built of a grammar is so
+-- each table that is built of a grammar is complete if and only if it has no conflicts
 abbrev pub BuiltTablesAreCompleteWithoutConflicts : Type 0
 BuiltTablesAreCompleteWithoutConflicts =
     (g : Grammar) (graph : Graph) (table : Table) → IsWellFormed g → IsBuilt g graph table → IsCompleteWithoutConflicts g graph table
@@ -37,7 +37,7 @@ AmbiguousGrammarsHaveConflicts X =
     (token : X → ℕ) (g : Grammar) (graph : Graph) (table : Table) → IsWellFormed g → IsClosed table → IsBuilt g graph table
     → (tree other : Tree X) → HaveSameLeaves token g tree other → table.conflicts ≢ None
 
--- if it has none, each list of lexemes has at most one tree
+-- if the table that is built of a grammar has no conflicts, each list of lexemes has at most one tree
 abbrev pub GrammarsWithoutConflictsHaveOneTree : Type 0 → Type 0
 GrammarsWithoutConflictsHaveOneTree X =
     (token : X → ℕ) (g : Grammar) (graph : Graph) (table : Table) → IsWellFormed g → IsClosed table → IsBuilt g graph table

@@ -21,7 +21,9 @@ pub record IsCanonicalTable (g : Grammar) (graph : Graph) (table : Table) : Type
   pub no_token : (s t : ℕ) → table.tokens ≤ t → action_of table s t ≡ Fails
   pub no_rule : (s r : ℕ) → table.rules ≤ r → goto_of table s r ≡ None
 
--- the same, with the actions after conflict resolution by precedences
+-- the table has a state for each set of the graph, and starts in number 0; it has the grammar's tokens and rules; each state has the
+-- actions of its set after conflict resolution by precedences, and the set's gotos; and past its states, tokens and rules it has no
+-- entries
 pub record IsCanonicalTableBy (g : Grammar) (precedences : PrecedenceLists) (graph : Graph) (table : Table) : Type 0 where
   pub states : graph_len graph ≡ states_len table
   pub start : table.start ≡ 0
@@ -39,7 +41,7 @@ CanonicalTablesAreSafe =
     (g : Grammar) (graph : Graph) (table : Table) → IsWellFormed g → IsCanonical g graph → IsCanonicalTable g graph table
     → IsSafe g graph table
 
--- and so is a table of it whose conflicts precedences resolve
+-- a table of the canonical collection, with conflicts that precedences resolve, is safe
 abbrev pub TablesByPrecedenceAreSafe : Type 0
 TablesByPrecedenceAreSafe =
     (g : Grammar) (precedences : PrecedenceLists) (graph : Graph) (table : Table) → IsWellFormed g → IsCanonical g graph

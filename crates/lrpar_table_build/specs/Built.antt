@@ -79,15 +79,15 @@ IsBuildRefusal g most limit Memory = Unit {0}
 abbrev pub AreBuilt : Grammar → Graph × Table → Type 0
 AreBuilt g built = IsBuilt g built.0 built.1
 
--- the same, by the precedences
+-- a graph and a table that are built for the grammar, by the precedences
 abbrev pub AreBuiltBy : Grammar → PrecedenceLists → Graph × Table → Type 0
 AreBuiltBy g precedences built = IsBuiltBy g precedences built.0 built.1
 
--- the graph has at most so many states
+-- the graph has at most this number of states
 abbrev pub HaveAtMost : ℕ → Graph × Table → Type 0
 HaveAtMost most built = graph_len built.0 ≤ most
 
--- the graph has so many states
+-- the graph has this number of states
 abbrev pub HaveStates : ℕ → Graph × Table → Type 0
 HaveStates n built = graph_len built.0 ≡ n
 

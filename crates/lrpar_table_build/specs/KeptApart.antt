@@ -33,7 +33,7 @@ ReducesOrFails (Some Shift) = ⊥
 ReducesOrFails (Some Reduce) = Unit {0}
 ReducesOrFails (Some Error) = Unit {0}
 
--- what they decide is to shift, or an error
+-- what precedences decide is to shift, or an error
 abbrev pub ShiftsOrFails : Option Resolution → Type 0
 ShiftsOrFails None = ⊥
 ShiftsOrFails (Some Shift) = Unit {0}
@@ -47,7 +47,7 @@ pub record AreKeptApart (precedences : PrecedenceLists) (g : Grammar) (graph : G
       → (s next : ℕ) → HasCore graph s p (prod_len g p) → action_of table s b ≢ ShiftTo next
   pub no_reduction : ShiftsOrFails (resolution_of precedences p b) → (s : ℕ) → action_of table s b ≢ ReduceBy p
 
--- a table that is built by precedences keeps them apart
+-- a table that is built by precedences keeps productions and operators apart, as `AreKeptApart` says
 abbrev pub PrecedencesKeepApart : Type 0
 PrecedencesKeepApart =
     (precedences : PrecedenceLists) (g : Grammar) (graph : Graph) (table : Table) → IsWellFormed g → IsBuiltBy g precedences graph table

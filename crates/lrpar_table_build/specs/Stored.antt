@@ -26,11 +26,11 @@ module _ {S : Type 0} (index : S → ℕ) where
   abbrev pub states_of : List (State S) → List StateOf
   states_of states = map (state_of index) states
 
-  -- their item sets are the canonical collection of the grammar
+  -- the item sets of the states are the canonical collection of the grammar
   abbrev pub AreStatesOf : Grammar → List (State S) → Type 0
   AreStatesOf g states = AreStates g (states_of states)
 
-  -- they have what the rows of a table need
+  -- the states have what the rows of a table need
   abbrev pub HaveRows : Grammar → List (State S) → Type 0
   HaveRows g states = AreStateRows g (states_of states)
 
@@ -49,14 +49,14 @@ module _ {S : Type 0} (index : S → ℕ) where
       → ¬ (let state = state_at (states_of states) s in IsAcceptReduce g state.cores state.shifts t)
 
   -- the fault names a state that has an accept/reduce conflict, or an allocation failed
-  abbrev pub IsFaultOf : Grammar → List (State S) → BuildFault → Type 0
-  IsFaultOf g states fault = IsRefusalOf (length states) (IsRefusedState g (states_of states)) fault
+  abbrev pub IsTableFaultOf : Grammar → List (State S) → BuildFault → Type 0
+  IsTableFaultOf g states fault = IsRefusalOf (length states) (IsRefusedState g (states_of states)) fault
 
   -- the rows have the actions of the states by the precedences
   abbrev pub AreActions : {A B : Type 0} → PrecedenceLists → Grammar → List (State S) → Vec (Vec (TIdx S × Action S) A) B → Type 0
   AreActions lists g states rows = map (λ row. map (action_entry index) row.items) rows.items ≡ action_rows lists g (states_of states)
 
-  -- they have those by some precedences
+  -- the rows have the actions of the states by some precedences
   abbrev pub AreActionsBySome : {A B : Type 0} → Grammar → List (State S) → Vec (Vec (TIdx S × Action S) A) B → Type 0
   AreActionsBySome g states rows = (lists : PrecedenceLists) × AreActions lists g states rows
 
@@ -81,7 +81,7 @@ module _ {S : Type 0} (index : S → ℕ) where
   table_of_rows g states actions conflicts =
       table_with g (states_of states) (map (λ row. map (action_entry index) row.items) actions.items) conflicts []
 
--- there are states, at most so many, and they have what the rows of a table need
+-- there is at least one state, and at most this number of them; and the states have what the rows of a table need
 pub record HaveRowsWithin {S : Type 0} (index : S → ℕ) (limit : ℕ) (g : Grammar) (states : List (State S)) : Type 0 where
   pub rows : HaveRows index g states
   pub some : 0 < length states

@@ -35,7 +35,7 @@ pub fn from_yacc<StorageT: StorageIndex>(
     ensures refused { IfErr result (IsBuildRefusal grm.now max_states StorageT.limit) }
 {
     // The proof needs that the grammar is well-formed.
-    let _start = grm.start_prod();
+    let _lemma = grm.start_prod();
     from_yacc_with(alloc, grm, &Precedences::none(alloc), max_states)
 }
 
@@ -65,7 +65,7 @@ pub fn from_yacc_with<StorageT: StorageIndex>(
     ensures refused { IfErr result (IsBuildRefusal grm.now max_states StorageT.limit) }
 {
     // The proof needs that the grammar is well-formed.
-    let _start = grm.start_prod();
+    let _lemma = grm.start_prod();
     let states = states(alloc, grm, max_states)?;
     tables(alloc, grm, precedences, states)
 }

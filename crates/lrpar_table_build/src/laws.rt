@@ -8,7 +8,7 @@ pub fn canonical_tables_are_safe()
     ensures { CanonicalTablesAreSafe }
 {}
 
-/// The same for a table whose conflicts are resolved by precedences: these only choose among the actions that the item sets call for, or
+/// A canonical table whose conflicts are resolved by precedences is safe: these only choose among the actions that the item sets call for, or
 /// take them away.
 pub fn tables_by_precedence_are_safe()
     ensures { TablesByPrecedenceAreSafe }

@@ -4,7 +4,7 @@ ghost use Rattle.lrpar_table_rows.specs.Graph.{graph_len};
 ghost use Rattle.lrpar_table_rows.specs.PlainRows.{sparse_table_of};
 ghost use Rattle.lrpar_table_rows.specs.Table.{IsTable};
 ghost use Rattle.lrpar_table_build.specs.Built.{AreBuiltBy, HaveStates};
-ghost use Rattle.lrpar_table_build.specs.Stored.{AreActionsBySome, AreActionsOf, AreGotos, AreRowsOf, AreStatesOf, AreTablesOf, HasItemsOf, HaveNoAcceptReduce, HaveRows, HaveRowsWithin, HaveValidRows, IsFaultOf, IsTableOf, conflicts_of};
+ghost use Rattle.lrpar_table_build.specs.Stored.{AreActionsBySome, AreActionsOf, AreGotos, AreRowsOf, AreStatesOf, AreTablesOf, HasItemsOf, HaveNoAcceptReduce, HaveRows, HaveRowsWithin, HaveValidRows, IsTableFaultOf, IsTableOf, conflicts_of};
 ghost use Rattle.lrpar_table_items.specs.declared.fault.BuildFault.TheVariants.{Memory};
 ghost use Rattle.lrpar_table_rows.specs.declared.fault.TableFault.{TableFault};
 
@@ -13,8 +13,8 @@ use lrpar_grammar::span::{RIdx, StIdx, StorageIndex, TIdx};
 use lrpar_table_items::fault::BuildFault;
 use lrpar_table_items::item_rows::item_sets;
 use lrpar_table_items::item_set::State;
+use lrpar_table_items::state_row::make_state_row;
 use lrpar_table_items::resolution::{FoundConflicts, ReduceReduce, ShiftReduce};
-use lrpar_table_items::state_row::state_row;
 use lrpar_table_precedence::precedences::Precedences;
 use lrpar_table_rows::table::{
     Action, Conflicts, Resolved, SparseRows, StateGraph, StateTable, TableFault,
@@ -42,10 +42,10 @@ pub(crate) fn tables<StorageT: StorageIndex>(
     requires fit { length states.items ≤ StorageT.limit }
     ensures built { IfOk result (AreBuiltBy grm.now precedences.now) }
     ensures len { IfOk result (HaveStates (length states.items)) }
-    ensures refused { IfErr result (IsFaultOf StorageT.index grm.now states.items) }
+    ensures refused { IfErr result (IsTableFaultOf StorageT.index grm.now states.items) }
 {
     // The proof needs that the grammar is well-formed.
-    let _start = grm.start_prod();
+    let _lemma = grm.start_prod();
     graph_and_table(alloc, grm, precedences, states)
 }
 
@@ -67,7 +67,7 @@ pub fn state_tables<StorageT: StorageIndex>(
     ensures items { IfOk result (λ built. HasItemsOf StorageT.index grm.now states.items built.0) }
     ensures table { IfOk result (λ built. IsTableOf StorageT.index precedences.now grm.now states.items built.1) }
     ensures none { IfOk result (λ _. HaveNoAcceptReduce StorageT.index grm.now states.items) }
-    ensures refused { IfErr result (IsFaultOf StorageT.index grm.now states.items) }
+    ensures refused { IfErr result (IsTableFaultOf StorageT.index grm.now states.items) }
 {
     graph_and_table(alloc, grm, precedences, states)
 }
@@ -82,7 +82,7 @@ fn graph_and_table<StorageT: StorageIndex>(
 ) -> Result<(StateGraph<StorageT>, StateTable<StorageT>), BuildFault>
     requires { HaveRowsWithin StorageT.index StorageT.limit grm.now states.items }
     ensures made { IfOk result (AreTablesOf StorageT.index precedences.now grm.now states.items) }
-    ensures refused { IfErr result (IsFaultOf StorageT.index grm.now states.items) }
+    ensures refused { IfErr result (IsTableFaultOf StorageT.index grm.now states.items) }
 {
     let (actions, conflicts, resolved) = all_actions(alloc, grm, precedences, &states)?;
     let graph = graph_of(alloc, grm, &states)?;
@@ -109,10 +109,10 @@ fn all_actions<StorageT: StorageIndex>(
     requires rows { HaveRows StorageT.index grm.now states.now }
     requires fit { length states.now ≤ StorageT.limit }
     ensures made { IfOk result (AreActionsOf StorageT.index precedences.now grm.now states.now) }
-    ensures refused { IfErr result (IsFaultOf StorageT.index grm.now states.now) }
+    ensures refused { IfErr result (IsTableFaultOf StorageT.index grm.now states.now) }
 {
     let mut found = FoundConflicts::new(alloc);
-    let rows = rows_of_actions(alloc, grm, precedences, states, &mut found)?;
+    let rows = make_action_rows(alloc, grm, precedences, states, &mut found)?;
     let FoundConflicts {
         reduce_reduce,
         shift_reduce,
@@ -127,7 +127,7 @@ fn all_actions<StorageT: StorageIndex>(
 
 // The actions of each state but errors. The conflicts of the states are appended to those found.
 #[tactic(auto, using(lrpar_grammar_places::proofs::FaultLemmas::no_value))]
-fn rows_of_actions<StorageT: StorageIndex>(
+fn make_action_rows<StorageT: StorageIndex>(
     alloc: Global,
     grm: &YaccGrammar<StorageT>,
     precedences: &Precedences,
@@ -137,13 +137,13 @@ fn rows_of_actions<StorageT: StorageIndex>(
     requires rows { HaveRows StorageT.index grm.now states.now }
     requires fit { length states.now ≤ StorageT.limit }
     ensures rows { IfOk result (AreRowsOf StorageT.index precedences.now grm.now states.now found.old found.new) }
-    ensures refused { IfErr result (IsFaultOf StorageT.index grm.now states.now) }
+    ensures refused { IfErr result (IsTableFaultOf StorageT.index grm.now states.now) }
 {
     let mut rows = Vec::with_capacity(alloc, states.len())?;
     for number in 0..states.len() {
         let state = &states[number];
         let sidx = StIdx(StorageT::from_index(number).unwrap());
-        let row = state_row(
+        let row = make_state_row(
             alloc,
             grm,
             precedences,

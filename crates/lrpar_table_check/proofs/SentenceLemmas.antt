@@ -14,7 +14,7 @@ use Rattle.lrpar_table_rows.specs.Safe.{IsSafe}
 use Rattle.lrpar_table_rows.specs.Table.{Table, ShiftTo, IsClosed}
 use Rattle.lrpar_table_check.specs.Checked.{Checked, IsChecked}
 use Rattle.lrpar_table_conditions.specs.Complete.{IsComplete}
-use Rattle.lrpar_table_check.specs.CompleteRuns.{BeginsNoSentence, CompleteTablesTakeSentences, RunsTo, TakesSentences}
+use Rattle.lrpar_table_check.specs.CompleteRuns.{BeginsNoSentence, CompleteTablesAcceptSentences, RunsTo, AcceptsExactlySentences}
 use Rattle.lrpar_table_stacks.specs.Path.{IsPath, NeverSticks}
 use Rattle.lrpar_table_stacks.specs.Reduction.{Feeds, Reduces, Settles, top_action}
 use Rattle.lrpar_table_stacks.specs.Run.{Far, FarEnd, Accepted, Stopped, Stop, IsStuck, goes_on, accepts, stops, token_at}
@@ -196,7 +196,7 @@ module _ {X : Type 0} (token : X → ℕ) (g : Grammar) (graph : Graph) (table :
       let same = runs_one_way token g table others (table.start ∷ []) 0 prods (productions sentence.0) (Stopped stop) Accepted stopped accepted in
       let no : Stopped stop ≡ Accepted = same.1 in cc
 
-  takes_sentences : TakesSentences token g table
+  takes_sentences : AcceptsExactlySentences token g table
   takes_sentences = record {
     only = λ tree fits. takes tree (leaves tree) fits refl;
     exact = λ lexemes. (
@@ -207,13 +207,13 @@ module _ {X : Type 0} (token : X → ℕ) (g : Grammar) (graph : Graph) (table :
     prefix = no_front;
   }
 
-pub complete_tables_take_sentences : {X : Type 0} → CompleteTablesTakeSentences X
+pub complete_tables_take_sentences : {X : Type 0} → CompleteTablesAcceptSentences X
 complete_tables_take_sentences token g graph table formed closed safe complete =
     takes_sentences token g graph table formed closed safe complete
 
 -- a checked table, whose parts were found to be complete, has such runs
 pub checked_takes : {X : Type 0} (token : X → ℕ) (d : Checked) (g : Grammar) (graph : Graph) (table : Table) → IsChecked d
-    → g ≡ d.grammar → graph ≡ d.graph → table ≡ d.table → IsComplete g graph table → TakesSentences token d.grammar d.table
+    → g ≡ d.grammar → graph ≡ d.graph → table ≡ d.table → IsComplete g graph table → AcceptsExactlySentences token d.grammar d.table
 checked_takes token d g graph table checked same_g same_graph same_table complete =
     let first = subst (λ (x : Grammar). IsComplete x graph table) same_g complete in
     let second = subst (λ (x : Graph). IsComplete d.grammar x table) same_graph first in

@@ -53,68 +53,69 @@ module _ {S : Type 0} (index : S → ℕ) (d : Chains S) where
 
   -- the chain that begins with s, and with the state above, if there is one
   module _ (s : StIdx S) (above : Option (StIdx S)) where
-    -- at the token it makes this number of reductions; without a number, more than the cap
+    -- at the token the chain makes this number of reductions; without a number, more than the cap
     abbrev pub Makes : TIdx S → Option ℕ → Type 0
     Makes t made = IsCounted d.grm.now d.stable.now d.cap (index t.0) (start_of index s above) made
 
-    -- at the token it makes more reductions than the cap
+    -- at the token the chain makes more reductions than the cap
     abbrev pub IsTooLong : TIdx S → Type 0
     IsTooLong t = HasReductions d.grm.now d.stable.now (index t.0) (start_of index s above) (d.cap + 1)
 
-    -- its first reduction at the token is by this production
+    -- the chain's first reduction at the token is by this production
     abbrev pub BeginsBy : TIdx S → PIdx S → Type 0
     BeginsBy t prod = top_action d.stable.now (index t.0) (start_of index s above) ≡ ReduceBy (index prod.0)
 
-    -- the first token below `end` at which it is too long; or `end`
+    -- the first token below `end` at which the chain is too long; or `end`
     abbrev pub IsFirstTooLong : ℕ → ℕ → Type 0
     IsFirstTooLong end found = IsShortUntil d.grm.now d.stable.now d.cap (start_of index s above) end found
 
-    -- the greatest of `from` and of what it makes at any token; without a number, that is more than the cap
+    -- the greatest of `from` and of what the chain makes at any token; without a number, that is more than the cap
     abbrev pub IsLongestOfChain : ℕ → Option ℕ → Type 0
     IsLongestOfChain from found = IsLongestWithin d.grm.now d.stable.now d.cap (start_of index s above) from found
 
-    -- the row has for each token what it makes there, none of it more than was found
+    -- the row has for each token what the chain makes there, none of it more than was found
     abbrev pub IsRowOf : List ℕ → Option ℕ → Type 0
     IsRowOf row found = IfSome found (λ longest. AreLengths d.grm.now d.stable.now longest (start_of index s above) row)
 
   -- the chains of state s
   module _ (s : StIdx S) where
-    -- the first token at which one is too long, if there is one
+    -- the first token at which a chain of the state is too long, if there is one
     abbrev pub IsFirstOfState : Option ℕ → Type 0
     IsFirstOfState found = MatchOption found (AreShortAt d.grm.now d.stable.now d.cap (index s.0))
         (λ t. (t < d.stable.now.tokens) × IsLongChain d.grm.now d.stable.now d.cap (index s.0) t
         × ((k : ℕ) → k < t → ¬ (IsLongChain d.grm.now d.stable.now d.cap (index s.0) k)))
 
-    -- a number that is right; or none, since one of them is too long
+    -- a number that is right; or none, since a chain of the state is too long
     abbrev pub IsUnlessTooLong : (ℕ → Type 0) → Option ℕ → Type 0
     IsUnlessTooLong Right found = MatchOption found (¬ (AreShortAt d.grm.now d.stable.now d.cap (index s.0))) Right
 
-    -- the least cap from `from` on that none of them exceeds
+    -- the least cap from `from` on that no chain of the state exceeds
     abbrev pub IsLeastOfState : ℕ → Option ℕ → Type 0
     IsLeastOfState from found = IsUnlessTooLong (λ longest. IsLeastAt d.grm.now d.stable.now (index s.0) from longest × (longest ≤ d.cap)) found
 
-    -- the greatest of `from` and of what some of them make, among them the one that begins with s and `next`
+    -- the greatest of `from` and of what some chains of the state make, among them the one that begins with s and `next`
     abbrev pub IsLongestThrough : StIdx S → ℕ → Option ℕ → Type 0
     IsLongestThrough next from found =
         IsUnlessTooLong (λ longest. IsLongestWith d.grm.now d.stable.now d.cap (index s.0) (index next.0) from longest) found
 
-    -- the greatest of `from` and of what the one makes that begins with s and `next`
+    -- the greatest of `from` and of what the chain makes that begins with s and `next`
     abbrev pub IsLongestFrom : StIdx S → ℕ → Option ℕ → Type 0
     IsLongestFrom next from found =
         IsUnlessTooLong (λ longest. IsLongest d.grm.now d.stable.now d.cap (index s.0 ∷ index next.0 ∷ []) from longest) found
 
-    -- each of the rows is empty, or it counts them, within the cap
+    -- each row, one for a rule, is empty or counts the reductions of the chain by the rule's goto, within the cap
     abbrev pub AreRowsOf : {A : Type 0} → List (Vec ℕ A) → Type 0
     AreRowsOf rows = AreRowsCounted d.grm.now d.stable.now d.cap (index s.0) rows
 
-    -- each of the rows is empty, or it counts them, with no number above `most`; and there is room for one more row
+    -- each row is empty or counts the reductions of a chain, with no number above `most`; and there is room for one more row
     abbrev pub AreCountsIn : {A : Type 0} → ℕ → List (Vec ℕ A) → List ℕ → Type 0
     AreCountsIn most rows row = AreCounts d.grm.now d.stable.now most (index s.0) rows row
 
-    -- the same of the lists of the check
+    -- each row of the check's lists is empty or counts the reductions of a chain, with no number above `most`; and there is room for one
+    -- more row
     abbrev pub AreCountsOf : ℕ → Counts S → Type 0
     AreCountsOf most counts = AreCountsIn most counts.rows.items counts.row.items
 
-    -- and that with no number above the one that was found
+    -- each row of the check's lists is empty or counts the reductions of a chain, with no number above the one that was found, if one was
     abbrev pub AreCountsFound : Counts S → Option ℕ → Type 0
     AreCountsFound counts found = IfSome found (λ most. AreCountsOf most counts)

@@ -26,14 +26,14 @@ pub record IsChecked (d : Checked) : Type 0 where
 abbrev pub HasBounds : Checked → Type 0
 HasBounds d = IsBounded d.grammar d.table d.cap
 
--- the same without a cap, and why it is refused
+-- a grammar with a graph and a table that were refused, and why
 pub record Unchecked : Type 0 where
   pub fault : CheckFault
   pub grammar : Grammar
   pub graph : Graph
   pub table : Table
 
--- the fault names what fails; out of memory is a fault only if the table is safe
+-- the fault names what fails; it is `Memory` only if the table is safe
 abbrev pub IsCheckFault : Grammar → Graph → Table → ℕ → CheckFault → Type 0
 IsCheckFault g graph table cap Shape = ¬ (HasShape g graph table)
 IsCheckFault g graph table cap (Safety condition s) = HasShape g graph table × (s < states_len table) × ¬ (IsSafeAt g graph table condition s)
@@ -48,21 +48,21 @@ IsChainFault g table cap (ChainTooLong s t) = (s < states_len table) × (t < tab
 IsChainFault g table cap Memory = Unit {0}
 
 -- the checked table holds these parts
-abbrev pub Holds : Grammar → Graph → Table → ℕ → Checked → Type 0
-Holds g graph table cap = λ d. d ≡ record { grammar = g; graph = graph; table = table; cap = cap }
+abbrev pub HoldsParts : Grammar → Graph → Table → ℕ → Checked → Type 0
+HoldsParts g graph table cap = λ d. d ≡ record { grammar = g; graph = graph; table = table; cap = cap }
 
 -- the refusal gives these parts back
 abbrev pub GivesBack : Grammar → Graph → Table → Unchecked → Type 0
 GivesBack g graph table = λ r. (r.grammar ≡ g) × (r.graph ≡ graph) × (r.table ≡ table)
 
 -- the refusal names what fails
-abbrev pub NamesFault : Grammar → Graph → Table → ℕ → Unchecked → Type 0
-NamesFault g graph table cap = λ r. IsCheckFault g graph table cap r.fault
+abbrev pub NamesCheckFault : Grammar → Graph → Table → ℕ → Unchecked → Type 0
+NamesCheckFault g graph table cap = λ r. IsCheckFault g graph table cap r.fault
 
 -- the refusal names a chain that is too long, unless an allocation failed
 abbrev pub NamesChain : Grammar → Table → ℕ → Unchecked → Type 0
 NamesChain g table cap = λ r. IsChainFault g table cap r.fault
 
 -- the table is refused only because an allocation failed
-abbrev pub LacksMemory : Unchecked → Type 0
-LacksMemory = λ r. r.fault ≡ Memory
+abbrev pub IsRefusedForMemory : Unchecked → Type 0
+IsRefusedForMemory = λ r. r.fault ≡ Memory

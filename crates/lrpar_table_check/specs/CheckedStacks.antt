@@ -50,7 +50,7 @@ module _ {S A : Type 0} (index : S → ℕ) (d : Checked) (t : TIdx S) (old new 
   FailsToSettleList result =
       OnErr result (IsShortOfMemory d.grammar d.table (index t.0) (states_of index old.items) (vec_capacity old) (states_of index new.items) (vec_capacity new))
 
-  -- if an allocation failed, then the list is full for a reduction at the token, or for the shift after all of them
+  -- if an allocation failed, then the list is full for a reduction at the token, or for the shift after all reductions
   abbrev pub FailsToFeedList : {T E : Type 0} → Result T E → Type 0
   FailsToFeedList result =
       OnErr result
@@ -71,13 +71,13 @@ module _ {S : Type 0} (index : S → ℕ) (d : Checked) (t : TIdx S) (old new : 
   abbrev pub FailsToSettleOver : {T E : Type 0} → Result T E → Type 0
   FailsToSettleOver result = OnErr result (IsShortOfMemoryOver d.grammar d.table (index t.0) old new)
 
-  -- if an allocation failed, then its tail is full for a reduction at the token, or for the shift after all of them
+  -- if an allocation failed, then the overlay's tail is full for a reduction at the token, or for the shift after all reductions
   abbrev pub FailsToFeedOver : {T E : Type 0} → Result T E → Type 0
   FailsToFeedOver result =
       OnErr result
       (IsShortOfMemoryOver d.grammar d.table (index t.0) old new ⊎ IsShiftShortOfMemoryOver d.grammar d.table d.cap (index t.0) old new)
 
--- stacks of any kind, by what its trait says of it
+-- stacks of any kind, as the trait of the kind describes them
 module _ {X S : Type 0} (index : S → ℕ) (kind : stacks.Ghosts X S) (d : Checked) (t : TIdx S) (old new : X) where
   -- if nothing failed, then at the token the stack made all reductions, of the number in the result
   abbrev pub SettlesStack : {E : Type 0} → Result (Settled S) E → Type 0
@@ -88,14 +88,14 @@ module _ {X S : Type 0} (index : S → ℕ) (kind : stacks.Ghosts X S) (d : Chec
   abbrev pub FailsToSettle : {T E : Type 0} → Result T E → Type 0
   FailsToSettle result = OnErr result (IsStackShortOfMemory kind.states kind.reduces kind.fails d.grammar d.table (index t.0) old new)
 
--- those onto which shifts push: the relations `reduces` and `shifts` say what a reduction and a shift do to the rest
+-- stacks onto which shifts push: the relations `reduces` and `shifts` say what a reduction and a shift do to the rest
 module _ {X S : Type 0} (index : S → ℕ) (states : X → List ℕ) (reduces : X → ℕ → ℕ → ℕ → X → Type 0) where
   -- if nothing failed, then at the token the stack made all reductions, and then shifted the token; or its top doesn't shift it
   abbrev pub FeedsStack : {E : Type 0} → (X → X → Type 0) → Checked → TIdx S → X → X → Result Bool E → Type 0
   FeedsStack shifts d t old new result =
       IfOk result (λ shifted. IsStackFedBy states reduces shifts d.grammar d.table d.cap (index t.0) old shifted new)
 
-  -- if an allocation failed, then it was for a reduction at the token, or for the shift after all of them
+  -- if an allocation failed, then it was for a reduction at the token, or for the shift after all reductions
   abbrev pub FailsToFeed : {T E : Type 0} → (X → ℕ → X → Type 0) → (X → X → Type 0) → Checked → TIdx S → X → X → Result T E → Type 0
   FailsToFeed fails shift_fails d t old new result =
       OnErr result
@@ -110,7 +110,7 @@ IsTopAction index table t st done = plain_action index done.action ≡ top_actio
 abbrev pub AreExpectedOn : {S A : Type 0} → (S → ℕ) → Checked → List (StIdx S) → Vec (TIdx S) A → Type 0
 AreExpectedOn index d states tokens = AreExpected d.grammar d.table (states_of index states) (tokens_of index tokens.items)
 
--- these are those that may come next at the stack that the overlay represents
+-- these are the tokens that may come next at the stack that the overlay represents, ascending
 abbrev pub AreExpectedOver : {S A : Type 0} → (S → ℕ) → Checked → Overlaid → Vec (TIdx S) A → Type 0
 AreExpectedOver index d overlay tokens = AreExpected d.grammar d.table (overlaid overlay) (tokens_of index tokens.items)
 
@@ -118,7 +118,7 @@ AreExpectedOver index d overlay tokens = AreExpected d.grammar d.table (overlaid
 abbrev pub FailsToList : {S : Type 0} → (S → ℕ) → Checked → List (StIdx S) → Type 0
 FailsToList index d states = IsListShortOfMemory d.grammar d.table (states_of index states)
 
--- or at the stack that the overlay represents
+-- an allocation failed while the tokens were listed that may come next at the stack that the overlay represents
 abbrev pub FailsToListOver : Checked → Overlaid → Type 0
 FailsToListOver d overlay = IsListShortOfMemory d.grammar d.table (overlaid overlay)
 
@@ -126,7 +126,7 @@ FailsToListOver d overlay = IsListShortOfMemory d.grammar d.table (overlaid over
 abbrev pub IsWhetherExpected : {S : Type 0} → (S → ℕ) → Checked → List ℕ → TIdx S → Bool → Type 0
 IsWhetherExpected index d st t answer = IsTrue answer ↔ IsExpected d.grammar d.table st (index t.0)
 
--- the same at the stack of these states
+-- the answer is whether the token may come next at the stack of these states
 abbrev pub IsWhetherExpectedOn : {S : Type 0} → (S → ℕ) → Checked → List (StIdx S) → TIdx S → Bool → Type 0
 IsWhetherExpectedOn index d states t answer = IsWhetherExpected index d (states_of index states) t answer
 

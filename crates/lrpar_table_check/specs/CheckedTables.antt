@@ -5,7 +5,7 @@ use Rattle.lrpar_table_conditions.specs.declared.completeness_fault.CompleteFaul
 use Rattle.lrpar_table_viable.specs.Viable.{IsViable, IsViableFault}
 use Rattle.lrpar_table_viable.specs.declared.viable_fault.ViableFault.{ViableFault}
 use Rattle.lrpar_table_check.specs.Checked.{Checked}
-use Rattle.lrpar_table_check.specs.CompleteRuns.{TakesSentences}
+use Rattle.lrpar_table_check.specs.CompleteRuns.{AcceptsExactlySentences}
 
 -- the checked table is complete
 abbrev pub IsCompleteTable : Checked → Type 0
@@ -15,9 +15,9 @@ IsCompleteTable d = IsComplete d.grammar d.graph d.table
 abbrev pub IsCompleteFaultOf : Checked → CompleteFault → Type 0
 IsCompleteFaultOf d = IsCompleteFault d.grammar d.graph d.table
 
--- its runs accept exactly the sentences, each by its only tree
+-- the runs of the checked table accept exactly the sentences, each by its only tree
 abbrev pub AcceptsSentences : Checked → Type 0
-AcceptsSentences d = TakesSentences (λ (x : LexemeFacts). x.token) d.grammar d.table
+AcceptsSentences d = AcceptsExactlySentences (λ (x : LexemeFacts). x.token) d.grammar d.table
 
 -- the checked table is viable
 abbrev pub IsViableTable : Checked → Type 0

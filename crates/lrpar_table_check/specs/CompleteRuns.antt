@@ -10,7 +10,7 @@ use Rattle.lrpar_table_rows.specs.Table.{Table, IsClosed}
 use Rattle.lrpar_table_conditions.specs.Complete.{IsComplete}
 use Rattle.lrpar_table_stacks.specs.Run.{Far, FarEnd, Accepted, Stopped, Stop}
 
--- the run from the start over these lexemes makes these reductions, and ends so
+-- the run from the start over these lexemes makes these reductions, and has this end
 abbrev pub RunsTo : {X : Type 0} → (X → ℕ) → Grammar → Table → List X → List ℕ → FarEnd → Type 0
 RunsTo token g table lexemes prods end = Far token g table lexemes (table.start ∷ []) 0 prods end
 
@@ -21,7 +21,7 @@ BeginsNoSentence {X} token g front = (rest : List X) → ¬ (IsSentence token g 
 -- Runs accept exactly the sentences, and each by its only tree: the run over a tree's leaves reduces its productions and accepts;
 -- if the run accepts, its lexemes are a sentence; two trees with the same leaves are equal; and no sentence begins with the
 -- lexemes up to and including a run's error point.
-pub record TakesSentences {X : Type 0} (token : X → ℕ) (g : Grammar) (table : Table) : Type 0 where
+pub record AcceptsExactlySentences {X : Type 0} (token : X → ℕ) (g : Grammar) (table : Table) : Type 0 where
   pub only : (tree : Tree X) → Fits token g tree (Nonterminal g.start) → RunsTo token g table (leaves tree) (productions tree) Accepted
   pub exact : (lexemes : List X) → IsSentence token g lexemes ↔ ((prods : List ℕ) × RunsTo token g table lexemes prods Accepted)
   pub one : (tree other : Tree X) → Fits token g tree (Nonterminal g.start) → Fits token g other (Nonterminal g.start)
@@ -29,8 +29,8 @@ pub record TakesSentences {X : Type 0} (token : X → ℕ) (g : Grammar) (table 
   pub prefix : (lexemes : List X) (prods : List ℕ) (stop : Stop) → RunsTo token g table lexemes prods (Stopped stop)
       → stop.place < length lexemes → BeginsNoSentence token g (take (stop.place + 1) lexemes)
 
--- over lexemes of type X, a checked table that is complete has such runs
-abbrev pub CompleteTablesTakeSentences : Type 0 → Type 0
-CompleteTablesTakeSentences X =
+-- over lexemes of type X, the runs of a complete table accept exactly the sentences, each by its only tree
+abbrev pub CompleteTablesAcceptSentences : Type 0 → Type 0
+CompleteTablesAcceptSentences X =
     (token : X → ℕ) (g : Grammar) (graph : Graph) (table : Table) → IsWellFormed g → IsClosed table → IsSafe g graph table
-    → IsComplete g graph table → TakesSentences token g table
+    → IsComplete g graph table → AcceptsExactlySentences token g table

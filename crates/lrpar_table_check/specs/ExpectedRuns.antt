@@ -28,13 +28,13 @@ pub record ExpectsSentences {X : Type 0} (token : X → ℕ) (g : Grammar) (tabl
   pub end : (lexemes : List X) (i : ℕ) (st : List ℕ) → FeedsFront token g table lexemes i st
       → IsExpected g table st (end_token g) ↔ IsSentence token g (take i lexemes)
 
--- over lexemes of type X each checked table has such runs
+-- over lexemes of type X, the end token may come next in a run of a checked table only if the lexemes that were fed are a sentence
 abbrev pub CheckedTablesEndAtSentences : Type 0 → Type 0
 CheckedTablesEndAtSentences X =
     (token : X → ℕ) (g : Grammar) (graph : Graph) (table : Table) → IsWellFormed g → IsClosed table → IsSafe g graph table
     → EndsAtSentences token g table
 
--- over lexemes of type X each checked table that is complete has such runs
+-- over lexemes of type X, the runs of a complete checked table expect exactly the tokens with which some sentence goes on
 abbrev pub CompleteTablesExpectSentences : Type 0 → Type 0
 CompleteTablesExpectSentences X =
     (token : X → ℕ) (g : Grammar) (graph : Graph) (table : Table) → IsWellFormed g → IsClosed table → IsSafe g graph table

@@ -20,7 +20,7 @@ pub record IsLeastCap (g : Grammar) (table : Table) (cap : ℕ) : Type 0 where
   pub passes : AreChainsShort g table cap
   pub least : (smaller : ℕ) → smaller < cap → ¬ (AreChainsShort g table smaller)
 
--- what is kept of a check: that it passed, and the least cap with which it does
+-- what is kept of a check: that it passed, and the least cap with which it passes
 pub record IsMeasured (d : Checked) (least : ℕ) : Type 0 where
   pub checked : IsChecked d
   pub measure : IsLeastCap d.grammar d.table least

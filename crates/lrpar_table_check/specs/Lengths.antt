@@ -11,7 +11,7 @@ module _ (g : Grammar) (table : Table) (cap : ℕ) where
     pub makes : HasReductions g table t st made
     pub no_more : ¬ (HasReductions g table t st (made + 1))
 
-  -- it makes this number of reductions, or more than the cap
+  -- at the token the chain from these states makes this number of reductions, or more than the cap
   abbrev pub IsCounted : ℕ → List ℕ → Option ℕ → Type 0
   IsCounted t st None = HasReductions g table t st (cap + 1)
   IsCounted t st (Some made) = IsLength t st made
@@ -23,7 +23,7 @@ module _ (g : Grammar) (table : Table) (cap : ℕ) where
     pub passes : (t : ℕ) → ¬ (HasReductions g table t st (longest + 1))
     pub reached : from < longest → (t : ℕ) × (t < table.tokens) × HasReductions g table t st longest
 
-  -- this is the greatest, or at some token the chain makes more than the cap
+  -- the number is the greatest, or at some token the chain makes more reductions than the cap
   abbrev pub IsLongestWithin : List ℕ → ℕ → Option ℕ → Type 0
   IsLongestWithin st from None = (t : ℕ) × (t < table.tokens) × HasReductions g table t st (cap + 1)
   IsLongestWithin st from (Some longest) = IsLongest st from longest

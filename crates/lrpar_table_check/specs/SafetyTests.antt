@@ -8,7 +8,7 @@ use Rattle.lrpar_table_check.specs.Checked.{IsCheckFault}
 use Rattle.lrpar_table_check.specs.declared.fault.CheckFault.{CheckFault}
 
 module _ {S : Type 0} (parts : Checkable S) where
-  -- they have their shape
+  -- the grammar, the graph and the table have the shape that the check needs
   abbrev pub HaveShape : Type 0
   HaveShape = HasShape parts.grm.now parts.sgraph.now parts.stable.now
 

@@ -38,7 +38,7 @@ impl<'a, StorageT: StorageIndex> Chains<'a, StorageT> {
     /// token there, at which a chain is too long.
     ///
     /// A chain of a state begins with the state alone, or with the state and one of its gotos above it. Chains are looked at only
-    /// at those tokens at which the topmost of these states stores a reduction, and `longest_at` counts their reductions: for most
+    /// at those tokens at which the topmost of these states stores a reduction, and `find_longest_at` counts their reductions: for most
     /// of them by one look. All states share the lists that this needs.
     ///
     /// If a chain is too long, the chains of its state are made again, step by step, to find the first token: at none after a token
@@ -53,13 +53,13 @@ impl<'a, StorageT: StorageIndex> Chains<'a, StorageT> {
         let mut least = 0;
         for s in 0..self.stable.states_len() {
             let state = StIdx(StorageT::from_index(s).unwrap());
-            least = self.least_at(&mut counts, state, least)?;
+            least = self.find_least_at(&mut counts, state, least)?;
         }
         Ok(least)
     }
 
     // The least cap from this one on that no chain of the state exceeds.
-    fn least_at(
+    fn find_least_at(
         &self,
         counts: &mut Counts<StorageT>,
         s: StIdx<StorageT>,
@@ -74,17 +74,17 @@ impl<'a, StorageT: StorageIndex> Chains<'a, StorageT> {
         ensures within { IfOk result (λ cap. cap ≤ self.now.cap) }
         ensures fault { IfErr result (IsChainFault self.now.grm.now self.now.stable.now self.now.cap) }
     {
-        if let Some(longest) = self.longest_at(counts, s, from)? {
+        if let Some(longest) = self.find_longest_at(counts, s, from)? {
             return Ok(longest);
         }
-        match self.first_long_at(&mut counts.states, s)? {
+        match self.find_long_at(&mut counts.states, s)? {
             Some(t) => Err(CheckFault::ChainTooLong(usize::from(s), t)),
             None => unreachable!(),
         }
     }
 
     // The first token at which a chain of the state is too long.
-    fn first_long_at(
+    fn find_long_at(
         &self,
         states: &mut Vec<StIdx<StorageT>>,
         s: StIdx<StorageT>,
@@ -94,10 +94,10 @@ impl<'a, StorageT: StorageIndex> Chains<'a, StorageT> {
         ensures { IfOk result (IsFirstOfState StorageT.index self.now s) }
     {
         let tokens = self.stable.tokens_len();
-        let mut end = self.short_until(states, s, None, tokens)?;
+        let mut end = self.find_long_until(states, s, None, tokens)?;
         let (rules, nexts) = self.stable.gotos_of(s);
         for (place, _) in rules.iter().enumerate() {
-            end = self.short_until(states, s, Some(nexts[place]), end)?;
+            end = self.find_long_until(states, s, Some(nexts[place]), end)?;
         }
         if end < tokens {
             Ok(Some(end))
@@ -107,7 +107,7 @@ impl<'a, StorageT: StorageIndex> Chains<'a, StorageT> {
     }
 
     // The first token below `end` at which the chain that begins with the state, and with `above` on it, is too long; or `end`.
-    fn short_until(
+    fn find_long_until(
         &self,
         states: &mut Vec<StIdx<StorageT>>,
         s: StIdx<StorageT>,
@@ -148,7 +148,7 @@ impl<'a, StorageT: StorageIndex> Chains<'a, StorageT> {
         requires token { StorageT.index t.0 < self.now.stable.now.tokens }
         ensures { IfOk result (λ long. IsTrue long ↔ IsTooLong StorageT.index self.now s above t) }
     {
-        match self.reductions_from(states, s, above, t)? {
+        match self.count_reductions_from(states, s, above, t)? {
             Some(_) => Ok(false),
             None => Ok(true),
         }
@@ -156,7 +156,7 @@ impl<'a, StorageT: StorageIndex> Chains<'a, StorageT> {
 
     // How many reductions the chain that begins with the state, and with `above` on it, makes at the token; `None` if they are
     // more than the cap.
-    pub(crate) fn reductions_from(
+    pub(crate) fn count_reductions_from(
         &self,
         states: &mut Vec<StIdx<StorageT>>,
         s: StIdx<StorageT>,
@@ -174,12 +174,12 @@ impl<'a, StorageT: StorageIndex> Chains<'a, StorageT> {
         if let Some(next) = above {
             states.push(next)?;
         }
-        self.reductions(states, t)
+        self.count_reductions(states, t)
     }
 
     // How many reductions the chain from these states makes at the token; `None` if they are more than the cap. It is made on the
     // list itself.
-    fn reductions(
+    fn count_reductions(
         &self,
         states: &mut Vec<StIdx<StorageT>>,
         t: TIdx<StorageT>,

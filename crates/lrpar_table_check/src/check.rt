@@ -5,12 +5,12 @@ ghost use Rattle.lrpar_table_rows.specs.Table.{IsClosed};
 ghost use Rattle.lrpar_table_rows.specs.Safe.{IsSafe};
 ghost use Rattle.lrpar_table_stacks.specs.Path.{NeverSticks};
 ghost use Rattle.lrpar_table_stacks.specs.Chain.{AreChainsShort};
-ghost use Rattle.lrpar_table_check.specs.Checked.{GivesBack, HasBounds, Holds, IsChecked, LacksMemory, NamesChain, NamesFault};
+ghost use Rattle.lrpar_table_check.specs.Checked.{GivesBack, HasBounds, HoldsParts, IsChecked, IsRefusedForMemory, NamesChain, NamesCheckFault};
 ghost use Rattle.lrpar_table_check.specs.LeastCap.{IsLeastCapOf};
 
 use crate::chains::least_cap;
 pub use crate::fault::CheckFault;
-use crate::safety::first_fault;
+use crate::safety::find_first_fault;
 use lrpar_grammar::grammar::YaccGrammar;
 use lrpar_grammar::span::StorageIndex;
 use lrpar_table_conditions::checkable::Checkable;
@@ -82,13 +82,13 @@ impl<StorageT: StorageIndex> ParserData<StorageT> {
         stable: StateTable<StorageT>,
         cap: u16,
     ) -> Result<Self, Refused<StorageT>>
-        ensures made { IfOk result (Holds grm sgraph stable cap) }
+        ensures made { IfOk result (HoldsParts grm sgraph stable cap) }
         ensures checked { IfOk result IsChecked }
-        ensures fault { IfErr result (NamesFault grm sgraph stable cap) }
-        ensures exact { IsSafe grm sgraph stable → AreChainsShort grm stable cap → IfErr result LacksMemory }
+        ensures fault { IfErr result (NamesCheckFault grm sgraph stable cap) }
+        ensures exact { IsSafe grm sgraph stable → AreChainsShort grm stable cap → IfErr result IsRefusedForMemory }
         ensures back { IfErr result (GivesBack grm sgraph stable) }
     {
-        match first_fault(&Checkable {
+        match find_first_fault(&Checkable {
             grm: &grm,
             sgraph: &sgraph,
             stable: &stable,
@@ -116,10 +116,10 @@ impl<StorageT: StorageIndex> ParserData<StorageT> {
         cap: u16,
     ) -> Result<Self, Refused<StorageT>>
         requires { IsSafe grm sgraph stable }
-        ensures made { IfOk result (Holds grm sgraph stable cap) }
+        ensures made { IfOk result (HoldsParts grm sgraph stable cap) }
         ensures checked { IfOk result IsChecked }
         ensures fault { IfErr result (NamesChain grm stable cap) }
-        ensures exact { AreChainsShort grm stable cap → IfErr result LacksMemory }
+        ensures exact { AreChainsShort grm stable cap → IfErr result IsRefusedForMemory }
         ensures back { IfErr result (GivesBack grm sgraph stable) }
     {
         are_sound(&grm, &stable);
@@ -186,8 +186,8 @@ fn are_sound<StorageT: StorageIndex>(grm: &YaccGrammar<StorageT>, stable: &State
     ensures well_formed { IsWellFormed grm.now }
     ensures closed { IsClosed stable.now }
 {
-    let _start = grm.start_prod();
-    let _states = stable.states_len();
+    let _lemma = grm.start_prod();
+    let _lemma = stable.states_len();
 }
 
 /// A refused table, with its grammar and its item sets as they were.

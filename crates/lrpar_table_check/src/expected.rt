@@ -52,7 +52,7 @@ impl<StorageT: StorageIndex> ParserData<StorageT> {
         let mut expected = Vec::new(alloc);
         for token in tokens {
             probe.set_back();
-            if self.takes(&mut probe, *token)? {
+            if self.try_token(&mut probe, *token)? {
                 expected.push(*token)?;
             }
         }
@@ -75,11 +75,11 @@ impl<StorageT: StorageIndex> ParserData<StorageT> {
         ensures short_of_memory { OnErr result (FailsToTry StorageT.index self.now stack.now t) }
     {
         let overlay = Overlay::new(alloc, stack);
-        self.takes(&mut Probe::new(alloc, &overlay), t)
+        self.try_token(&mut Probe::new(alloc, &overlay), t)
     }
 
     // Makes all reductions of the states under the token, and returns whether it may come next.
-    fn takes(
+    fn try_token(
         &self,
         states: &mut Probe<'_, '_, StorageT>,
         t: TIdx<StorageT>,
@@ -91,7 +91,7 @@ impl<StorageT: StorageIndex> ParserData<StorageT> {
         ensures short_of_memory { FailsToSettleOver StorageT.index self.now t states.old states.new result }
     {
         // Checked: the table shifts no end token, and accepts only at that one.
-        let _table = self.stable();
+        let _lemma = self.stable();
         match self.settle_on(states, t)?.action {
             Action::Shift(_) | Action::Accept => Ok(true),
             Action::Reduce(_) | Action::Error => Ok(false),

@@ -79,7 +79,7 @@ impl<'a, StorageT: StorageIndex> Chains<'a, StorageT> {
     /// than the cap of the check.
     ///
     /// The rows of its gotos are counted first, each after those to which productions of one symbol lead from it.
-    pub(crate) fn longest_at(
+    pub(crate) fn find_longest_at(
         &self,
         counts: &mut Counts<StorageT>,
         s: StIdx<StorageT>,
@@ -96,12 +96,12 @@ impl<'a, StorageT: StorageIndex> Chains<'a, StorageT> {
         let mut longest = from;
         let (rules, nexts) = self.stable.gotos_of(s);
         for (place, rule) in rules.iter().enumerate() {
-            match self.longest_with(counts, s, (*rule, nexts[place]), longest)? {
+            match self.find_longest_with(counts, s, (*rule, nexts[place]), longest)? {
                 Some(more) => longest = more,
                 None => return Ok(None),
             }
         }
-        self.longest_from(
+        self.find_longest_from(
             &counts.rows,
             &mut counts.row,
             &mut counts.states,
@@ -113,7 +113,7 @@ impl<'a, StorageT: StorageIndex> Chains<'a, StorageT> {
 
     // The greatest of `from` and the reductions of some chains of the state, among them the one that begins with the state and
     // this goto of it; `None` if one of them makes more reductions than the cap.
-    fn longest_with(
+    fn find_longest_with(
         &self,
         counts: &mut Counts<StorageT>,
         s: StIdx<StorageT>,
@@ -235,7 +235,7 @@ impl<'a, StorageT: StorageIndex> Chains<'a, StorageT> {
         if counted > 0 {
             return Ok(Some(from));
         }
-        let found = self.longest_from(
+        let found = self.find_longest_from(
             &counts.rows,
             &mut counts.row,
             &mut counts.states,
@@ -254,7 +254,7 @@ impl<'a, StorageT: StorageIndex> Chains<'a, StorageT> {
 
     // The greatest of `from` and the reductions of the chain that begins with the state, and with `above` on it, whatever its
     // token; `None` if it makes more reductions than the cap. The row gets the number for each token.
-    fn longest_from(
+    fn find_longest_from(
         &self,
         rows: &[Vec<u16>],
         row: &mut [u16],
@@ -278,7 +278,7 @@ impl<'a, StorageT: StorageIndex> Chains<'a, StorageT> {
         for (place, token) in tokens.iter().enumerate() {
             let action = actions[place];
             if let Action::Reduce(prod) = action {
-                match self.made_at(rows, states, s, above, *token, prod)? {
+                match self.count_made_at(rows, states, s, above, *token, prod)? {
                     Some(made) => {
                         row[usize::from(*token)] = made;
                         longest = longest.max(made);
@@ -292,7 +292,7 @@ impl<'a, StorageT: StorageIndex> Chains<'a, StorageT> {
 
     // How many reductions the chain makes at the token that begins with the state, and with `above` on it, if the first one is by
     // this production; `None` if they are more than the cap.
-    fn made_at(
+    fn count_made_at(
         &self,
         rows: &[Vec<u16>],
         states: &mut Vec<StIdx<StorageT>>,
@@ -325,7 +325,7 @@ impl<'a, StorageT: StorageIndex> Chains<'a, StorageT> {
                 return Ok(self.one_more(row[token]));
             }
         }
-        self.reductions_from(states, s, above, t)
+        self.count_reductions_from(states, s, above, t)
     }
 
     // One reduction more than these, if they are within the cap.

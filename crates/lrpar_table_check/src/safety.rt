@@ -9,7 +9,7 @@ use lrpar_table_conditions::checkable::Checkable;
 use lrpar_table_rows::condition::SafetyCondition;
 
 /// The first fault, whatever the cap on chains.
-pub(crate) fn first_fault<StorageT: StorageIndex>(
+pub(crate) fn find_first_fault<StorageT: StorageIndex>(
     parts: &Checkable<'_, StorageT>,
 ) -> Option<CheckFault>
     ensures { IsSafetyFault parts.now result }

@@ -38,7 +38,7 @@ impl<StorageT: StorageIndex> ParserData<StorageT> {
     {
         let (grm, table) = (self.grm(), self.stable());
         // At most the cap for each state of the stack: the number of reductions fits.
-        let (_cap, _height) = (self.cap(), stack.height());
+        let (_lemma, _second_lemma) = (self.cap(), stack.height());
         let mut count = 0;
         'reductions: loop {
             let (step, action) = take_step(grm, table, stack, t)?;
@@ -121,7 +121,7 @@ impl<StorageT: StorageIndex> ParserData<StorageT> {
         ensures stack { IsStackOf self.now (S.states stack.new) }
     {
         // Checked: a shift of the table leads to a stack.
-        let _table = self.stable();
+        let _lemma = self.stable();
         let action = self.settle_on(stack, t)?.action;
         match action {
             Action::Shift(next) => {

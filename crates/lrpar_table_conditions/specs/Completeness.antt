@@ -20,9 +20,9 @@ abbrev pub condition_text : CompletenessCondition → List ℕ
 condition_text condition = codes "C" ++ decimal (condition_number condition)
 
 -- each condition is in the list
-pub is_listed : (condition : CompletenessCondition) → Contains ALL condition
-is_listed C1 = (0, omega arith, refl)
-is_listed C2 = (1, omega arith, refl)
-is_listed C3 = (2, omega arith, refl)
-is_listed C4 = (3, omega arith, refl)
-is_listed C5 = (4, omega arith, refl)
+pub is_among_all : (condition : CompletenessCondition) → Contains ALL condition
+is_among_all C1 = (0, omega arith, refl)
+is_among_all C2 = (1, omega arith, refl)
+is_among_all C3 = (2, omega arith, refl)
+is_among_all C4 = (3, omega arith, refl)
+is_among_all C5 = (4, omega arith, refl)

@@ -14,24 +14,24 @@ ShiftHolds g graph table S4 s t next = CoresFollow g graph s (Terminal t) next
 ShiftHolds g graph table S8 s t next = next ≢ table.start
 ShiftHolds g graph table _ s t next = Unit {0}
 
--- what it requires of state s if s reduces by p
+-- what a condition requires of state s if s reduces by p
 abbrev pub ReduceHolds : Grammar → Graph → SafetyCondition → ℕ → ℕ → Type 0
 ReduceHolds g graph S5 s p = (p ≢ start_prod g) × HasCore graph s p (prod_len g p)
 ReduceHolds g graph _ s p = Unit {0}
 
--- what it requires of state s if s accepts at token t
+-- what a condition requires of state s if s accepts at token t
 abbrev pub AcceptHolds : Grammar → Graph → SafetyCondition → ℕ → ℕ → Type 0
 AcceptHolds g graph S7 s t = (t ≡ end_token g) × HasCore graph s (start_prod g) 1
 AcceptHolds g graph _ s t = Unit {0}
 
--- what it requires of state s if s has this action at token t
+-- what a condition requires of state s if s has this action at token t
 abbrev pub ActionHolds : Grammar → Graph → Table → SafetyCondition → ℕ → ℕ → TableAction → Type 0
 ActionHolds g graph table condition s t (ShiftTo next) = ShiftHolds g graph table condition s t next
 ActionHolds g graph table condition s t (ReduceBy p) = ReduceHolds g graph condition s p
 ActionHolds g graph table condition s t Accepts = AcceptHolds g graph condition s t
 ActionHolds g graph table condition s t Fails = Unit {0}
 
--- what it requires of state s if s has a goto to state next by rule r
+-- what a condition requires of state s if s has a goto to state next by rule r
 abbrev pub GotoHolds : Grammar → Graph → Table → SafetyCondition → ℕ → ℕ → ℕ → Type 0
 GotoHolds g graph table S4 s r next = CoresFollow g graph s (Nonterminal r) next
 GotoHolds g graph table S8 s r next = next ≢ table.start

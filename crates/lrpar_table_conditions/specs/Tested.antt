@@ -94,7 +94,7 @@ ClosesItems index parts s = EachItem parts.sgraph.now (index s.0) (ClosesItem pa
 abbrev pub ClosesItemsBy : {S : Type 0} → (S → ℕ) → Completeness S → StIdx S → List TokenSet → Type 0
 ClosesItemsBy index parts s starts = EachItem parts.sgraph.now (index s.0) (ClosesAmong parts.grm.now (rows_of starts))
 
--- and by these sets for each item with the core
+-- C2 holds for each item with the core, by these sets
 abbrev pub ClosesCoreBy : {S : Type 0} → (S → ℕ) → Completeness S → StIdx S → PIdx S → ℕ → List TokenSet → Type 0
 ClosesCoreBy index parts s prod dot starts =
     EachOfCore parts.sgraph.now (index s.0) (index prod.0) dot (ClosesAmong parts.grm.now (rows_of starts))
@@ -116,8 +116,8 @@ PutsStart index parts s prod dot old new =
     ⊎ ((index prod.0 ≡ q) × (dot ≡ 0) × HasItem parts.sgraph.now (index s.0) q 0 t))
 
 -- if the dot is 0, the set of the production is empty, and nothing is added to a set
-abbrev pub TakesStart : {S : Type 0} → (S → ℕ) → PIdx S → ℕ → List TokenSet → List TokenSet → Type 0
-TakesStart index prod dot old new =
+abbrev pub ClearsStart : {S : Type 0} → (S → ℕ) → PIdx S → ℕ → List TokenSet → List TokenSet → Type 0
+ClearsStart index prod dot old new =
     (q t : ℕ) → IsTrue (has (row_at (rows_of new) q) t) → IsTrue (has (row_at (rows_of old) q) t) × (index prod.0 ≡ q → dot ≢ 0)
 
 -- the lookaheads of the state's items with this core are added to the set, and nothing else is

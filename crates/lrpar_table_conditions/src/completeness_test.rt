@@ -38,7 +38,7 @@ pub fn check_complete<StorageT: StorageIndex>(
     let firsts = first_sets(alloc, grm)?;
     let mut sets = WorkSets::new(alloc, grm.prods_len(), grm.tokens_len() + 1)?;
     let checked = Completeness::new(grm, sgraph, stable, &firsts);
-    match checked.first_fault(&mut sets) {
+    match checked.find_first_fault(&mut sets) {
         None => Ok(()),
         Some((condition, state)) => Err(CompleteFault::Condition(condition, state)),
     }
@@ -74,13 +74,16 @@ impl<'a, StorageT: StorageIndex> Completeness<'a, StorageT> {
     }
 
     /// The first condition that fails, and the lowest state at which it fails. `sets` is scratch space.
-    pub(crate) fn first_fault(&self, sets: &mut WorkSets) -> Option<(CompletenessCondition, usize)>
+    pub(crate) fn find_first_fault(
+        &self,
+        sets: &mut WorkSets,
+    ) -> Option<(CompletenessCondition, usize)>
         requires known { IsTestable self.now }
         requires ready { IsReadyWith self.now sets.old }
         ensures { IsFirstFaultIn self.now result }
     {
         for condition in CompletenessCondition::ALL {
-            if let Some(state) = self.first_incomplete(condition, sets) {
+            if let Some(state) = self.find_incomplete(condition, sets) {
                 return Some((condition, state));
             }
         }
@@ -88,7 +91,7 @@ impl<'a, StorageT: StorageIndex> Completeness<'a, StorageT> {
     }
 
     // The lowest state at which the condition fails.
-    fn first_incomplete(
+    fn find_incomplete(
         &self,
         condition: CompletenessCondition,
         sets: &mut WorkSets,
@@ -148,7 +151,7 @@ impl<'a, StorageT: StorageIndex> Completeness<'a, StorageT> {
     {
         self.put_starts(s, &mut sets.starts);
         let closed = self.closes_each(s, sets);
-        self.take_starts(s, &mut sets.starts);
+        self.clear_starts(s, &mut sets.starts);
         closed
     }
 

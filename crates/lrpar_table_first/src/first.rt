@@ -17,7 +17,7 @@ pub fn first_sets<StorageT: StorageIndex>(
 ) -> Result<Vec<TokenSet>, AllocError>
     ensures { IfOk result (HaveFirsts grm.now) }
 {
-    let _start = grm.start_prod();
+    let _lemma = grm.start_prod();
     let mut sets = empty_sets(alloc, grm)?;
     let mut front = TokenSet::new(alloc, grm.tokens_len() + 1)?;
     'passes: while grow_all(grm, &mut sets, &mut front) {}

@@ -10,7 +10,7 @@ use Rattle.lrpar_table_rows.specs.Graph.{ItemOf}
 use Rattle.lrpar_table_items.specs.Canonical.{AreSame}
 use Rattle.lrpar_table_items.specs.Cores.{CoreSet, IsAmong}
 use Rattle.lrpar_table_first.specs.FirstRows.{dummy_lookahead}
-use Rattle.lrpar_table_items.specs.CoreOrder.{AreCores, AreCoresInOrder, ComesBefore, IsFilled, IsListedBefore, Precedes}
+use Rattle.lrpar_table_items.specs.CoreOrder.{AreCores, AreCoresInOrder, ComesBefore, IsFilled, IsProdBefore, Precedes}
 use Rattle.lrpar_grammar.specs.Tokens.{has}
 use Rattle.lrpar_table_items.specs.Resolution.{AreOnce}
 use Rattle.lrpar_table_items.proofs.CoreLemmas.{among_cons, among_nil, core_is}
@@ -45,7 +45,7 @@ module _ (g : Grammar) where
             ]
       ]
 
-  listed_asymmetric : (p q : ℕ) → IsListedBefore g p q → IsListedBefore g q p → ⊥
+  listed_asymmetric : (p q : ℕ) → IsProdBefore g p q → IsProdBefore g q p → ⊥
   listed_asymmetric p q h back =
       elim h [
         | inl less ↦

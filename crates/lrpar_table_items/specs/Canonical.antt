@@ -96,7 +96,7 @@ IsShiftConflict g sets x = HasAfterDot g sets x.state (Terminal x.token) × HasF
 abbrev pub IsUnresolvedConflict : Grammar → PrecedenceLists → (ℕ → ItemOf → Type 0) → ShiftReduce → Type 0
 IsUnresolvedConflict g lists sets x = IsShiftConflict g sets x × (resolution_of lists x.prod x.token ≡ None)
 
--- a shift/reduce conflict that they resolve, and how
+-- a shift/reduce conflict that precedences resolve, and how
 abbrev pub IsResolvedConflict : Grammar → PrecedenceLists → (ℕ → ItemOf → Type 0) → ResolvedOf → Type 0
 IsResolvedConflict g lists sets x = IsShiftConflict g sets x.conflict × (resolution_of lists x.conflict.prod x.conflict.token ≡ Some x.by)
 

@@ -7,13 +7,13 @@ use Rattle.lrpar_table_first.specs.FirstRows.{dummy_lookahead}
 use Rattle.lrpar_table_items.specs.Cores.{CoreSet, IsCoreOf}
 
 -- production p is listed before q: by their rules, and those of one rule by their numbers
-abbrev pub IsListedBefore : Grammar → ℕ → ℕ → Type 0
-IsListedBefore g p q = (rule_of g p < rule_of g q) ⊎ ((rule_of g p ≡ rule_of g q) × (p < q))
+abbrev pub IsProdBefore : Grammar → ℕ → ℕ → Type 0
+IsProdBefore g p q = (rule_of g p < rule_of g q) ⊎ ((rule_of g p ≡ rule_of g q) × (p < q))
 
 -- production p with k symbols before the dot comes before production q with l: k is greater, or they are equal and p is listed
 -- before q. A goto advances all dots by one, so the order stays
 abbrev pub Precedes : Grammar → ℕ → ℕ → ℕ → ℕ → Type 0
-Precedes g p k q l = (l < k) ⊎ ((k ≡ l) × IsListedBefore g p q)
+Precedes g p k q l = (l < k) ⊎ ((k ≡ l) × IsProdBefore g p q)
 
 -- one core comes before the other
 abbrev pub ComesBefore : Grammar → CoreSet → CoreSet → Type 0

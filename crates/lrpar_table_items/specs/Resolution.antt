@@ -90,7 +90,7 @@ abbrev pub shift_conflicts : Grammar → List CoreSet → List (ℕ × ℕ) → 
 shift_conflicts g cores shifts s =
     flat_map (λ t. shift_conflicts_at s t (lookup (nat_eq t) shifts) (reductions g cores t)) (range_with_len 0 (tokens_len g))
 
--- those of the conflicts that precedences don't resolve
+-- the conflicts that precedences don't resolve
 abbrev pub unresolved : PrecedenceLists → List ShiftReduce → List ShiftReduce
 unresolved lists conflicts = filter (λ (x : ShiftReduce). is_none (resolution_of lists x.prod x.token)) conflicts
 
@@ -98,7 +98,7 @@ unresolved lists conflicts = filter (λ (x : ShiftReduce). is_none (resolution_o
 abbrev pub resolution_with : PrecedenceLists → ShiftReduce → Option ResolvedOf
 resolution_with lists x = option_map (λ by. record { conflict = x; by = by }) (resolution_of lists x.prod x.token)
 
--- those of the conflicts that they resolve, and how
+-- the conflicts that precedences resolve, and how
 abbrev pub resolutions : PrecedenceLists → List ShiftReduce → List ResolvedOf
 resolutions lists conflicts = filter_map (resolution_with lists) conflicts
 

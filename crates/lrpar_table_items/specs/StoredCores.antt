@@ -55,7 +55,7 @@ module _ {S : Type 0} (index : S → ℕ) where
   abbrev pub IsStartKernel : {A : Type 0} → Grammar → Vec (CoreItems S) A → Type 0
   IsStartKernel g kernel = (x : ItemOf) → IsAmong (map (core_set index) kernel.items) x ↔ IsStartItem g x
 
-  -- both are the same core, with the same lookaheads
+  -- both values are the same core, with the same lookaheads
   abbrev pub IsSameCore : CoreItems S → CoreItems S → Type 0
   IsSameCore core other = core_set index core ≡ core_set index other
 

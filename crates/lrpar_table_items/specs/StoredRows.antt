@@ -79,7 +79,7 @@ module _ {S : Type 0} (index : S → ℕ) where
   abbrev pub cores_at : List (Bor (CoreItems S)) → List CoreSet
   cores_at cores = map (λ core. core_set index core.now) cores
 
-  -- those of the cores that are complete, in any order
+  -- these are the complete ones of the cores, in any order
   abbrev pub AreComplete : {A : Type 0} → Grammar → List (CoreItems S) → Vec (Bor (CoreItems S)) A → Type 0
   AreComplete g cores complete =
       IsPermutation (filter (λ core. core.dot == prod_len g core.prod) (map (core_set index) cores)) (cores_at complete.items)
@@ -148,12 +148,13 @@ module _ {S : Type 0} (index : S → ℕ) where
       ≡ map (action_entry index) old.items
       ++ entry_at (index token.0) (resolved (decides_at lists (index token.0)) (plain_goto index shift) (prod_numbers index prods) accepts)
 
-  -- the same, where there is a shift: accept doesn't matter
+  -- the action at a token with a shift was appended, unless it is an error: what conflict resolution gives by the precedences; accept
+  -- doesn't matter
   abbrev pub AppendsShifted : {A B : Type 0} → PrecedenceLists → TIdx S → StIdx S → List (PIdx S) → Vec (TIdx S × Action S) A
       → Vec (TIdx S × Action S) B → Type 0
   AppendsShifted lists token next prods old new = (accepts : Bool) → AppendsAction lists token (Some next) prods accepts old new
 
-  -- the same, where there is no shift: what precedences decide doesn't matter
+  -- the action at a token without a shift was appended, unless it is an error: what conflict resolution gives, whatever precedences decide
   abbrev pub AppendsUnshifted : {A B : Type 0} → TIdx S → List (PIdx S) → Bool → Vec (TIdx S × Action S) A → Vec (TIdx S × Action S) B
       → Type 0
   AppendsUnshifted token prods accepts old new =

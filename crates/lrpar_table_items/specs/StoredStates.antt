@@ -22,7 +22,7 @@ use Rattle.lrpar_table_items.specs.declared.fault.BuildFault.{BuildFault}
 use Rattle.lrpar_table_items.specs.declared.item_set.State.{State}
 use Rattle.lrpar_table_items.specs.declared.successors.Successors.{Successors}
 
--- there are at most n
+-- there are at most n states
 abbrev pub HasAtMost : {X A : Type 0} → ℕ → Vec X A → Type 0
 HasAtMost n xs = length xs.items ≤ n
 

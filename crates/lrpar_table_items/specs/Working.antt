@@ -43,7 +43,7 @@ IsClosureOfBrought g old new = (r t : ℕ) → HasIn (brought_rows new) r t ↔ 
 abbrev pub AllRest : Grammar → Sets → Type 0
 AllRest g sets = (n : ℕ) → n < rules_len g → Rests sets n
 
--- the same rules wait
+-- the rules that wait are those that waited before
 abbrev pub WaitAsBefore : Sets → Sets → Type 0
 WaitAsBefore old new = new.waits.items ≡ old.waits.items
 

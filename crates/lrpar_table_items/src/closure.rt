@@ -18,7 +18,7 @@ use std::alloc::{AllocError, Global};
 
 /// The closure of the kernel: its cores themselves; and each production, with its dot at the start, of each rule that the closure adds, with
 /// the rule's lookaheads.
-pub fn closed<StorageT: StorageIndex>(
+pub fn close_kernel<StorageT: StorageIndex>(
     alloc: Global,
     grm: &YaccGrammar<StorageT>,
     sets: &mut Sets,

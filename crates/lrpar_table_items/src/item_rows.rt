@@ -2,8 +2,8 @@
 ghost use Rattle.std.specs.Prelude.{IfOk};
 ghost use Rattle.lrpar_table_items.specs.StoredRows.{AreItemSets};
 
-use crate::item_set::State;
 use crate::items::core_rows;
+use crate::item_set::State;
 use lrpar_grammar::grammar::YaccGrammar;
 use lrpar_grammar::span::StorageIndex;
 use lrpar_table_rows::table::ItemSet;

@@ -20,7 +20,7 @@ use std::alloc::Global;
 /// item calls for a shift there; and `Memory` if an allocation fails. After an `Err` some of the conflicts were appended. It takes
 /// time proportional to the number of tokens times the number of complete cores.
 #[tactic(auto, using(lrpar_grammar_places::proofs::FaultLemmas::no_value))]
-pub fn state_row<StorageT: StorageIndex>(
+pub fn make_state_row<StorageT: StorageIndex>(
     alloc: Global,
     grm: &YaccGrammar<StorageT>,
     precedences: &Precedences,

@@ -9,11 +9,11 @@ ghost use Rattle.lrpar_table_items.specs.StoredCores.{IsKernelOf, IsStartKernel}
 ghost use Rattle.lrpar_table_items.specs.StoredStates.{AreAllSteps, AreNumberedOn, AreStartKernels, AreStatesOf, AreStepsBy, HasAtMost, IsReachedSet, IsSetAt, IsStartCoreOf, IsStateAt, IsStepFaultOf, StepsTo};
 ghost use Rattle.lrpar_table_items.specs.Working.{AreSets};
 
-use crate::closure::closed;
+use crate::closure::close_kernel;
 use crate::cores::CoreItems;
 use crate::fault::BuildFault;
-use crate::item_set::State;
 use crate::kernels::Kernels;
+use crate::item_set::State;
 use crate::numbers::number;
 use crate::sets::Sets;
 use crate::successors::Successors;
@@ -39,11 +39,11 @@ pub fn states<StorageT: StorageIndex>(
 {
     let mut sets = Sets::new(alloc, grm)?;
     let mut kernels = start_kernels(alloc, grm, max_states)?;
-    all_states(alloc, grm, max_states, &mut sets, &mut kernels)
+    make_states(alloc, grm, max_states, &mut sets, &mut kernels)
 }
 
 // The states of these kernels, and of all kernels to which these lead.
-fn all_states<StorageT: StorageIndex>(
+fn make_states<StorageT: StorageIndex>(
     alloc: Global,
     grm: &YaccGrammar<StorageT>,
     max_states: usize,
@@ -60,7 +60,7 @@ fn all_states<StorageT: StorageIndex>(
 {
     let mut states = Vec::new(alloc);
     'states: while states.len() < kernels.len() {
-        let state = expanded(alloc, grm, max_states, sets, states.len(), kernels)?;
+        let state = expand(alloc, grm, max_states, sets, states.len(), kernels)?;
         states.push(state)?;
     }
     Ok(states)
@@ -117,7 +117,7 @@ fn start_core<StorageT: StorageIndex>(
 
 // The state of the kernel with this number. Kernels to which it goes and that are new get numbers.
 #[tactic(auto, using(lrpar_grammar_places::proofs::FaultLemmas::no_value))]
-fn expanded<StorageT: StorageIndex>(
+fn expand<StorageT: StorageIndex>(
     alloc: Global,
     grm: &YaccGrammar<StorageT>,
     max_states: usize,
@@ -133,8 +133,8 @@ fn expanded<StorageT: StorageIndex>(
     ensures state { IfOk result (IsStateAt StorageT.index grm.now max_states StorageT.limit kernels.old kernels.new number) }
     ensures fault { IfErr result (IsFaultOfStates grm.now max_states StorageT.limit) }
 {
-    let successors = item_set(alloc, grm, sets, number, kernels)?;
-    let (gotos, shifts) = all_steps(alloc, grm, max_states, &successors, kernels)?;
+    let successors = make_item_set(alloc, grm, sets, number, kernels)?;
+    let (gotos, shifts) = make_steps(alloc, grm, max_states, &successors, kernels)?;
     Ok(State {
         items: successors.items,
         gotos,
@@ -144,7 +144,7 @@ fn expanded<StorageT: StorageIndex>(
 
 // The closure of the kernel with this number, and the kernels to which it goes.
 #[tactic(auto, using(lrpar_grammar_places::proofs::FaultLemmas::no_value))]
-fn item_set<StorageT: StorageIndex>(
+fn make_item_set<StorageT: StorageIndex>(
     alloc: Global,
     grm: &YaccGrammar<StorageT>,
     sets: &mut Sets,
@@ -159,7 +159,7 @@ fn item_set<StorageT: StorageIndex>(
     ensures set { IfOk result (IsSetAt StorageT.index grm.now kernels.now number) }
 {
     let kernel = kernels.kernel(alloc, number)?;
-    let items = closed(alloc, grm, sets, kernel)?;
+    let items = close_kernel(alloc, grm, sets, kernel)?;
     Successors::new(alloc, grm, items)
 }
 
@@ -235,7 +235,7 @@ impl<StorageT: StorageIndex> SymbolKind<StorageT> for TIdx<StorageT> {
 
 // The transitions of the item set by rules, and those by tokens.
 #[tactic(auto, using(lrpar_grammar_places::proofs::FaultLemmas::no_value))]
-fn all_steps<StorageT: StorageIndex>(
+fn make_steps<StorageT: StorageIndex>(
     alloc: Global,
     grm: &YaccGrammar<StorageT>,
     max_states: usize,
@@ -254,13 +254,17 @@ fn all_steps<StorageT: StorageIndex>(
     ensures steps { IfOk result (AreAllSteps StorageT.index grm.now max_states StorageT.limit kernels.old kernels.new successors.now) }
     ensures fault { IfErr result (IsFaultOfStates grm.now max_states StorageT.limit) }
 {
-    let gotos = steps::<StorageT, RIdx<StorageT>>(alloc, grm, max_states, successors, kernels)?;
-    let shifts = steps::<StorageT, TIdx<StorageT>>(alloc, grm, max_states, successors, kernels)?;
+    let gotos = make_steps_by::<StorageT, RIdx<StorageT>>(
+        alloc, grm, max_states, successors, kernels,
+    )?;
+    let shifts = make_steps_by::<StorageT, TIdx<StorageT>>(
+        alloc, grm, max_states, successors, kernels,
+    )?;
     Ok((gotos, shifts))
 }
 
 // The transitions of the item set by the symbols of one kind, ascending.
-fn steps<StorageT: StorageIndex, SymbolT: SymbolKind<StorageT>>(
+fn make_steps_by<StorageT: StorageIndex, SymbolT: SymbolKind<StorageT>>(
     alloc: Global,
     grm: &YaccGrammar<StorageT>,
     max_states: usize,

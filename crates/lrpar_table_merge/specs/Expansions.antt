@@ -17,7 +17,7 @@ pub record IsExpanded {S : Type 0} (index : S → ℕ) (g : Grammar) (kernel : L
   pub items : AreSame (IsAmong (map (core_set index) successors.items.items)) (IsInClosure g (IsAmong kernel))
   pub next : AreSuccessors index g successors
 
--- those of its own kernel
+-- the expansion has the closure of its own kernel, and the kernels to which it goes
 abbrev pub IsExpansionOf : {S : Type 0} → (S → ℕ) → Grammar → Expansion S → Type 0
 IsExpansionOf index g expansion = IsExpanded index g (map (core_set index) expansion.kernel.items) expansion.successors
 
@@ -26,7 +26,7 @@ pub record AreKept {S : Type 0} (index : S → ℕ) (g : Grammar) (expansions : 
   pub sets : AreSets g expansions.sets
   pub all : All (IsExpansionOf index g) expansions.all.items
 
--- those of the kernel are at the place
+-- at the place are the closure of the kernel, and the kernels to which it goes
 pub record IsExpandedAt {S : Type 0} (index : S → ℕ) (g : Grammar) (all : List (Expansion S)) (kernel : List CoreSet) (place : ℕ) : Type 0 where
   pub low : place < length all
   pub is : (d : Expansion S) → IsExpanded index g kernel (slice_index_or all place d).successors
@@ -36,8 +36,8 @@ abbrev pub IsKeptAt : {S : Type 0} → (S → ℕ) → Grammar → Expansions S 
 IsKeptAt index g expansions kernel place = IsExpandedAt index g expansions.all.items (map (core_set index) kernel) place
 
 -- if each item set is that of its kernel, the one of this kernel is at the place
-abbrev pub IsPlaceOf : {S : Type 0} → (S → ℕ) → Expansions S → List (CoreItems S) → ℕ → Type 0
-IsPlaceOf index expansions kernel place = (g : Grammar) → All (IsExpansionOf index g) expansions.all.items → IsKeptAt index g expansions kernel place
+abbrev pub IsIndexOf : {S : Type 0} → (S → ℕ) → Expansions S → List (CoreItems S) → ℕ → Type 0
+IsIndexOf index expansions kernel place = (g : Grammar) → All (IsExpansionOf index g) expansions.all.items → IsKeptAt index g expansions kernel place
 
 -- these are the closure and the kernels of any kernel whose place this is
 abbrev pub IsReadAt : {S : Type 0} → (S → ℕ) → Expansions S → ℕ → Successors S → Type 0

@@ -20,7 +20,7 @@ MergedTablesByPrecedencesAreSafe =
     (g : Grammar) (lists : PrecedenceLists) (graph : Graph) (table : Table) (steps : ℕ → GrammarSymbol → Option ℕ) → IsWellFormed g
     → AreMerged g (graph_len graph) (sets_of graph) (Along steps) → IsMergedTableBy g lists graph table (Along steps) → IsSafe g graph table
 
--- and it is viable
+-- a table of merged item sets is viable, whatever precedences resolve its conflicts
 abbrev pub MergedTablesByPrecedencesAreViable : Type 0
 MergedTablesByPrecedencesAreViable =
     (g : Grammar) (lists : PrecedenceLists) (graph : Graph) (table : Table) (steps : ℕ → GrammarSymbol → Option ℕ)
@@ -36,13 +36,13 @@ MergedByNoneIsMerged =
     (g : Grammar) (lists : PrecedenceLists) (graph : Graph) (table : Table) → DecideNothing lists
     → IsMergedBy g lists graph table ↔ (IsMerged g graph table × (table.resolved ≡ []))
 
--- a table that is built of a grammar and precedences is a merged one
+-- a table that is built of a grammar and precedences is one of merged item sets
 abbrev pub BuiltByTablesAreMergedBy : Type 0
 BuiltByTablesAreMergedBy =
     (g : Grammar) (lists : PrecedenceLists) (graph : Graph) (table : Table) → IsWellFormed g → IsBuiltBy g lists graph table
     → IsMergedBy g lists graph table
 
--- its conflicts fit the grammar, those that the precedences don't resolve and those that they do
+-- the conflicts of a table of merged item sets fit the grammar, those that the precedences don't resolve and those that they do
 abbrev pub MergedConflictsByFit : Type 0
 MergedConflictsByFit =
     (g : Grammar) (lists : PrecedenceLists) (graph : Graph) (table : Table) → IsWellFormed g → IsMergedBy g lists graph table

@@ -19,7 +19,7 @@ CanonicalSetsAreMerged =
     (g : Grammar) (graph : Graph) → IsWellFormed g → IsCanonical g graph
     → AreMerged g (graph_len graph) (sets_of graph) (CanonicalGoes g (graph_len graph) (sets_of graph))
 
--- so a table that is built of a grammar is a merged one
+-- a table that is built of a grammar is one of merged item sets
 abbrev pub BuiltTablesAreMerged : Type 0
 BuiltTablesAreMerged = (g : Grammar) (graph : Graph) (table : Table) → IsWellFormed g → IsBuilt g graph table → IsMerged g graph table
 
@@ -29,18 +29,18 @@ MergedTablesAreSafe =
     (g : Grammar) (graph : Graph) (table : Table) (steps : ℕ → GrammarSymbol → Option ℕ) → IsWellFormed g
     → AreMerged g (graph_len graph) (sets_of graph) (Along steps) → IsMergedTable g graph table (Along steps) → IsSafe g graph table
 
--- and it is viable
+-- a table of merged item sets is viable
 abbrev pub MergedTablesAreViable : Type 0
 MergedTablesAreViable =
     (g : Grammar) (graph : Graph) (table : Table) (steps : ℕ → GrammarSymbol → Option ℕ)
     → AreMerged g (graph_len graph) (sets_of graph) (Along steps) → IsMergedTable g graph table (Along steps) → IsViable g graph table
 
--- it is complete if and only if it has no conflicts
+-- a table of merged item sets is complete if and only if it has no conflicts
 abbrev pub MergedTablesAreCompleteWithoutConflicts : Type 0
 MergedTablesAreCompleteWithoutConflicts =
     (g : Grammar) (graph : Graph) (table : Table) → IsWellFormed g → IsMerged g graph table → IsComplete g graph table ↔ (table.conflicts ≡ None)
 
--- its conflicts fit the grammar
+-- the conflicts of a table of merged item sets fit the grammar
 abbrev pub MergedConflictsFit : Type 0
 MergedConflictsFit =
     (g : Grammar) (graph : Graph) (table : Table) → IsWellFormed g → IsMerged g graph table → ConflictsFit g (lists_in table.conflicts)

@@ -11,7 +11,7 @@ use Rattle.lrpar_table_merge.specs.declared.held.Transitions.{Transitions}
 abbrev pub transitions_of : Transitions → TransitionsOf
 transitions_of transitions = record { rules = transitions.rules.items; tokens = transitions.tokens.items }
 
--- those of all states
+-- the transitions of all states
 abbrev pub all_transitions : List Transitions → List TransitionsOf
 all_transitions all = map transitions_of all
 

@@ -13,7 +13,7 @@ pub record IsBeginning (g : Grammar) (kernel : List CoreSet) : Type 0 where
   pub of_grammar : All (IsCoreOf g) kernel
   pub filled : (x : ItemOf) → IsAmong kernel x → IsKernel g kernel
 
--- each of the lists does so
+-- each list has cores of the grammar, and is a kernel as soon as it has an item
 abbrev pub AreBeginnings : Grammar → List (List CoreSet) → Type 0
 AreBeginnings g kernels = All (IsBeginning g) kernels
 

@@ -11,7 +11,7 @@ use Rattle.lrpar_table_merge.specs.Held.{GoesBy, IsHeld}
 use Rattle.lrpar_table_merge.specs.MergedStates.{all_transitions}
 use Rattle.lrpar_table_merge.specs.Misfits.{HasMisfitIn, HasNoStart, IsFaultOfHeld, IsStuck, IsStuckAt}
 use Rattle.lrpar_table_merge.specs.PassedOn.{IsMisfit, IsPassedTo, all_missing}
-use Rattle.lrpar_table_merge.specs.Propagated.{AreAdded, AreNoneOrKernels, ArePassedAlong, ArePropagated, HasGrown, HasSettled, HaveBegun, IsNoneOrKernel, IsPassedAlong, IsRoundTo, LeadOn}
+use Rattle.lrpar_table_merge.specs.Propagated.{AreAdded, AreNoneOrKernels, ArePassedAlong, ArePropagated, HasGrown, IsPassedOn, HaveBegun, IsNoneOrKernel, IsPassedAlong, IsRoundTo, LeadOn}
 use Rattle.lrpar_table_merge.specs.StoredKernels.{AreKernelsIfFilled, IsKernelOf, StayAlike}
 use Rattle.lrpar_table_merge.specs.declared.held.HeldFault.{HeldFault}
 use Rattle.lrpar_table_merge.specs.declared.held.HeldFault.TheVariants.{Misfit}
@@ -30,16 +30,16 @@ module _ {S : Type 0} (index : S → ℕ) where
   abbrev pub ShareGrammarAll : {A : Type 0} → List (Vec (CoreItems S) A) → List (Vec (CoreItems S) A) → Type 0
   ShareGrammarAll kernels nexts = (g : Grammar) × AreKernelsIfFilled index g kernels × AreNoneOrKernels g (kernel_rows index nexts)
 
-  -- lists that are kernels as soon as they have an item still are so, if the other list is a kernel
+  -- if the other list is a kernel, each list is still a kernel as soon as it has an item
   abbrev pub StayKernels : {A : Type 0} → List (Vec (CoreItems S) A) → List (CoreItems S) → List (Vec (CoreItems S) A) → Type 0
   StayKernels old next new = (g : Grammar) → AreKernelsIfFilled index g old → IsKernelOf index g next → AreKernelsIfFilled index g new
 
-  -- lists that are kernels as soon as they have an item still are so, if the other list is a kernel or has no cores
+  -- if the other list is a kernel or has no cores, each list is still a kernel as soon as it has an item
   abbrev pub StayKernelsIfAny : {A : Type 0} → List (Vec (CoreItems S) A) → List (CoreItems S) → List (Vec (CoreItems S) A) → Type 0
   StayKernelsIfAny old next new =
       (g : Grammar) → AreKernelsIfFilled index g old → IsNoneOrKernel g (map (core_set index) next) → AreKernelsIfFilled index g new
 
-  -- lists that are kernels as soon as they have an item still are so, if each of the others is a kernel or has no cores
+  -- if each of the other lists is a kernel or has no cores, each list is still a kernel as soon as it has an item
   abbrev pub StayKernelsAll : {A : Type 0} → List (Vec (CoreItems S) A) → List (Vec (CoreItems S) A) → List (Vec (CoreItems S) A) → Type 0
   StayKernelsAll old nexts new =
       (g : Grammar) → AreKernelsIfFilled index g old → AreNoneOrKernels g (kernel_rows index nexts) → AreKernelsIfFilled index g new
@@ -72,7 +72,7 @@ module _ {S : Type 0} (index : S → ℕ) where
   abbrev pub PassesRow : {A : Type 0} → List (Option ℕ) → List (Vec (CoreItems S) A) → List (Vec (CoreItems S) A) → List (Vec (CoreItems S) A) → Type 0
   PassesRow row nexts old new = ArePassedAlong row (kernel_rows index nexts) (length nexts) (kernel_rows index old) (kernel_rows index new)
 
-  -- items were only added, and each state that got any waits; those that waited still do
+  -- items were only added; each state that got some waits, and each state that waited still waits
   abbrev pub AddsItems : {A : Type 0} → List (Vec (CoreItems S) A) → List Bool → List (Vec (CoreItems S) A) → List Bool → Type 0
   AddsItems old waited new waits = AreAdded (kernel_rows index old) waited (kernel_rows index new) waits
 
@@ -104,7 +104,7 @@ module _ {S : Type 0} (index : S → ℕ) where
   pub record HasPassedOn {A : Type 0} (g : Grammar) (all : List Transitions) (state : ℕ) (old : List (Vec (CoreItems S) A)) (waited : List Bool)
       (new : List (Vec (CoreItems S) A)) (waits : List Bool) (grown : Bool) : Type 0 where
     pub goes_on : HasGoneOn g all old new waits
-    pub settled : HasSettled state (kernel_rows index old) waited (kernel_rows index new) waits grown
+    pub settled : IsPassedOn state (kernel_rows index old) waited (kernel_rows index new) waits grown
 
   -- whether kernels have grown in a round: then they lack fewer tokens than before; otherwise they are as before, and no state waits
   abbrev pub EndsRound : {A : Type 0} → List (Vec (CoreItems S) A) → List (Vec (CoreItems S) A) → List Bool → Bool → Type 0

@@ -17,7 +17,7 @@ use Rattle.lrpar_table_merge.specs.PassedOn.{AreBeginnings, all_missing}
 abbrev pub IsNoneOrKernel : Grammar → List CoreSet → Type 0
 IsNoneOrKernel g kernel = 0 < length kernel → IsKernel g kernel
 
--- each of the lists is
+-- each of the lists has no cores, or is a kernel
 abbrev pub AreNoneOrKernels : Grammar → List (List CoreSet) → Type 0
 AreNoneOrKernels g kernels = (n : ℕ) → IsNoneOrKernel g (kernel_at kernels n)
 
@@ -34,7 +34,7 @@ pub record AreAlike (before after : List (List CoreSet)) : Type 0 where
   pub len : length after ≡ length before
   pub cores : (s : ℕ) → HaveSameCores (kernel_at after s) (kernel_at before s)
 
--- items were only added, and each state that got any waits; those that waited still do
+-- items were only added; each state that got some waits, and each state that waited still waits
 pub record AreAdded (before : List (List CoreSet)) (waited : List Bool) (after : List (List CoreSet)) (waits : List Bool) : Type 0 where
   pub alike : AreAlike before after
   pub kept : (s : ℕ) (x : ItemOf) → IsAmong (kernel_at before s) x → IsAmong (kernel_at after s) x
@@ -48,8 +48,8 @@ HasGrown before waited after waits grown =
 
 -- whether kernels have grown as a state was passed on: then they lack fewer tokens than before; otherwise they are as before, and the state
 -- doesn't wait, nor does any that didn't
-abbrev pub HasSettled : ℕ → List (List CoreSet) → List Bool → List (List CoreSet) → List Bool → Bool → Type 0
-HasSettled state before waited after waits grown =
+abbrev pub IsPassedOn : ℕ → List (List CoreSet) → List Bool → List (List CoreSet) → List Bool → Bool → Type 0
+IsPassedOn state before waited after waits grown =
     OnTrue grown (all_missing after < all_missing before)
     × OnFalse grown ((after ≡ before) × (has waits state ≡ false) × ((s : ℕ) → has waited s ≡ false → has waits s ≡ false))
 

@@ -35,7 +35,7 @@ module _ {S : Type 0} (index : S → ℕ) where
   abbrev pub IsSameCore : CoreItems S → CoreItems S → Type 0
   IsSameCore core other = lr0_core (core_set index core) ≡ lr0_core (core_set index other)
 
-  -- a core of a grammar is still one of it
+  -- a core of a grammar is still a core of that grammar
   abbrev pub StaysCore : CoreItems S → CoreItems S → Type 0
   StaysCore old new = (g : Grammar) → IsCoreOf g (core_set index old) → IsCoreOf g (core_set index new)
 
@@ -47,7 +47,7 @@ module _ {S : Type 0} (index : S → ℕ) where
   abbrev pub AreEqualCores : List (CoreItems S) → List (CoreItems S) → Type 0
   AreEqualCores kernel other = map (core_set index) kernel ≡ map (core_set index) other
 
-  -- cores of a grammar are still cores of it
+  -- cores of a grammar are still cores of that grammar
   abbrev pub StayCores : List (CoreItems S) → List (CoreItems S) → Type 0
   StayCores old new = (g : Grammar) → All (IsCoreOf g) (map (core_set index) old) → All (IsCoreOf g) (map (core_set index) new)
 
@@ -63,7 +63,7 @@ module _ {S : Type 0} (index : S → ℕ) where
   abbrev pub IsKernelOf : Grammar → List (CoreItems S) → Type 0
   IsKernelOf g kernel = IsKernel g (map (core_set index) kernel)
 
-  -- a kernel of a grammar is still one of it
+  -- a kernel of a grammar is still a kernel of that grammar
   abbrev pub StaysKernel : List (CoreItems S) → List (CoreItems S) → Type 0
   StaysKernel old new = (g : Grammar) → IsKernelOf g old → IsKernelOf g new
 
@@ -96,7 +96,7 @@ module _ {S : Type 0} (index : S → ℕ) where
   abbrev pub HaveCores : {A : Type 0} → Grammar → List (Vec (CoreItems S) A) → Type 0
   HaveCores g kernels = AreCoreRows g (kernel_rows index kernels)
 
-  -- lists with cores of a grammar still have cores of it
+  -- lists with cores of a grammar still have cores of that grammar
   abbrev pub KeepCores : {A : Type 0} → List (Vec (CoreItems S) A) → List (Vec (CoreItems S) A) → Type 0
   KeepCores old new = (g : Grammar) → HaveCores g old → HaveCores g new
 

@@ -73,6 +73,6 @@ module _ {S : Type 0} (index : S → ℕ) where
   IsCompatibleWith merging kernel number =
       AreWeaklyCompatible (kernel_at (kernels_of index merging.states.items) number) (map (core_set index) kernel)
 
-  -- if each state has a kernel of a grammar, each of the lists has cores of it
+  -- if each state has a kernel of a grammar, each of the lists has cores of that grammar
   abbrev pub HaveCoresOf : {A : Type 0} → List (MergedState S) → List (Vec (CoreItems S) A) → Type 0
   HaveCoresOf states kernels = (g : Grammar) → All (IsKernel g) (kernels_of index states) → HaveCores index g kernels

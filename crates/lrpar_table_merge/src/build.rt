@@ -10,8 +10,8 @@ ghost use Rattle.lrpar_table_merge.specs.StoredStates.{AreStatesOf};
 
 use crate::expansions::Expansions;
 use crate::held::{HeldFault, Transitions};
+use crate::merged_states::make_merged_states;
 use crate::merge::merge;
-use crate::merged_states::merged_states;
 use crate::merged_table::table_of_merged;
 use crate::propagate::propagate;
 use lrpar_grammar::grammar::YaccGrammar;
@@ -95,10 +95,10 @@ fn states_of<StorageT: StorageIndex>(
     ensures well_formed { IsWellFormed grm.now }
     ensures fault { IfErr result IsMergeFault }
 {
-    let _start = grm.start_prod();
+    let _lemma = grm.start_prod();
     let mut expansions = Expansions::new(alloc, grm)?;
     let (mut kernels, all) = merge(alloc, grm, &mut expansions, max_states)?;
-    match settled(alloc, grm, &mut expansions, &all, &mut kernels) {
+    match states_of_kernels(alloc, grm, &mut expansions, &all, &mut kernels) {
         Ok(states) => Ok(Some(states)),
         Err(HeldFault::Misfit) => Ok(None),
         Err(HeldFault::Memory) => Err(BuildFault::Memory),
@@ -106,7 +106,7 @@ fn states_of<StorageT: StorageIndex>(
 }
 
 // The states of the kernels, whose lookaheads are worked out anew from the start.
-fn settled<StorageT: StorageIndex>(
+fn states_of_kernels<StorageT: StorageIndex>(
     alloc: Global,
     grm: &YaccGrammar<StorageT>,
     expansions: &mut Expansions<StorageT>,
@@ -121,5 +121,5 @@ fn settled<StorageT: StorageIndex>(
     ensures len { IfOk result (λ states. length states.items ≡ length kernels.old) }
 {
     propagate(alloc, grm, expansions, all, kernels)?;
-    merged_states(alloc, grm, expansions, all, kernels)
+    make_merged_states(alloc, grm, expansions, all, kernels)
 }

@@ -2,12 +2,12 @@
 ghost use Rattle.std.specs.Prelude.{◌<◌, IfOk, IfSome, length};
 ghost use Rattle.lrpar_grammar.specs.Grammar.{IsWellFormed};
 ghost use Rattle.lrpar_table_items.specs.Working.{AreSets};
-ghost use Rattle.lrpar_table_merge.specs.Expansions.{AreKept, ExpandsKernel, HasKernel, IsKeptAt, IsPlaceOf, IsReadAt};
+ghost use Rattle.lrpar_table_merge.specs.Expansions.{AreKept, ExpandsKernel, HasKernel, IsKeptAt, IsIndexOf, IsReadAt};
 ghost use Rattle.lrpar_table_merge.specs.StoredKernels.{IsKernelOf};
 
 use lrpar_grammar::grammar::YaccGrammar;
 use lrpar_grammar::span::StorageIndex;
-use lrpar_table_items::closure::closed;
+use lrpar_table_items::closure::close_kernel;
 use lrpar_table_items::cores::{CoreItems, are_same, copied};
 use lrpar_table_items::sets::Sets;
 use lrpar_table_items::successors::Successors;
@@ -67,7 +67,7 @@ impl<StorageT: StorageIndex> Expansions<StorageT> {
         if let Some(place) = self.find(kernel) {
             return Ok(place);
         }
-        let expansion = expansion_of(alloc, grm, &mut self.sets, kernel)?;
+        let expansion = find_expansion(alloc, grm, &mut self.sets, kernel)?;
         let key = copied(alloc, kernel)?;
         let place = self.all.len();
         self.all.push(expansion)?;
@@ -85,7 +85,7 @@ impl<StorageT: StorageIndex> Expansions<StorageT> {
 
     // The place of the kernel's item set, if it was made.
     fn find(&self, kernel: &[CoreItems<StorageT>]) -> Option<usize>
-        ensures { IfSome result (IsPlaceOf StorageT.index self.now kernel.now) }
+        ensures { IfSome result (IsIndexOf StorageT.index self.now kernel.now) }
     {
         let place = *self.places.get(kernel)?;
         let found = self.all.get(place)?;
@@ -98,7 +98,7 @@ impl<StorageT: StorageIndex> Expansions<StorageT> {
 }
 
 // The item set of the kernel.
-fn expansion_of<StorageT: StorageIndex>(
+fn find_expansion<StorageT: StorageIndex>(
     alloc: Global,
     grm: &YaccGrammar<StorageT>,
     sets: &mut Sets,
@@ -113,7 +113,7 @@ fn expansion_of<StorageT: StorageIndex>(
 {
     let own = copied(alloc, kernel)?;
     let copy = copied(alloc, kernel)?;
-    let items = closed(alloc, grm, sets, copy)?;
+    let items = close_kernel(alloc, grm, sets, copy)?;
     let successors = Successors::new(alloc, grm, items)?;
     Ok(Expansion {
         kernel: own,

@@ -38,7 +38,7 @@ pub struct Merging<StorageT> {
 /// The kernels of merged states and their transitions, at most `max_states` of them. A kernel goes into the first state that is weakly
 /// compatible with it, which is then worked on again; otherwise it makes a new state. States that nothing leads to any more are left out.
 ///
-/// Nothing is promised of the lookaheads and of the transitions: `propagate` and `merged_states` look at them.
+/// Nothing is promised of the lookaheads and of the transitions: `propagate` and `make_merged_states` look at them.
 pub(crate) fn merge<StorageT: StorageIndex>(
     alloc: Global,
     grm: &YaccGrammar<StorageT>,
@@ -55,8 +55,8 @@ pub(crate) fn merge<StorageT: StorageIndex>(
 {
     let mut merging = Merging::new(alloc, grm)?;
     let start = start_kernel(alloc, grm)?;
-    let _start = merging.place(alloc, grm, max_states, &start)?;
-    merging.settle(alloc, grm, expansions, max_states)?;
+    let _start = merging.merge_kernel(alloc, grm, max_states, &start)?;
+    merging.work_until_done(alloc, grm, expansions, max_states)?;
     let reached = reached(alloc, &merging.states)?;
     Ok(finished(alloc, &merging.states, &reached)?)
 }
@@ -77,7 +77,7 @@ impl<StorageT: StorageIndex> Merging<StorageT> {
     }
 
     // Works on states until none waits.
-    fn settle(
+    fn work_until_done(
         &mut self,
         alloc: Global,
         grm: &YaccGrammar<StorageT>,
@@ -148,8 +148,8 @@ impl<StorageT: StorageIndex> Merging<StorageT> {
         let place = expansions.expand(alloc, grm, &self.states[number].kernel)?;
         let successors = expansions.at(place);
         self.states[number].waits = false;
-        let rules = self.place_all(alloc, grm, max_states, &successors.rules)?;
-        let tokens = self.place_all(alloc, grm, max_states, &successors.tokens)?;
+        let rules = self.merge_kernels(alloc, grm, max_states, &successors.rules)?;
+        let tokens = self.merge_kernels(alloc, grm, max_states, &successors.tokens)?;
         if number < self.states.len() {
             self.states[number].transitions = Transitions { rules, tokens };
         }
@@ -157,7 +157,7 @@ impl<StorageT: StorageIndex> Merging<StorageT> {
     }
 
     // The states of the kernels; those of kernels without cores are none.
-    fn place_all(
+    fn merge_kernels(
         &mut self,
         alloc: Global,
         grm: &YaccGrammar<StorageT>,
@@ -174,7 +174,7 @@ impl<StorageT: StorageIndex> Merging<StorageT> {
             let next = if kernel.is_empty() {
                 None
             } else {
-                Some(self.place(alloc, grm, max_states, kernel)?)
+                Some(self.merge_kernel(alloc, grm, max_states, kernel)?)
             };
             row.push(next)?;
         }
@@ -182,7 +182,7 @@ impl<StorageT: StorageIndex> Merging<StorageT> {
     }
 
     // The state into which the kernel goes: the first that is weakly compatible with it, or a new one.
-    fn place(
+    fn merge_kernel(
         &mut self,
         alloc: Global,
         grm: &YaccGrammar<StorageT>,

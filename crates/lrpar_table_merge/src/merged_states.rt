@@ -24,7 +24,7 @@ use std::alloc::Global;
 /// is there where no item has it, or leads to state 0, to no state, or to a state with other LR(0) cores. It returns `Memory` if an
 /// allocation fails. After an `Err` no state is left, and `expansions` can be used again. For each state it takes a closure, and time
 /// proportional to the number of rules and tokens.
-pub(crate) fn merged_states<StorageT: StorageIndex>(
+pub(crate) fn make_merged_states<StorageT: StorageIndex>(
     alloc: Global,
     grm: &YaccGrammar<StorageT>,
     expansions: &mut Expansions<StorageT>,
@@ -42,14 +42,14 @@ pub(crate) fn merged_states<StorageT: StorageIndex>(
 {
     let mut states = Vec::new(alloc);
     for number in 0..kernels.len() {
-        let state = merged_state(alloc, grm, expansions, all, kernels, number)?;
+        let state = make_merged_state(alloc, grm, expansions, all, kernels, number)?;
         states.push(state)?;
     }
     Ok(states)
 }
 
 // The state of the kernel with this number.
-fn merged_state<StorageT: StorageIndex>(
+fn make_merged_state<StorageT: StorageIndex>(
     alloc: Global,
     grm: &YaccGrammar<StorageT>,
     expansions: &mut Expansions<StorageT>,
@@ -65,7 +65,7 @@ fn merged_state<StorageT: StorageIndex>(
     ensures kept { AreKept StorageT.index grm.now expansions.new }
     ensures state { IfOk result (IsStateAt StorageT.index grm.now kernels.now all.now number) }
 {
-    let place = expanded(alloc, grm, expansions, &kernels[number])?;
+    let place = expand(alloc, grm, expansions, &kernels[number])?;
     let successors = expansions.at(place);
     let items = copied(alloc, &successors.items)?;
     let none = Transitions {
@@ -82,7 +82,7 @@ fn merged_state<StorageT: StorageIndex>(
 }
 
 // Where the item set of the kernel is, if it has an item.
-fn expanded<StorageT: StorageIndex>(
+fn expand<StorageT: StorageIndex>(
     alloc: Global,
     grm: &YaccGrammar<StorageT>,
     expansions: &mut Expansions<StorageT>,

@@ -30,6 +30,6 @@ pub(crate) fn table_of_merged<StorageT: StorageIndex>(
     ensures len { IfOk result (HaveStates (length states.items)) }
     ensures refused { IfErr result (IsTableRefusal grm.now) }
 {
-    let _start = grm.start_prod();
+    let _lemma = grm.start_prod();
     state_tables(alloc, grm, precedences, states)
 }

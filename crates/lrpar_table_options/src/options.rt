@@ -119,7 +119,7 @@ impl<'a> TableOptions<'a> {
         ensures refused { IfErr result (IsUnbuiltBy self.now grm StorageT.limit) }
     {
         // The proof needs that the grammar is well-formed.
-        let _start = grm.start_prod();
+        let _lemma = grm.start_prod();
         match self.state_table(alloc, &grm) {
             Err(fault) => Err(Unbuilt::Table(fault, grm)),
             Ok((sgraph, stable)) => {

@@ -1,6 +1,1 @@
 pub mod Precedence
-pub mod Levels
-pub mod ByName
-pub mod Filled
-pub mod Stored
-pub mod Declarations

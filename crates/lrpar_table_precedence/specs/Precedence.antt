@@ -1,33 +1,34 @@
 -- What precedences decide between a shift and a reduction: yacc's rule, as in Aho, Johnson and Ullman, 'Deterministic Parsing of
 -- Ambiguous Grammars'.
-use Rattle.std.specs.Prelude.{◌≡◌, ◌≤◌, ℕ, List, [], Option, Some, None, slice_index_or}
+use Rattle.std.specs.Prelude.{ℕ, List, [], Option, Some, None, slice_index_or}
 use Rattle.std.specs.Ordering.{nat_cmp}
 use Rattle.std.specs.declared.cmp.Ordering.{Ordering}
 use Rattle.std.specs.declared.cmp.Ordering.TheVariants.{Less, Equal, Greater}
-use Rattle.lrpar_grammar.specs.Grammar.{Grammar, prods_len}
-use Rattle.lrpar_grammar_yacc.specs.declared.parts.AssocKind.{AssocKind}
-use Rattle.lrpar_grammar_yacc.specs.declared.parts.AssocKind.TheVariants.{Left, Right, Nonassoc}
+use Rattle.lrpar_table_precedence.specs.declared.precedence.AssocKind.{AssocKind}
+use Rattle.lrpar_table_precedence.specs.declared.precedence.AssocKind.TheVariants.{Left, Right, Nonassoc}
 use Rattle.lrpar_table_precedence.specs.declared.precedence.Precedence.{Precedence}
 use Rattle.lrpar_table_precedence.specs.declared.precedence.Resolution.{Resolution}
 use Rattle.lrpar_table_precedence.specs.declared.precedence.Resolution.TheVariants.{Shift, Reduce, Error}
 
--- at one level: if it associates to the left, the state reduces; if to the right, it shifts; if not at all, it is an error
+-- how a conflict is resolved if both have one level: by a reduction if it is left-associative, by the shift if it is right-associative,
+-- and to an error if it is nonassociative
 abbrev pub by_kind : AssocKind → Resolution
 by_kind Left = Reduce
 by_kind Right = Shift
 by_kind Nonassoc = Error
 
--- by how the production's level compares with the token's: the higher level wins
+-- how a conflict is resolved by the levels of the production and the token: the higher one wins, and at one level its associativity
+-- decides
 abbrev pub by_levels : Ordering → AssocKind → Resolution
 by_levels Less kind = Shift
 by_levels Equal kind = by_kind kind
 by_levels Greater kind = Reduce
 
--- a production's precedence against a token's
+-- how a production's precedence against a token's resolves a conflict
 abbrev pub against : Precedence → Precedence → Resolution
 against prod token = by_levels (nat_cmp prod.level token.level) token.kind
 
--- the same, if both have a precedence; otherwise nothing is decided
+-- what a production's precedence against a token's decides, if both have one; otherwise nothing is decided
 abbrev pub decided : Option Precedence → Option Precedence → Option Resolution
 decided (Some prod) (Some token) = Some (against prod token)
 decided (Some prod) None = None
@@ -42,17 +43,17 @@ pub record PrecedenceLists : Type 0 where
 abbrev pub no_precedences : PrecedenceLists
 no_precedences = record { tokens = []; prods = [] }
 
+-- slot n of a list; out of range, it is empty
+abbrev pub slot_at : List (Option Precedence) → ℕ → Option Precedence
+slot_at slots n = slice_index_or slots n None
+
 -- the precedence of token t
 abbrev pub token_precedence : PrecedenceLists → ℕ → Option Precedence
-token_precedence lists t = slice_index_or lists.tokens t None
+token_precedence lists t = slot_at lists.tokens t
 
 -- the precedence of production p
 abbrev pub prod_precedence : PrecedenceLists → ℕ → Option Precedence
-prod_precedence lists p = slice_index_or lists.prods p None
-
--- no production past those of the grammar has a precedence
-abbrev pub HasNoOtherProds : Grammar → PrecedenceLists → Type 0
-HasNoOtherProds g lists = (p : ℕ) → prods_len g ≤ p → prod_precedence lists p ≡ None
+prod_precedence lists p = slot_at lists.prods p
 
 -- p against t: how a conflict between the reduction by p and the shift of t is resolved, if it is
 abbrev pub resolution_of : PrecedenceLists → ℕ → ℕ → Option Resolution

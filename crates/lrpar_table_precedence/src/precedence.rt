@@ -1,9 +1,19 @@
 //! A precedence, and what two of them decide between a shift and a reduction.
 ghost use Rattle.std.specs.Prelude.{◌≡◌};
-ghost use Rattle.lrpar_table_precedence.specs.Precedence.{against, by_kind, decided};
+ghost use Rattle.lrpar_table_precedence.specs.Precedence.{against, by_kind, decided, slot_at};
 
-pub use lrpar_grammar::grammar::AssocKind;
 use std::cmp::Ordering;
+
+/// How the tokens of a level of precedence associate.
+#[derive(Clone, Copy, Debug, PartialEq, Eq)]
+pub enum AssocKind {
+    /// To the left, as `%left` declares: `1-2-3` is `(1-2)-3`.
+    Left,
+    /// To the right, as `%right` declares: `1=2=3` is `1=(2=3)`.
+    Right,
+    /// Not at all, as `%nonassoc` declares: `1<2<3` is an error.
+    Nonassoc,
+}
 
 /// A precedence: the number of a level, the weakest first, counted from 0, and how the tokens of that level associate.
 #[derive(Clone, Copy, Debug, PartialEq, Eq)]
@@ -46,7 +56,17 @@ fn by_association(kind: AssocKind) -> Resolution
     }
 }
 
-/// The same for precedences that may be missing: if one is, nothing is decided.
+/// The precedence in the slot with this number; `None` if it is empty or past the end.
+pub fn slot_at(slots: &[Option<Precedence>], number: usize) -> Option<Precedence>
+    ensures { result ≡ slot_at slots.now number }
+{
+    match slots.get(number) {
+        Some(precedence) => *precedence,
+        None => None,
+    }
+}
+
+/// What a production's precedence decides against a token's, if both have one; otherwise nothing is decided.
 pub fn decision(prod: Option<Precedence>, token: Option<Precedence>) -> Option<Resolution>
     ensures { result ≡ decided prod token }
 {

@@ -17,7 +17,7 @@ use Rattle.std.proofs.lemmas.List.Sorted.{searchable_from_sorted, Contains-permu
 use Rattle.std.proofs.lemmas.List.Filters.{dedup_is}
 use Rattle.std.proofs.lemmas.List.Kept.{Contains-dedup, Contains-from_dedup, IsStrictlySortedBy-dedup}
 use Rattle.std.proofs.lemmas.Map.Keys.{Less-from_sorted}
-use Rattle.lrpar_table_rows.specs.Ascending.{ComparesExactly, HaveSame, IsAscending, IsOnlyPlace}
+use Rattle.lrpar_table_rows.specs.Ascending.{ComparesExactly, HaveSame, IsAscending, IsOnlyIndex}
 
 -- what comes after isn't less
 after_not_less : {X : Type 0} {R : X → X → Ordering} → IsTotalOrder R → (x y : X) → R x y ≡ Less → is_lt (R y x) ≡ false
@@ -104,7 +104,7 @@ only_place {X} {R} o xs x i sorted within is k below at =
 
 -- a binary search finds the place of what is there
 pub place_in_row : {X : Type 0} {R : X → X → Ordering} → IsTotalOrder R → (xs : List X) (x : X) (r : Result ℕ ℕ) → IsAscending R xs
-    → IsSearchInRange r (length xs) → IsBinarySearchResult (λ y. R y x) xs r → MatchOption (result_ok r) (¬ (Contains xs x)) (IsOnlyPlace xs x)
+    → IsSearchInRange r (length xs) → IsBinarySearchResult (λ y. R y x) xs r → MatchOption (result_ok r) (¬ (Contains xs x)) (IsOnlyIndex xs x)
 place_in_row o xs x (Ok i) row within found =
     let is = row.exact (slice_index_or xs i x) x (found x) in
     record { within = within; is = is; only = only_place o xs x i row.sorted within is }

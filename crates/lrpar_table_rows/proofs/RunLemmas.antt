@@ -11,7 +11,7 @@ use Rattle.std.proofs.lemmas.List.{append-nil, append_assoc, drop_all, length-ma
 use Rattle.std.proofs.lemmas.List.Elements.{Contains-append_cases, Contains-append_left, Contains-append_right, Contains-push, Contains-push_cases, recursion_from_All, All-head, All-push, All-tail, length_all_zip}
 use Rattle.lrpar_grammar_places.specs.declared.span.PIdx.{PIdx}
 use Rattle.lrpar_grammar_places.specs.declared.span.TIdx.{TIdx}
-use Rattle.lrpar_table_rows.specs.Ascending.{HaveSame, IsOnlyPlace}
+use Rattle.lrpar_table_rows.specs.Ascending.{HaveSame, IsOnlyIndex}
 use Rattle.lrpar_table_rows.specs.Graph.{ItemOf, core_cmp, item_at, item_cmp}
 use Rattle.lrpar_table_rows.specs.PlainItems.{AreCoresOf, core_of, item_of}
 use Rattle.lrpar_table_rows.specs.Runs.{core_items, items_left, items_of_rows, run_items, tokens_of, with_core}
@@ -127,7 +127,7 @@ has_run (core ∷ cores) (run ∷ runs) (suc place) p k t below is h =
 
 -- the lookaheads of a core that is at one place are its run there
 pub run_at : {S : Type 0} (cores : List (PIdx S × ℕ)) (runs : List (List (TIdx S))) (place : ℕ) (p : PIdx S) (k : ℕ) (t : TIdx S)
-    → IsOnlyPlace cores (p, k) place → Contains (slice_index_or runs place []) t ↔ Contains (run_items cores runs) (p, k, t)
+    → IsOnlyIndex cores (p, k) place → Contains (slice_index_or runs place []) t ↔ Contains (run_items cores runs) (p, k, t)
 run_at cores runs place p k t at = (has_run cores runs place p k t at.within at.is, run_has cores runs place p k t at.only)
 
 -- the same by numbers
@@ -172,7 +172,7 @@ put_at {S} (c ∷ cores) (run ∷ runs) (suc place) core new d tokens paired bel
     (same_append (core_items c run.items) (core_items c run.items) (run_items cores (tokens_of (set runs place new))) (rest ++ more) (same_self (core_items c run.items)) later)
 
 pub put_same : {S Z : Type 0} (cores : List (PIdx S × ℕ)) (runs : List (Vec (TIdx S) Z)) (place : ℕ) (core : PIdx S × ℕ) (new d : Vec (TIdx S) Z) (tokens : List (TIdx S))
-    → length runs ≡ length cores → IsOnlyPlace cores core place → new.items ≡ (slice_index_or runs place d).items ++ tokens
+    → length runs ≡ length cores → IsOnlyIndex cores core place → new.items ≡ (slice_index_or runs place d).items ++ tokens
     → HaveSame (run_items cores (tokens_of (set runs place new))) (run_items cores (tokens_of runs) ++ core_items core tokens)
 put_same cores runs place core new d tokens paired at grown = put_at cores runs place core new d tokens paired at.within at.is grown
 

@@ -15,19 +15,19 @@ pub record IsAscending {X : Type 0} (cmp : X → X → Ordering) (xs : List X) :
   pub sorted : IsStrictlySortedBy cmp xs
   pub exact : ComparesExactly cmp
 
--- the same elements, in any order and each any number of times
+-- the lists have the same elements, in any order and each any number of times
 abbrev pub HaveSame : {X : Type 0} → List X → List X → Type 0
 HaveSame {X} xs ys = (x : X) → Contains xs x ↔ Contains ys x
 
 -- the element is at the place, and at no other
-pub record IsOnlyPlace {X : Type 0} (xs : List X) (x : X) (place : ℕ) : Type 0 where
+pub record IsOnlyIndex {X : Type 0} (xs : List X) (x : X) (place : ℕ) : Type 0 where
   pub within : place < length xs
   pub is : slice_index_or xs place x ≡ x
   pub only : (k : ℕ) → k < length xs → slice_index_or xs k x ≡ x → k ≡ place
 
 -- the only place of the element; none if it isn't there
-abbrev pub FindsOnlyPlace : {X : Type 0} → List X → X → Option ℕ → Type 0
-FindsOnlyPlace xs x found = MatchOption found (¬ (Contains xs x)) (IsOnlyPlace xs x)
+abbrev pub FindsOnlyIndex : {X : Type 0} → List X → X → Option ℕ → Type 0
+FindsOnlyIndex xs x found = MatchOption found (¬ (Contains xs x)) (IsOnlyIndex xs x)
 
 -- the elements are those that were there, and this one
 abbrev pub AddsElement : {X Z : Type 0} → X → Vec X Z → Vec X Z → Type 0

@@ -22,11 +22,11 @@ abbrev pub condition_text : SafetyCondition → List ℕ
 condition_text condition = codes "S" ++ decimal (condition_number condition)
 
 -- each condition is in the list
-pub is_listed : (condition : SafetyCondition) → Contains ALL condition
-is_listed S2 = (0, omega arith, refl)
-is_listed S3 = (1, omega arith, refl)
-is_listed S4 = (2, omega arith, refl)
-is_listed S5 = (3, omega arith, refl)
-is_listed S6 = (4, omega arith, refl)
-is_listed S7 = (5, omega arith, refl)
-is_listed S8 = (6, omega arith, refl)
+pub is_among_all : (condition : SafetyCondition) → Contains ALL condition
+is_among_all S2 = (0, omega arith, refl)
+is_among_all S3 = (1, omega arith, refl)
+is_among_all S4 = (2, omega arith, refl)
+is_among_all S5 = (3, omega arith, refl)
+is_among_all S6 = (4, omega arith, refl)
+is_among_all S7 = (5, omega arith, refl)
+is_among_all S8 = (6, omega arith, refl)

@@ -11,7 +11,7 @@ use Rattle.lrpar_table_rows.specs.Table.{ConflictLists, ReduceReduce, ResolvedOf
 abbrev pub reduce_reduce_of : {S : Type 0} → (S → ℕ) → TIdx S × PIdx S × PIdx S × StIdx S → ReduceReduce
 reduce_reduce_of index x = record { token = index x.0.0; first = index x.1.0; second = index x.2.0; state = index x.3.0 }
 
--- all of them
+-- all reduce/reduce conflicts, by their numbers
 abbrev pub reductions_of : {S : Type 0} → (S → ℕ) → List (TIdx S × PIdx S × PIdx S × StIdx S) → List ReduceReduce
 reductions_of index xs = map (reduce_reduce_of index) xs
 
@@ -23,7 +23,7 @@ AreReductions index conflicts rr = reductions_of index rr ≡ conflicts.reduce_r
 abbrev pub resolved_conflict_of : {S : Type 0} → (S → ℕ) → TIdx S × PIdx S × StIdx S × Resolution → ResolvedOf
 resolved_conflict_of index x = record { conflict = record { token = index x.0.0; prod = index x.1.0; state = index x.2.0 }; by = x.3 }
 
--- all of them
+-- all resolved conflicts, by their numbers
 abbrev pub resolved_of : {S : Type 0} → (S → ℕ) → List (TIdx S × PIdx S × StIdx S × Resolution) → List ResolvedOf
 resolved_of index xs = map (resolved_conflict_of index) xs
 
@@ -35,7 +35,7 @@ AreResolved index conflicts resolved = resolved ≡ resolved_of index conflicts.
 abbrev pub shift_reduce_of : {S : Type 0} → (S → ℕ) → TIdx S × PIdx S × StIdx S → ShiftReduce
 shift_reduce_of index x = record { token = index x.0.0; prod = index x.1.0; state = index x.2.0 }
 
--- all of them
+-- all shift/reduce conflicts, by their numbers
 abbrev pub shifts_of : {S : Type 0} → (S → ℕ) → List (TIdx S × PIdx S × StIdx S) → List ShiftReduce
 shifts_of index xs = map (shift_reduce_of index) xs
 

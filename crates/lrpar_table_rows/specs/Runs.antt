@@ -24,7 +24,7 @@ run_items [] runs = []
 run_items (core ∷ cores) [] = []
 run_items (core ∷ cores) (run ∷ runs) = core_items core run ++ run_items cores runs
 
--- those of them that are left from the core at a place on, and from one of its lookaheads on
+-- the items of cores that are left from a core on, by its index, and from one of its lookaheads on
 abbrev pub items_left : {S : Type 0} → List (PIdx S × ℕ) → List (List (TIdx S)) → ℕ → ℕ → List (PIdx S × ℕ × TIdx S)
 items_left [] runs place token = []
 items_left (core ∷ cores) [] place token = []
@@ -39,7 +39,7 @@ tokens_of runs = map (λ run. run.items) runs
 abbrev pub items_of_rows : {S Z : Type 0} → List (PIdx S × ℕ × Vec (TIdx S) Z) → List (PIdx S × ℕ × TIdx S)
 items_of_rows rows = flat_map (λ row. core_items (row.0, row.1) row.2.items) rows
 
--- the same by their numbers
+-- the items of rows, each a core with lookaheads, by their numbers
 abbrev pub set_of_rows : {S Z : Type 0} → (S → ℕ) → List (PIdx S × ℕ × Vec (TIdx S) Z) → List ItemOf
 set_of_rows index rows = map (item_of index) (items_of_rows rows)
 
@@ -55,14 +55,14 @@ pub record IsSet {S : Type 0} (index : S → ℕ) (cores : List (PIdx S × ℕ))
   pub kernel : AreBegunOf cores begun
 
 -- the place of a run and of one of its lookaheads from which on the same items are left
-pub record IsNextPlace {S : Type 0} (cores : List (PIdx S × ℕ)) (runs : List (List (TIdx S))) (place token : ℕ) (at : ℕ × ℕ) : Type 0 where
+pub record IsNextItemAt {S : Type 0} (cores : List (PIdx S × ℕ)) (runs : List (List (TIdx S))) (place token : ℕ) (at : ℕ × ℕ) : Type 0 where
   pub same : items_left cores runs at.0 at.1 ≡ items_left cores runs place token
   pub within : at.0 < length runs
   pub below : at.1 < length (slice_index_or runs at.0 [])
 
 -- the next item's run and lookahead; none if no items are left
-abbrev pub FindsNextPlace : {S : Type 0} → List (PIdx S × ℕ) → List (List (TIdx S)) → ℕ → ℕ → Option (ℕ × ℕ) → Type 0
-FindsNextPlace cores runs place token found = MatchOption found (items_left cores runs place token ≡ []) (IsNextPlace cores runs place token)
+abbrev pub FindsNextItem : {S : Type 0} → List (PIdx S × ℕ) → List (List (TIdx S)) → ℕ → ℕ → Option (ℕ × ℕ) → Type 0
+FindsNextItem cores runs place token found = MatchOption found (items_left cores runs place token ≡ []) (IsNextItemAt cores runs place token)
 
 -- the tokens ascend, each once
 abbrev pub TokensAscend : {S : Type 0} → (S → ℕ) → List (TIdx S) → Type 0

@@ -5,8 +5,8 @@ use Rattle.lrpar_table_rows.specs.Graph.{Graph, ItemOf, item_at, items_of}
 use Rattle.lrpar_table_rows.specs.Rows.{Rows}
 use Rattle.lrpar_table_rows.specs.Table.{Table, TableAction, ShiftTo, ReduceBy, Accepts, Fails, action_of, goto_of}
 
--- its six states, by their kernel items: 0 `^: . E`, 1 `^: E .`, 2 `E: T . '+' E` and `E: T .`, 3 `T: 'ID' .`,
--- 4 `E: T '+' . E`, 5 `E: T '+' E .`
+-- the small table; its six states, by their kernel items: 0 `^: . E`, 1 `^: E .`, 2 `E: T . '+' E` and `E: T .`, 3 `T: 'ID' .`, 4 `E: T
+-- '+' . E`, 5 `E: T '+' E .`
 abbrev pub sum_table : Table
 sum_table = record {
   start = 0;

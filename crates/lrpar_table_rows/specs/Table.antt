@@ -48,7 +48,7 @@ pub record Table : Type 0 where
   pub conflicts : Option ConflictLists
   pub resolved : List ResolvedOf
 
--- the same table with other resolved conflicts
+-- the table with other resolved conflicts
 abbrev pub with_resolved : Table → List ResolvedOf → Table
 with_resolved table resolved = record table { resolved = resolved }
 

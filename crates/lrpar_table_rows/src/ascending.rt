@@ -2,7 +2,7 @@
 ghost use Rattle.std.specs.Prelude.{◌≡◌, ◌↔◌, true, IsTrue, OnOk};
 ghost use Rattle.std.specs.List.{Contains};
 ghost use Rattle.std.specs.List.Sorted.{IsStrictlySortedBy};
-ghost use Rattle.lrpar_table_rows.specs.Ascending.{AddsElement, ComparesExactly, FindsOnlyPlace, HaveSame};
+ghost use Rattle.lrpar_table_rows.specs.Ascending.{AddsElement, ComparesExactly, FindsOnlyIndex, HaveSame};
 
 use std::alloc::AllocError;
 use std::marker::Model;
@@ -45,8 +45,8 @@ impl<T: Ord + Drop> Ascending<T> {
     }
 
     /// The place of the element, if the row has it: a binary search.
-    pub(crate) fn place(&self, element: &T) -> Option<usize>
-        ensures { FindsOnlyPlace self.now element.now result }
+    pub(crate) fn position(&self, element: &T) -> Option<usize>
+        ensures { FindsOnlyIndex self.now element.now result }
     {
         self.elements.binary_search(element).ok()
     }

@@ -20,25 +20,25 @@ pub(crate) fn bases_of<K: Key, V>(
     most: usize,
 ) -> Result<(Vec<Base>, usize), AllocError> {
     let mut firsts = Firsts::new(alloc, rows.len())?;
-    let mut taken = Taken::new(alloc);
-    let bases = with_bases(alloc, rows, most, &mut firsts, &mut taken)?;
-    Ok((bases, taken.slots.len()))
+    let mut occupied = Occupied::new(alloc);
+    let bases = find_bases(alloc, rows, most, &mut firsts, &mut occupied)?;
+    Ok((bases, occupied.slots.len()))
 }
 
 /// The bases for the rows up to the first one that doesn't fit.
-fn with_bases<K: Key, V>(
+fn find_bases<K: Key, V>(
     alloc: Global,
     rows: &[Vec<(K, V)>],
     most: usize,
     firsts: &mut Firsts,
-    taken: &mut Taken,
+    occupied: &mut Occupied,
 ) -> Result<Vec<Base>, AllocError> {
     let mut bases: Vec<Base> = Vec::with_capacity(alloc, rows.len())?;
     for (number, row) in rows.iter().enumerate() {
-        let owner = firsts.first_with(fingerprint(row), number);
+        let owner = firsts.find_first_with(fingerprint(row), number);
         let offset = match bases.get(owner) {
             Some(base) => Some(base.offset),
-            None => taken.place(row, most)?,
+            None => occupied.fit_row(row, most)?,
         };
         let (Some(offset), Ok(owner)) = (offset, u32::try_from(owner)) else {
             return Ok(bases);
@@ -78,7 +78,7 @@ impl Firsts {
     }
 
     /// The first row that was met with this fingerprint. If none is found, it is this row.
-    fn first_with(&mut self, fingerprint: u64, row: usize) -> usize {
+    fn find_first_with(&mut self, fingerprint: u64, row: usize) -> usize {
         let len = self.met.len();
         if len == 0 {
             return row;
@@ -102,37 +102,41 @@ impl Firsts {
 
 /// The slots that rows have taken. All slots before `front` are taken, or given up.
 #[derive(Drop)]
-struct Taken {
+struct Occupied {
     slots: Vec<bool>,
     front: usize,
 }
 
-impl Taken {
+impl Occupied {
     /// No slots.
     fn new(alloc: Global) -> Self {
-        Taken {
+        Occupied {
             slots: Vec::new(alloc),
             front: 0,
         }
     }
 
-    /// Takes slots for the keys of the row, and returns its offset, if there are at most `most` slots then.
-    fn place<K: Key, V>(&mut self, row: &[(K, V)], most: usize) -> Result<Option<u32>, AllocError> {
+    /// Occupies slots for the keys of the row, and returns its offset, if there are at most `most` slots then.
+    fn fit_row<K: Key, V>(
+        &mut self,
+        row: &[(K, V)],
+        most: usize,
+    ) -> Result<Option<u32>, AllocError> {
         let (Some(first), Some(last)) = (row.first(), row.last()) else {
             return Ok(Some(0));
         };
-        let offset = self.offset_for(row, first.0.to_number());
+        let offset = self.find_offset(row, first.0.to_number());
         let end = offset.saturating_add(last.0.to_number()).saturating_add(1);
         if end > most {
             return Ok(None);
         }
-        self.take(row, offset, end)?;
+        self.occupy(row, offset, end)?;
         Ok(u32::try_from(offset).ok())
     }
 
     /// The first offset, of those that are tried, at which the keys meet no slot that is taken; otherwise one past them all.
     /// Then half of the slots that were left are given up, so that the next rows aren't tried there.
-    fn offset_for<K: Key, V>(&mut self, row: &[(K, V)], first: usize) -> usize {
+    fn find_offset<K: Key, V>(&mut self, row: &[(K, V)], first: usize) -> usize {
         let start = self.front.max(first);
         for step in 0..TRIES {
             let offset = start.saturating_add(step).saturating_sub(first);
@@ -148,7 +152,7 @@ impl Taken {
     /// Whether the keys meet no slot that is taken.
     fn fits<K: Key, V>(&self, row: &[(K, V)], offset: usize) -> bool {
         for (key, _) in row {
-            if self.is_taken(offset.saturating_add(key.to_number())) {
+            if self.is_occupied(offset.saturating_add(key.to_number())) {
                 return false;
             }
         }
@@ -156,15 +160,15 @@ impl Taken {
     }
 
     /// Whether the slot is taken.
-    fn is_taken(&self, slot: usize) -> bool {
+    fn is_occupied(&self, slot: usize) -> bool {
         match self.slots.get(slot) {
-            Some(taken) => *taken,
+            Some(slot) => *slot,
             None => false,
         }
     }
 
-    /// Takes the slots of the keys, of which `end` is past the last one, and moves on to the first slot that isn't taken.
-    fn take<K: Key, V>(
+    /// Occupies the slots of the keys, of which `end` is past the last one, and moves on to the first slot that is free.
+    fn occupy<K: Key, V>(
         &mut self,
         row: &[(K, V)],
         offset: usize,
@@ -180,7 +184,7 @@ impl Taken {
             }
         }
         for _ in 0..row.len() {
-            if self.is_taken(self.front) {
+            if self.is_occupied(self.front) {
                 self.front = self.front.saturating_add(1);
             }
         }

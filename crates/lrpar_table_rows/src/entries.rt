@@ -91,7 +91,7 @@ impl<K: Key, V: Copy> Entries<K, V> {
         requires ascending { KeysAscend K.number (row_at self.now number) }
         ensures { FindsValue K.number (row_at self.now number) key result }
     {
-        match self.place_of(number, key) {
+        match self.position_of(number, key) {
             Some(place) => Some(self.row(number).1[place]),
             None => None,
         }
@@ -100,13 +100,13 @@ impl<K: Key, V: Copy> Entries<K, V> {
     /// The place of the key in the row, if the row has the key. The keys of the row have to ascend. If the row is packed, its
     /// slot shows the place; otherwise it is a binary search.
     #[inline]
-    fn place_of(&self, number: usize, key: K) -> Option<usize>
+    fn position_of(&self, number: usize, key: K) -> Option<usize>
         requires row { number < length self.now }
         requires ascending { KeysAscend K.number (row_at self.now number) }
         ensures { FindsEntry K.number (row_at self.now number) key result }
     {
         match self.packed.base(number) {
-            Some(own) => self.packed.place(own, key.to_number()),
+            Some(own) => self.packed.position(own, key.to_number()),
             None => searched(self.row(number).0, key.to_number()),
         }
     }

@@ -2,7 +2,7 @@
 ghost use Rattle.std.specs.Prelude.{◌≡◌, length};
 ghost use Rattle.std.specs.Iterator.{YieldsFirstBy, item_count};
 ghost use Rattle.lrpar_table_rows.specs.PlainItems.{item_of};
-ghost use Rattle.lrpar_table_rows.specs.Runs.{FindsNextPlace, set_of_runs};
+ghost use Rattle.lrpar_table_rows.specs.Runs.{FindsNextItem, set_of_runs};
 
 use crate::ascending::Ascending;
 use crate::items::{Core, Item};
@@ -54,7 +54,7 @@ impl<'a, StorageT: StorageIndex> Iterator for Items<'a, StorageT> {
     ghost remaining = { item_count (λ s. s) };
 
     fn next(&mut self) -> Option<Item<StorageT>> {
-        match next_place(self.cores, self.runs, self.place, self.token) {
+        match next_position(self.cores, self.runs, self.place, self.token) {
             None => None,
             Some((place, token)) => {
                 let (prod, dot) = self.cores[place];
@@ -69,13 +69,13 @@ impl<'a, StorageT: StorageIndex> Iterator for Items<'a, StorageT> {
 }
 
 // The place of a run and of one of its lookaheads at which the next item is; from there on the same items are left.
-fn next_place<StorageT: StorageIndex>(
+fn next_position<StorageT: StorageIndex>(
     cores: &[Core<StorageT>],
     runs: &[Ascending<TIdx<StorageT>>],
     place: usize,
     token: usize,
 ) -> Option<(usize, usize)>
-    ensures { FindsNextPlace cores.now runs.now place token result }
+    ensures { FindsNextItem cores.now runs.now place token result }
 {
     let mut place = place;
     let mut token = token;

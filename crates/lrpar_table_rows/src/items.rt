@@ -82,7 +82,7 @@ impl<StorageT: StorageIndex> ItemSet<StorageT> {
     pub(crate) fn has_item(&self, prod: PIdx<StorageT>, dot: usize, token: TIdx<StorageT>) -> bool
         ensures found { IsTrue result ↔ HasItemIn StorageT.index self.now prod dot token }
     {
-        match self.cores.place(&(prod, dot)) {
+        match self.cores.position(&(prod, dot)) {
             Some(place) => self.runs[place].contains(&token),
             None => false,
         }
@@ -100,7 +100,7 @@ impl<StorageT: StorageIndex> ItemSet<StorageT> {
         ensures all { AreLookaheadsIn StorageT.index self.now prod dot result.now }
         ensures ascending { TokensAscend StorageT.index result.now }
     {
-        match self.cores.place(&(prod, dot)) {
+        match self.cores.position(&(prod, dot)) {
             Some(place) => self.runs[place].as_slice(),
             None => &[],
         }

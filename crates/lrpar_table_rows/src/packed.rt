@@ -50,7 +50,7 @@ impl Packed {
 
     /// The place that the slot of the key of this number has, if the owner of the base owns it.
     #[inline]
-    pub(crate) fn place(&self, base: Base, sought: usize) -> Option<usize>
+    pub(crate) fn position(&self, base: Base, sought: usize) -> Option<usize>
         requires { sought < 2 ^ 32 }
         ensures { FindsSlot self.now.slots base sought result }
     {

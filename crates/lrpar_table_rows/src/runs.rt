@@ -120,7 +120,7 @@ fn put_token<StorageT: StorageIndex>(
     ensures paired { OnOk result (ArePaired cores.now runs.new) }
     ensures same { OnOk result (AddsItems cores.now (item.now ∷ []) runs.old runs.new) }
 {
-    match cores.place(&(item.0, item.1)) {
+    match cores.position(&(item.0, item.1)) {
         Some(place) => {
             let run = &mut runs[place];
             run.push(item.2)?;
@@ -142,7 +142,7 @@ fn put_run<StorageT: StorageIndex>(
     ensures paired { OnOk result (ArePaired cores.now runs.new) }
     ensures same { OnOk result (AddsItems cores.now (core_items core tokens.now) runs.old runs.new) }
 {
-    match cores.place(&core) {
+    match cores.position(&core) {
         Some(place) => {
             let run = &mut runs[place];
             run.extend_from_slice(tokens)?;

@@ -136,7 +136,7 @@ impl<StorageT: StorageIndex> StateTable<StorageT> {
         self.rules
     }
 
-    /// The same table, with these conflicts as those that precedences resolved. They aren't checked.
+    /// This table, with these conflicts as those that precedences resolved. They aren't checked.
     pub fn with_resolved(self, resolved: Resolved<StorageT>) -> Self
         ensures { result ≡ with_resolved self resolved }
     {

@@ -1,4 +1,4 @@
--- Access strings are settled in the order of their lengths, as minimal sentences of rules are.
+-- Access strings are fixed in the order of their lengths, as minimal sentences of rules are.
 use Rattle.std.proofs.Common.{◌≡◌, ◌<◌, ◌≤◌, ◌+◌, ◌⊎◌, ◌∙◌, refl, sym, ap, subst, inl, inr, arith, ℕ, suc, List, [], ◌∷◌, Option, Some, None, MatchOption, get_or, length, min, set, cond, nat_eq, true, false}
 use Rattle.std.specs.List.{All, Contains}
 use Rattle.std.specs.Option.{is_none, option_eq, option_map, option_map_or}
@@ -9,13 +9,13 @@ use Rattle.lrpar_grammar.specs.Grammar.{GrammarSymbol, Nonterminal, Terminal}
 use Rattle.lrpar_table_rows.specs.Safe.{GoesBy}
 use Rattle.lrpar_table_rows.specs.Table.{IsClosed, Table, states_len}
 use Rattle.lrpar_table_sentences.specs.Choices.{ChoiceOf}
-use Rattle.lrpar_table_sentences.specs.Lens.{added, len_at, total_len}
+use Rattle.lrpar_table_sentences.specs.Lens.{added, len_at, sum_of_lens}
 use Rattle.lrpar_table_sentences.specs.AccessLens.{AreEdges, AreRightAccesses, EdgeOf, Goes, HasOpenStep, IsWalk, LeadBack, NoStepIsLess, NoStepIsOpen, NoWalkIsBelow, Starts, edge_of, edges_of, open_by, open_accesses, access_open}
 use Rattle.lrpar_table_sentences.specs.AccessStrings.{GoBack, StepOf, AccessOf, symbols_in, access_at, access_of, accesses_of}
 use Rattle.lrpar_table_sentences.specs.declared.transitions.Edge.{Edge}
 use Rattle.lrpar_table_sentences.specs.declared.transitions.Access.{Access}
 use Rattle.lrpar_table_sentences.proofs.LenLemmas.{added_parts, mapped_parts, option_cases, total_fits}
-use Rattle.lrpar_table_sentences.proofs.SettleLemmas.{IsLeastBelow, eq_some, not_some, stays_more}
+use Rattle.lrpar_table_sentences.proofs.FixLemmas.{IsLeastBelow, eq_some, not_some, stays_more}
 
 -- what follows for an open step
 open_parts : (most : ℕ) (accesses : List (Option AccessOf)) (e : EdgeOf) (len : ℕ) → open_by most accesses e ≡ Some len
@@ -57,7 +57,7 @@ module _ (table : Table) (most : ℕ) (choices : List (Option ChoiceOf)) (edges 
   pub no_walk_below : (len : ℕ) → NoStepIsLess most accesses edges len → NoWalkIsBelow table most choices accesses len
   no_walk_below len less s other path none Starts total = let start = right.start in absurd (cc)
   no_walk_below len less s other path none (Goes from next x before walk within goes) total =
-      let parts = added_parts most (len_at choices x) (total_len most choices before) other total in
+      let parts = added_parts most (len_at choices x) (sum_of_lens most choices before) other total in
       let sum = parts.4 in
       let low = total_fits most choices before parts.1 parts.3 in
       elim (option_cases (access_at accesses from)) as (λ _. len ≤ other) [
@@ -74,7 +74,7 @@ module _ (table : Table) (most : ℕ) (choices : List (Option ChoiceOf)) (edges 
 
   -- if no step is open, no walk leads to a state with nothing kept
   pub no_walk : NoStepIsOpen most accesses edges → (s len : ℕ) (path : List GrammarSymbol) → access_at accesses s ≡ None → IsWalk table s path
-      → total_len most choices path ≡ Some len → ⊥
+      → sum_of_lens most choices path ≡ Some len → ⊥
   no_walk closed s len path none walk total =
       let more : suc len ≤ len =
       no_walk_below (suc len) (λ e other there is. let never = closed e there in absurd (cc)) s len path none walk total in
@@ -118,11 +118,11 @@ module _ (table : Table) (most : ℕ) (choices : List (Option ChoiceOf)) (edges 
                 | inr not ↦ right.least s other access path (sym (elsewhere s not) ∙ at) walk total
               ];
           back = λ s access at.
-              elim (cases_eq s e.next) as (λ _. (steps : List StepOf) × GoBack kept s steps × LeadBack table s steps × (total_len most choices (symbols_in steps) ≡ Some access.len)) [
+              elim (cases_eq s e.next) as (λ _. (steps : List StepOf) × GoBack kept s steps × LeadBack table s steps × (sum_of_lens most choices (symbols_in steps) ≡ Some access.len)) [
                 | inl same ↦
                     let own : len ≡ access.len = ap access_len (sym here ∙ ap (access_at kept) (sym same) ∙ at) in
-                    let total : total_len most choices (e.step.symbol ∷ symbols_in before.0) ≡ Some access.len =
-                    ap (λ (o : Option ℕ). added most o (total_len most choices (symbols_in before.0))) sound.2
+                    let total : sum_of_lens most choices (e.step.symbol ∷ symbols_in before.0) ≡ Some access.len =
+                    ap (λ (o : Option ℕ). added most o (sum_of_lens most choices (symbols_in before.0))) sound.2
                     ∙ ap (λ (o : Option ℕ). added most (Some e.len) o) before.3 ∙ ap (λ (n : ℕ). Some n) (sum ∙ own) in (
                       e.step ∷ before.0,
                       (len, ap (access_at kept) same ∙ here, go_back_more accesses kept keeps e.step.from before.0 before.1),
@@ -185,8 +185,8 @@ open_less accesses s access low none =
 
 -- what holds once the first n steps were looked at: what is kept is still right; and either nothing was kept, and none of the
 -- steps has the length, or fewer states are open
-abbrev pub SettlingAccesses : {S : Type 0} → (S → ℕ) → ℕ → ℕ → List (Edge S) → List (Option (Access S)) → List (Option (Access S)) → ℕ → Type 0
-SettlingAccesses index most len edges old now n =
+abbrev pub FixingAccesses : {S : Type 0} → (S → ℕ) → ℕ → ℕ → List (Edge S) → List (Option (Access S)) → List (Option (Access S)) → ℕ → Type 0
+FixingAccesses index most len edges old now n =
     ((table : Table) (choices : List (Option ChoiceOf)) → AreEdges table choices (edges_of index edges) → AreRightAccesses table most choices (accesses_of index old)
     → NoWalkIsBelow table most choices (accesses_of index old) len
     → AreRightAccesses table most choices (accesses_of index now) × NoWalkIsBelow table most choices (accesses_of index now) len)
@@ -194,7 +194,7 @@ SettlingAccesses index most len edges old now n =
     ⊎ (open_accesses (accesses_of index now) < open_accesses (accesses_of index old)))
 
 module _ {S : Type 0} (index : S → ℕ) (most len : ℕ) (edges : List (Edge S)) (old now new : List (Option (Access S))) (n : ℕ)
-    (before : SettlingAccesses index most len edges old now n) (edge : Edge S) (o : Option ℕ) (low : n < length edges) (at : edge ≡ get_or edges n edge)
+    (before : FixingAccesses index most len edges old now n) (edge : Edge S) (o : Option ℕ) (low : n < length edges) (at : edge ≡ get_or edges n edge)
     (fact : o ≡ open_by most (accesses_of index now) (edge_of index edge)) where
   abbrev the_edge : EdgeOf
   the_edge = edge_of index edge
@@ -204,9 +204,9 @@ module _ {S : Type 0} (index : S → ℕ) (most len : ℕ) (edges : List (Edge S
       let long = length-map edges (edge_of index) in
       (n, omega (arith, long, low), get_or-map (edge_of index) edges n edge the_edge low ∙ ap (edge_of index) (sym at))
 
-  pub accesses_settle : (k : ℕ) → option_eq nat_eq o (Some len) ≡ true → k ≡ index edge.next.0 → k < length now
-      → new ≡ set now k (Some (record { len = len; last = Some edge.step })) → SettlingAccesses index most len edges old new (n + 1)
-  accesses_settle k equal target inside is =
+  pub accesses_fix : (k : ℕ) → option_eq nat_eq o (Some len) ≡ true → k ≡ index edge.next.0 → k < length now
+      → new ≡ set now k (Some (record { len = len; last = Some edge.step })) → FixingAccesses index most len edges old new (n + 1)
+  accesses_fix k equal target inside is =
       let open_now : open_by most (accesses_of index now) the_edge ≡ Some len = sym fact ∙ eq_some o len equal in
       let access : Access S = record { len = len; last = Some edge.step } in
       let list : accesses_of index new ≡ set (accesses_of index now) the_edge.next (Some (access_of index access)) =
@@ -229,11 +229,11 @@ module _ {S : Type 0} (index : S → ℕ) (most len : ℕ) (edges : List (Edge S
         ],
       )
 
-  pub accesses_stay : option_eq nat_eq o (Some len) ≡ false → new ≡ now → SettlingAccesses index most len edges old new (n + 1)
+  pub accesses_stay : option_eq nat_eq o (Some len) ≡ false → new ≡ now → FixingAccesses index most len edges old new (n + 1)
   accesses_stay unequal is =
       let not_here : open_at most (accesses_of index now) (edges_of index edges) n ≡ Some len → ⊥ =
       λ here. not_some o len unequal (fact ∙ sym (open_here index most (accesses_of index now) edges n edge low at) ∙ here) in
-      subst (λ (xs : List (Option (Access S))). SettlingAccesses index most len edges old xs (n + 1)) (sym is) (
+      subst (λ (xs : List (Option (Access S))). FixingAccesses index most len edges old xs (n + 1)) (sym is) (
         before.0,
         elim before.1 [
           | inl same ↦
@@ -247,12 +247,12 @@ module _ {S : Type 0} (index : S → ℕ) (most len : ℕ) (edges : List (Edge S
       )
 
 -- nothing was looked at yet
-pub accesses_start : {S : Type 0} (index : S → ℕ) (most len : ℕ) (edges : List (Edge S)) (old : List (Option (Access S))) → SettlingAccesses index most len edges old old 0
+pub accesses_start : {S : Type 0} (index : S → ℕ) (most len : ℕ) (edges : List (Edge S)) (old : List (Option (Access S))) → FixingAccesses index most len edges old old 0
 accesses_start index most len edges old = (λ table choices are right below. (right, below), inl (refl, λ k low is. omega (arith, low)))
 
 -- all were
 pub accesses_end : {S : Type 0} (index : S → ℕ) (most len : ℕ) (edges : List (Edge S)) (old now : List (Option (Access S))) (n : ℕ) → length edges ≤ n
-    → SettlingAccesses index most len edges old now n → HasOpenStep most (accesses_of index old) (edges_of index edges) len
+    → FixingAccesses index most len edges old now n → HasOpenStep most (accesses_of index old) (edges_of index edges) len
     → open_accesses (accesses_of index now) < open_accesses (accesses_of index old)
 accesses_end index most len edges old now n all after some =
     let inside = some.1.1 in

@@ -11,7 +11,7 @@ use Rattle.lrpar_table_build.specs.Built.{IsBuilt}
 use Rattle.lrpar_table_items.specs.Canonical.{AreSame, sets_of}
 use Rattle.lrpar_table_items.specs.ItemSets.{IsReachedBy}
 use Rattle.lrpar_table_sentences.specs.Choices.{AreShortest, ChoiceOf}
-use Rattle.lrpar_table_sentences.specs.Lens.{added, len_at, total_len}
+use Rattle.lrpar_table_sentences.specs.Lens.{added, len_at, sum_of_lens}
 use Rattle.lrpar_table_sentences.specs.Texts.{AreTreesOf, forest_width}
 use Rattle.lrpar_table_sentences.specs.AccessLens.{AreEdges, AreRightAccesses, EdgeOf, Goes, IsWalk, LeadBack, NoStepIsOpen, Starts}
 use Rattle.lrpar_table_sentences.specs.AccessStrings.{AreAccessStrings, IsPathTo, IsShortestAccess, IsShortestAccessIfAny, StepOf, StepsLead, AccessOf, symbols_in, access_at}
@@ -27,20 +27,20 @@ added_swap most None None = refl
 
 -- the length of symbols is the sum of both parts, and symbols in reverse have the same length
 total_both : (most : ℕ) (choices : List (Option ChoiceOf)) (xs ys : List GrammarSymbol)
-    → total_len most choices (xs ++ ys) ≡ added most (total_len most choices xs) (total_len most choices ys)
+    → sum_of_lens most choices (xs ++ ys) ≡ added most (sum_of_lens most choices xs) (sum_of_lens most choices ys)
 total_both most choices [] ys = sym (total_from_zero most choices ys)
 total_both most choices (x ∷ xs) ys =
-    ap (added most (len_at choices x)) (total_both most choices xs ys) ∙ sym (added_assoc most (len_at choices x) (total_len most choices xs) (total_len most choices ys))
+    ap (added most (len_at choices x)) (total_both most choices xs ys) ∙ sym (added_assoc most (len_at choices x) (sum_of_lens most choices xs) (sum_of_lens most choices ys))
 
-pub total_reverse : (most : ℕ) (choices : List (Option ChoiceOf)) (ss : List GrammarSymbol) → total_len most choices (reverse ss) ≡ total_len most choices ss
+pub total_reverse : (most : ℕ) (choices : List (Option ChoiceOf)) (ss : List GrammarSymbol) → sum_of_lens most choices (reverse ss) ≡ sum_of_lens most choices ss
 total_reverse most choices [] = refl
 total_reverse most choices (s ∷ ss) =
     let x = len_at choices s in
-    ap (total_len most choices) (reverse-append (s ∷ []) ss)
+    ap (sum_of_lens most choices) (reverse-append (s ∷ []) ss)
     ∙ total_both most choices (reverse ss) (s ∷ [])
     ∙ ap (λ (o : Option ℕ). added most o (added most x (Some 0))) (total_reverse most choices ss)
-    ∙ added_swap most (total_len most choices ss) (added most x (Some 0))
-    ∙ added_assoc most x (Some 0) (total_len most choices ss)
+    ∙ added_swap most (sum_of_lens most choices ss) (added most x (Some 0))
+    ∙ added_assoc most x (Some 0) (sum_of_lens most choices ss)
     ∙ ap (added most x) (total_from_zero most choices ss)
 
 -- the symbols of steps in reverse
@@ -79,7 +79,7 @@ module _ (g : Grammar) (graph : Graph) (table : Table) (well : IsWellFormed g) (
 
   -- symbols of a path that have trees are a walk with a length
   path_total : (s : ℕ) (symbols : List GrammarSymbol) (trees : Forest ℕ) → s < states_len table → IsPathTo g graph s symbols → AreTreesOf g symbols trees
-      → (len : ℕ) × IsWalk table s (reverse symbols) × (total_len most choices (reverse symbols) ≡ Some len) × (len ≤ forest_width trees)
+      → (len : ℕ) × IsWalk table s (reverse symbols) × (sum_of_lens most choices (reverse symbols) ≡ Some len) × (len ≤ forest_width trees)
   path_total s symbols trees low path fit =
       let len = have_len g most choices shortest symbols (trees, fit) in (
         len.0,
@@ -89,9 +89,9 @@ module _ (g : Grammar) (graph : Graph) (table : Table) (well : IsWellFormed g) (
       )
 
   -- the steps that lead back, in reverse
-  back_total : (steps : List StepOf) (len : ℕ) → total_len most choices (symbols_in steps) ≡ Some len → total_len most choices (symbols_in (reverse steps)) ≡ Some len
+  back_total : (steps : List StepOf) (len : ℕ) → sum_of_lens most choices (symbols_in steps) ≡ Some len → sum_of_lens most choices (symbols_in (reverse steps)) ≡ Some len
   back_total steps len total =
-      ap (total_len most choices) (symbols_reverse steps) ∙ total_reverse most choices (symbols_in steps) ∙ total
+      ap (sum_of_lens most choices) (symbols_reverse steps) ∙ total_reverse most choices (symbols_in steps) ∙ total
 
   back_path : (s : ℕ) (steps : List StepOf) → LeadBack table s steps → IsPathTo g graph s (symbols_in (reverse steps))
   back_path s steps lead =

@@ -14,7 +14,7 @@ use Rattle.lrpar_table_sentences.proofs.LenLemmas.{follows_fits, forest_follows_
 use Rattle.lrpar_table_sentences.proofs.StartLemmas.{forest_begins, place_trees}
 use Rattle.lrpar_table_sentences.specs.Frames.{FrameOf, Unfold}
 use Rattle.lrpar_table_sentences.specs.Moves.{MoveOf, Makes, Takes, forest_moves, moves_of}
-use Rattle.lrpar_table_sentences.specs.Starts.{AreStarts, CanStart, Descends, ForestStarts, StartOf, Starts, place_of, start_by}
+use Rattle.lrpar_table_sentences.specs.Starts.{AreStarts, CanStart, Descends, ForestStarts, StartOf, Starts, begin_index, start_by}
 
 -- the parts of what is kept
 abbrev prod_in : Option StartOf → ℕ
@@ -226,7 +226,7 @@ module _ (g : Grammar) (most : ℕ) (choices : List (Option ChoiceOf)) (right : 
 pub beginning : (g : Grammar) (most : ℕ) (choices : List (Option ChoiceOf)) (shortest : AreShortest g most choices) (first : ℕ) (starts : List (Option StartOf))
     → AreStarts g choices first starts → ((p : ℕ) → p < prods_len g → CanStart g most choices first starts p) → 1 ≤ most
     → (ss : List GrammarSymbol) (old new : List MoveOf) → CanBeginWith g ss first
-    → ((k : ℕ) (trees : Forest ℕ) → place_of choices starts first ss ≡ Some k → ForestStarts g choices starts first k trees ss → new ≡ old ++ forest_moves trees)
+    → ((k : ℕ) (trees : Forest ℕ) → begin_index choices starts first ss ≡ Some k → ForestStarts g choices starts first k trees ss → new ≡ old ++ forest_moves trees)
     → (trees : Forest ℕ) × BeginWith g ss first trees × (new ≡ old ++ forest_moves trees)
 beginning g most choices shortest first starts are closed positive ss old new can pushed =
     let place = forest_begins g most choices shortest first starts closed can.0 ss can.1.first.0 can.1.fit can.1.first.1 in

@@ -7,7 +7,7 @@ use Rattle.lrpar_grammar.specs.Grammar.{Grammar, GrammarSymbol, Nonterminal, Ter
 use Rattle.lrpar_grammar.specs.Symbols.{symbol_of}
 use Rattle.lrpar_grammar.specs.Tree.{Tree, Forest, Leaf, Branch, Nil, Cons, leaves, forest_leaves}
 use Rattle.lrpar_table_sentences.specs.Choices.{AreRight, AreShortest, ChoiceOf, Follows, ForestFollows, choice_at}
-use Rattle.lrpar_table_sentences.specs.Lens.{added, len_at, total_len}
+use Rattle.lrpar_table_sentences.specs.Lens.{added, len_at, sum_of_lens}
 use Rattle.lrpar_table_sentences.specs.Moves.{Makes, forest_moves, moves_of}
 use Rattle.lrpar_table_sentences.specs.Texts.{AreShortestTrees, AreTreesOf, HaveTrees, IsShortestIfAny, IsShortestLen, IsTreeOf, forest_width, width}
 
@@ -50,10 +50,10 @@ added_none most (Some a) None is = inr refl
 added_none most None y is = inl refl
 
 -- a length is at most the number
-pub total_fits : (most : ℕ) (choices : List (Option ChoiceOf)) (ss : List GrammarSymbol) (len : ℕ) → total_len most choices ss ≡ Some len → len ≤ most
+pub total_fits : (most : ℕ) (choices : List (Option ChoiceOf)) (ss : List GrammarSymbol) (len : ℕ) → sum_of_lens most choices ss ≡ Some len → len ≤ most
 total_fits most choices [] len is = let same : 0 ≡ len = cc in omega arith
 total_fits most choices (s ∷ ss) len is =
-    let parts = added_parts most (len_at choices s) (total_len most choices ss) len is in
+    let parts = added_parts most (len_at choices s) (sum_of_lens most choices ss) len is in
     let same = parts.4 in omega (arith, same)
 
 added_zero : (most : ℕ) (x y : Option ℕ) → added most (Some 0) (added most x y) ≡ added most x y
@@ -61,32 +61,32 @@ added_zero most (Some a) (Some b) = let same : min (0 + min (a + b) most) most �
 added_zero most (Some a) None = refl
 added_zero most None y = refl
 
-pub total_from_zero : (most : ℕ) (choices : List (Option ChoiceOf)) (ss : List GrammarSymbol) → added most (Some 0) (total_len most choices ss) ≡ total_len most choices ss
+pub total_from_zero : (most : ℕ) (choices : List (Option ChoiceOf)) (ss : List GrammarSymbol) → added most (Some 0) (sum_of_lens most choices ss) ≡ sum_of_lens most choices ss
 total_from_zero most choices [] = let same : min (0 + 0) most ≡ 0 = omega arith in ap (λ (n : ℕ). Some n) same
-total_from_zero most choices (s ∷ ss) = added_zero most (len_at choices s) (total_len most choices ss)
+total_from_zero most choices (s ∷ ss) = added_zero most (len_at choices s) (sum_of_lens most choices ss)
 
 -- a sum so far goes on with the next symbol
 pub total_more : (most : ℕ) (choices : List (Option ChoiceOf)) (s : GrammarSymbol) (ss rest : List GrammarSymbol) (len more : ℕ) (all : Option ℕ)
-    → rest ≡ s ∷ ss → len_at choices s ≡ Some more → added most (Some len) (total_len most choices rest) ≡ all
-    → added most (Some (min (len + more) most)) (total_len most choices ss) ≡ all
+    → rest ≡ s ∷ ss → len_at choices s ≡ Some more → added most (Some len) (sum_of_lens most choices rest) ≡ all
+    → added most (Some (min (len + more) most)) (sum_of_lens most choices ss) ≡ all
 total_more most choices s ss rest len more all is here before =
-    added_assoc most (Some len) (Some more) (total_len most choices ss)
-    ∙ ap (λ (x : Option ℕ). added most (Some len) (added most x (total_len most choices ss))) (sym here)
-    ∙ ap (λ (w : List GrammarSymbol). added most (Some len) (total_len most choices w)) (sym is) ∙ before
+    added_assoc most (Some len) (Some more) (sum_of_lens most choices ss)
+    ∙ ap (λ (x : Option ℕ). added most (Some len) (added most x (sum_of_lens most choices ss))) (sym here)
+    ∙ ap (λ (w : List GrammarSymbol). added most (Some len) (sum_of_lens most choices w)) (sym is) ∙ before
 
 -- and is none if the next symbol has none
 pub total_stops : (most : ℕ) (choices : List (Option ChoiceOf)) (s : GrammarSymbol) (ss rest : List GrammarSymbol) (len : ℕ) (all : Option ℕ)
-    → rest ≡ s ∷ ss → len_at choices s ≡ None → added most (Some len) (total_len most choices rest) ≡ all → None ≡ all
+    → rest ≡ s ∷ ss → len_at choices s ≡ None → added most (Some len) (sum_of_lens most choices rest) ≡ all → None ≡ all
 total_stops most choices s ss rest len all is none before =
-    ap (λ (x : Option ℕ). added most (Some len) (added most x (total_len most choices ss))) (sym none)
-    ∙ ap (λ (w : List GrammarSymbol). added most (Some len) (total_len most choices w)) (sym is) ∙ before
+    ap (λ (x : Option ℕ). added most (Some len) (added most x (sum_of_lens most choices ss))) (sym none)
+    ∙ ap (λ (w : List GrammarSymbol). added most (Some len) (sum_of_lens most choices w)) (sym is) ∙ before
 
 -- with no symbols left the sum is all
 pub total_ends : (most : ℕ) (choices : List (Option ChoiceOf)) (rest : List GrammarSymbol) (len : ℕ) (all : Option ℕ)
-    → rest ≡ [] → len ≤ most → added most (Some len) (total_len most choices rest) ≡ all → Some len ≡ all
+    → rest ≡ [] → len ≤ most → added most (Some len) (sum_of_lens most choices rest) ≡ all → Some len ≡ all
 total_ends most choices rest len all is low before =
     let same : len ≡ min (len + 0) most = omega arith in
-    ap (λ (n : ℕ). Some n) same ∙ ap (λ (w : List GrammarSymbol). added most (Some len) (total_len most choices w)) (sym is) ∙ before
+    ap (λ (n : ℕ). Some n) same ∙ ap (λ (w : List GrammarSymbol). added most (Some len) (sum_of_lens most choices w)) (sym is) ∙ before
 
 -- trees have no fewer moves than tokens
 mutual
@@ -132,11 +132,11 @@ module _ (g : Grammar) (most : ℕ) (choices : List (Option ChoiceOf)) (right : 
       (one.0, one.1, omega (arith, wide, same))
 
   -- the trees of symbols that have a length
-  pub trees_kept : (ss : List GrammarSymbol) (len : ℕ) → total_len most choices ss ≡ Some len
+  pub trees_kept : (ss : List GrammarSymbol) (len : ℕ) → sum_of_lens most choices ss ≡ Some len
       → (trees : Forest ℕ) × ForestFollows g choices trees ss × (min (forest_width trees) most ≡ len)
   trees_kept [] len is = let same : 0 ≡ len = cc in (Nil, tt, omega (arith, same))
   trees_kept (s ∷ ss) len is =
-      let parts = added_parts most (len_at choices s) (total_len most choices ss) len is in
+      let parts = added_parts most (len_at choices s) (sum_of_lens most choices ss) len is in
       let one = tree_kept s parts.0 parts.2 in
       let others = trees_kept ss parts.1 parts.3 in
       let sum = parts.4 in
@@ -154,19 +154,19 @@ module _ (g : Grammar) (most : ℕ) (choices : List (Option ChoiceOf)) (right : 
       let same = kept.2 in
       omega (arith, least, same)
 
-  pub total_least : (ss : List GrammarSymbol) (len : ℕ) (ts : Forest ℕ) → total_len most choices ss ≡ Some len → AreTreesOf g ss ts → len ≤ forest_width ts
+  pub total_least : (ss : List GrammarSymbol) (len : ℕ) (ts : Forest ℕ) → sum_of_lens most choices ss ≡ Some len → AreTreesOf g ss ts → len ≤ forest_width ts
   total_least [] len Nil is fit = let same : 0 ≡ len = cc in omega (arith, same)
   total_least [] len (Cons t ts) is fit = absurd fit
   total_least (s ∷ ss) len Nil is fit = absurd fit
   total_least (s ∷ ss) len (Cons t ts) is fit =
-      let parts = added_parts most (len_at choices s) (total_len most choices ss) len is in
+      let parts = added_parts most (len_at choices s) (sum_of_lens most choices ss) len is in
       let one = symbol_least s parts.0 t parts.2 fit.0 in
       let others = total_least ss parts.1 ts parts.3 fit.1 in
       let sum = parts.4 in
       omega (arith, one, others, sum, length-append (leaves t) (forest_leaves ts))
 
   -- so lengths are those of minimal sentences
-  pub total_is_shortest : (ss : List GrammarSymbol) (len : ℕ) → total_len most choices ss ≡ Some len → IsShortestLen g most ss len
+  pub total_is_shortest : (ss : List GrammarSymbol) (len : ℕ) → sum_of_lens most choices ss ≡ Some len → IsShortestLen g most ss len
   total_is_shortest ss len is =
       let kept = trees_kept ss len is in
       record { some = (kept.0, forest_follows_fit kept.0 ss kept.1, kept.2); least = λ ts fit. total_least ss len ts is fit }
@@ -181,7 +181,7 @@ module _ (g : Grammar) (most : ℕ) (choices : List (Option ChoiceOf)) (right : 
       let same = kept.2 in
       omega (arith, wide, same)
 
-  pub len_alone : 1 ≤ most → (s : GrammarSymbol) (len : ℕ) → len_at choices s ≡ Some len → total_len most choices (s ∷ []) ≡ Some len
+  pub len_alone : 1 ≤ most → (s : GrammarSymbol) (len : ℕ) → len_at choices s ≡ Some len → sum_of_lens most choices (s ∷ []) ≡ Some len
   len_alone some s len is =
       let low : len ≤ most = len_low some s len is in
       let same : min (len + 0) most ≡ len = omega arith in
@@ -197,17 +197,17 @@ module _ (g : Grammar) (most : ℕ) (choices : List (Option ChoiceOf)) (shortest
   no_trees s Nil is fit = absurd fit
   no_trees s (Cons t ts) is fit = symbol_none s t is fit.0
 
-  pub total_none : (ss : List GrammarSymbol) (ts : Forest ℕ) → total_len most choices ss ≡ None → AreTreesOf g ss ts → ⊥
+  pub total_none : (ss : List GrammarSymbol) (ts : Forest ℕ) → sum_of_lens most choices ss ≡ None → AreTreesOf g ss ts → ⊥
   total_none [] ts is fit = absurd (cc)
   total_none (s ∷ ss) Nil is fit = absurd fit
   total_none (s ∷ ss) (Cons t ts) is fit =
-      elim (added_none most (len_at choices s) (total_len most choices ss) is) [
+      elim (added_none most (len_at choices s) (sum_of_lens most choices ss) is) [
         | inl one ↦ symbol_none s t one fit.0
         | inr others ↦ total_none ss ts others fit.1
       ]
 
   -- what a length says
-  pub total_is_exact : (ss : List GrammarSymbol) (len : Option ℕ) → len ≡ total_len most choices ss → IsShortestIfAny g most ss len
+  pub total_is_exact : (ss : List GrammarSymbol) (len : Option ℕ) → len ≡ sum_of_lens most choices ss → IsShortestIfAny g most ss len
   total_is_exact ss None is = λ ts fit. total_none ss ts (sym is) fit
   total_is_exact ss (Some len) is = total_is_shortest g most choices shortest.right ss len (sym is)
 
@@ -216,9 +216,9 @@ module _ (g : Grammar) (most : ℕ) (choices : List (Option ChoiceOf)) (shortest
   len_is_exact some s (Some len) is = total_is_shortest g most choices shortest.right (s ∷ []) len (len_alone g most choices shortest.right some s len (sym is))
 
   -- symbols that have trees have a length
-  pub have_len : (ss : List GrammarSymbol) → HaveTrees g ss → (len : ℕ) × (total_len most choices ss ≡ Some len)
+  pub have_len : (ss : List GrammarSymbol) → HaveTrees g ss → (len : ℕ) × (sum_of_lens most choices ss ≡ Some len)
   have_len ss have =
-      elim (option_cases (total_len most choices ss)) [
+      elim (option_cases (sum_of_lens most choices ss)) [
         | inl none ↦ absurd (total_none ss have.0 none have.1)
         | inr some ↦ some
       ]

@@ -1,5 +1,5 @@
 pub mod LenLemmas
-pub mod SettleLemmas
+pub mod FixLemmas
 pub mod FrameLemmas
 pub mod PushLemmas
 pub mod WalkLemmas

@@ -13,7 +13,7 @@ use Rattle.lrpar_table_first.specs.FirstRows.{IsSymbolBelow}
 use Rattle.lrpar_table_first.proofs.SymbolLemmas.{prod_symbols}
 use Rattle.lrpar_table_sentences.specs.Choices.{AreShortest, ChoiceOf, choice_at, choice_of}
 use Rattle.lrpar_table_sentences.specs.Reachable.{Added, AreAllMarked, AreMarked, EachReachableHasTree, HasTree, IsFirstUnproductive, IsMarkedSymbol, IsReachableRule, IsReachableSymbol, MarksOn, OnRight, is_marked, unmarked}
-use Rattle.lrpar_table_sentences.specs.declared.settle.Choice.{Choice}
+use Rattle.lrpar_table_sentences.specs.declared.minimal_sentences.Choice.{Choice}
 use Rattle.lrpar_table_sentences.proofs.LenLemmas.{follows_fits, option_cases}
 
 -- one rule more is marked

@@ -12,8 +12,8 @@ use Rattle.lrpar_grammar.specs.Symbols.{symbol_of}
 use Rattle.lrpar_grammar.specs.Tree.{Tree, Forest, Leaf, Branch, Nil, Cons, leaves, forest_leaves}
 use Rattle.lrpar_table_first.proofs.RowLemmas.{symbols_from}
 use Rattle.lrpar_table_sentences.specs.Choices.{AreRight, AreShortest, ChoiceOf}
-use Rattle.lrpar_table_sentences.specs.Lens.{len_at, total_len}
-use Rattle.lrpar_table_sentences.specs.Starts.{AreStarts, CanStart, ForestStarts, StartOf, Starts, begins, further, is_zero, place_if, place_of, start_at, start_of, starts_of, starts_open}
+use Rattle.lrpar_table_sentences.specs.Lens.{len_at, sum_of_lens}
+use Rattle.lrpar_table_sentences.specs.Starts.{AreStarts, CanStart, ForestStarts, StartOf, Starts, begins, further, is_zero, index_if, begin_index, start_at, start_of, starts_of, starts_open}
 use Rattle.lrpar_table_sentences.specs.Texts.{AreTreesOf, IsTreeOf, width}
 use Rattle.lrpar_table_sentences.specs.declared.begins.Start.{Start}
 use Rattle.lrpar_table_sentences.proofs.LenLemmas.{added_parts, have_len, option_cases, symbol_least, symbol_none, tree_kept, trees_kept}
@@ -26,22 +26,22 @@ bool_cases false = inr refl
 module _ (choices : List (Option ChoiceOf)) (starts : List (Option StartOf)) (first : ℕ) (s : GrammarSymbol) (ss : List GrammarSymbol) where
   -- the place in a list with one symbol more at its head
   rest_place : Bool → Bool → Option ℕ
-  rest_place here none = if here then Some 0 else (if none then further (place_of choices starts first ss) else None)
+  rest_place here none = if here then Some 0 else (if none then further (begin_index choices starts first ss) else None)
 
-  pub place_begins : begins starts first s ≡ true → place_of choices starts first (s ∷ ss) ≡ Some 0
+  pub place_begins : begins starts first s ≡ true → begin_index choices starts first (s ∷ ss) ≡ Some 0
   place_begins here =
-      ap (λ (b : Bool). if b then Some 0 else (if is_zero (len_at choices s) then further (place_of choices starts first ss) else None)) here
+      ap (λ (b : Bool). if b then Some 0 else (if is_zero (len_at choices s) then further (begin_index choices starts first ss) else None)) here
 
-  pub place_stops : begins starts first s ≡ false → is_zero (len_at choices s) ≡ false → place_of choices starts first (s ∷ ss) ≡ None
+  pub place_stops : begins starts first s ≡ false → is_zero (len_at choices s) ≡ false → begin_index choices starts first (s ∷ ss) ≡ None
   place_stops not_here none =
-      ap (λ (b : Bool). if b then Some 0 else (if is_zero (len_at choices s) then further (place_of choices starts first ss) else None)) not_here
-      ∙ ap (λ (b : Bool). if b then further (place_of choices starts first ss) else None) none
+      ap (λ (b : Bool). if b then Some 0 else (if is_zero (len_at choices s) then further (begin_index choices starts first ss) else None)) not_here
+      ∙ ap (λ (b : Bool). if b then further (begin_index choices starts first ss) else None) none
 
   pub place_on : begins starts first s ≡ false → is_zero (len_at choices s) ≡ true
-      → place_of choices starts first (s ∷ ss) ≡ further (place_of choices starts first ss)
+      → begin_index choices starts first (s ∷ ss) ≡ further (begin_index choices starts first ss)
   place_on not_here none =
-      ap (λ (b : Bool). if b then Some 0 else (if is_zero (len_at choices s) then further (place_of choices starts first ss) else None)) not_here
-      ∙ ap (λ (b : Bool). if b then further (place_of choices starts first ss) else None) none
+      ap (λ (b : Bool). if b then Some 0 else (if is_zero (len_at choices s) then further (begin_index choices starts first ss) else None)) not_here
+      ∙ ap (λ (b : Bool). if b then further (begin_index choices starts first ss) else None) none
 
 zero_is : (o : Option ℕ) → is_zero o ≡ option_eq nat_eq o (Some 0)
 zero_is None = refl
@@ -52,35 +52,35 @@ abbrev from_place : ℕ → Option ℕ → Option ℕ
 from_place i o = option_map (λ n. i + n) o
 
 module _ (choices : List (Option ChoiceOf)) (starts : List (Option StartOf)) (first : ℕ) (i : ℕ) (rest : List GrammarSymbol) (all : Option ℕ)
-    (so_far : option_map (λ n. i + n) (place_of choices starts first rest) ≡ all) where
+    (so_far : option_map (λ n. i + n) (begin_index choices starts first rest) ≡ all) where
   pub place_ends : rest ≡ [] → None ≡ all
-  place_ends is = ap (λ (w : List GrammarSymbol). option_map (λ n. i + n) (place_of choices starts first w)) (sym is) ∙ so_far
+  place_ends is = ap (λ (w : List GrammarSymbol). option_map (λ n. i + n) (begin_index choices starts first w)) (sym is) ∙ so_far
 
   module _ (s : GrammarSymbol) (more : List GrammarSymbol) (is : rest ≡ s ∷ more) (b : Bool) (fact : b ≡ begins starts first s) where
     place_found : b ≡ true → Some i ≡ all
     place_found here =
         let same : i ≡ i + 0 = omega arith in
         ap (λ (n : ℕ). Some n) same ∙ ap (option_map (λ n. i + n)) (sym (place_begins choices starts first s more (sym fact ∙ here)))
-        ∙ ap (λ (w : List GrammarSymbol). option_map (λ n. i + n) (place_of choices starts first w)) (sym is) ∙ so_far
+        ∙ ap (λ (w : List GrammarSymbol). option_map (λ n. i + n) (begin_index choices starts first w)) (sym is) ∙ so_far
 
     place_none : b ≡ false → option_eq nat_eq (len_at choices s) (Some 0) ≡ false → None ≡ all
     place_none not_here some =
         ap (option_map (λ n. i + n)) (sym (place_stops choices starts first s more (sym fact ∙ not_here) (zero_is (len_at choices s) ∙ some)))
-        ∙ ap (λ (w : List GrammarSymbol). option_map (λ n. i + n) (place_of choices starts first w)) (sym is) ∙ so_far
+        ∙ ap (λ (w : List GrammarSymbol). option_map (λ n. i + n) (begin_index choices starts first w)) (sym is) ∙ so_far
 
     shift : (o : Option ℕ) → option_map (λ n. (i + 1) + n) o ≡ option_map (λ n. i + n) (further o)
     shift None = refl
     shift (Some n) = let same : (i + 1) + n ≡ i + (n + 1) = omega arith in ap (λ (m : ℕ). Some m) same
 
-    place_more : b ≡ false → option_eq nat_eq (len_at choices s) (Some 0) ≡ true → option_map (λ n. (i + 1) + n) (place_of choices starts first more) ≡ all
+    place_more : b ≡ false → option_eq nat_eq (len_at choices s) (Some 0) ≡ true → option_map (λ n. (i + 1) + n) (begin_index choices starts first more) ≡ all
     place_more not_here none =
-        shift (place_of choices starts first more)
+        shift (begin_index choices starts first more)
         ∙ ap (option_map (λ n. i + n)) (sym (place_on choices starts first s more (sym fact ∙ not_here) (zero_is (len_at choices s) ∙ none)))
-        ∙ ap (λ (w : List GrammarSymbol). option_map (λ n. i + n) (place_of choices starts first w)) (sym is) ∙ so_far
+        ∙ ap (λ (w : List GrammarSymbol). option_map (λ n. i + n) (begin_index choices starts first w)) (sym is) ∙ so_far
 
 -- the same of symbols of code, at the place that was read
 module _ {S : Type 0} (index : S → ℕ) (choices : List (Option ChoiceOf)) (starts : List (Option StartOf)) (first : ℕ) (symbols : List (Symbol S)) (i : ℕ)
-    (all : Option ℕ) (so_far : option_map (λ n. i + n) (place_of choices starts first (drop i (map (symbol_of index) symbols))) ≡ all) (symbol : Symbol S)
+    (all : Option ℕ) (so_far : option_map (λ n. i + n) (begin_index choices starts first (drop i (map (symbol_of index) symbols))) ≡ all) (symbol : Symbol S)
     (within : i < length symbols) (read : symbol ≡ get_or symbols i symbol) (b : Bool) (fact : b ≡ begins starts first (symbol_of index symbol)) where
   pub found_at : b ≡ true → Some i ≡ all
   found_at =
@@ -93,7 +93,7 @@ module _ {S : Type 0} (index : S → ℕ) (choices : List (Option ChoiceOf)) (st
       (symbols_from index symbols i symbol within read) b fact
 
   pub more_after : b ≡ false → option_eq nat_eq (len_at choices (symbol_of index symbol)) (Some 0) ≡ true
-      → option_map (λ n. (i + 1) + n) (place_of choices starts first (drop (i + 1) (map (symbol_of index) symbols))) ≡ all
+      → option_map (λ n. (i + 1) + n) (begin_index choices starts first (drop (i + 1) (map (symbol_of index) symbols))) ≡ all
   more_after =
       place_more choices starts first i (drop i (map (symbol_of index) symbols)) all so_far (symbol_of index symbol) (drop (i + 1) (map (symbol_of index) symbols))
       (symbols_from index symbols i symbol within read) b fact
@@ -105,8 +105,8 @@ further_parts (Some n) k is = let same : n + 1 ≡ k = cc in (n, refl, same)
 
 -- the cases in which there is a place
 place_cases : (choices : List (Option ChoiceOf)) (starts : List (Option StartOf)) (first : ℕ) (s : GrammarSymbol) (ss : List GrammarSymbol) (k : ℕ)
-    → place_of choices starts first (s ∷ ss) ≡ Some k
-    → ((begins starts first s ≡ true) × (k ≡ 0)) ⊎ ((is_zero (len_at choices s) ≡ true) × ((n : ℕ) × (place_of choices starts first ss ≡ Some n) × (n + 1 ≡ k)))
+    → begin_index choices starts first (s ∷ ss) ≡ Some k
+    → ((begins starts first s ≡ true) × (k ≡ 0)) ⊎ ((is_zero (len_at choices s) ≡ true) × ((n : ℕ) × (begin_index choices starts first ss ≡ Some n) × (n + 1 ≡ k)))
 place_cases choices starts first s ss k is =
     elim (bool_cases (begins starts first s)) [
       | inl here ↦
@@ -114,13 +114,13 @@ place_cases choices starts first s ss k is =
           let same : 0 ≡ k = cc in inl (here, sym same)
       | inr not_here ↦
           elim (bool_cases (is_zero (len_at choices s))) [
-            | inl none ↦ inr (none, further_parts (place_of choices starts first ss) k (sym (place_on choices starts first s ss not_here none) ∙ is))
+            | inl none ↦ inr (none, further_parts (begin_index choices starts first ss) k (sym (place_on choices starts first s ss not_here none) ∙ is))
             | inr some ↦ let never = sym (place_stops choices starts first s ss not_here some) ∙ is in absurd (cc)
           ]
     ]
 
 pub place_within : (choices : List (Option ChoiceOf)) (starts : List (Option StartOf)) (first : ℕ) (ss : List GrammarSymbol) (k : ℕ)
-    → place_of choices starts first ss ≡ Some k → k < length ss
+    → begin_index choices starts first ss ≡ Some k → k < length ss
 place_within choices starts first [] k is = absurd (cc)
 place_within choices starts first (s ∷ ss) k is =
     elim (place_cases choices starts first s ss k is) as (λ _. k < length (s ∷ ss)) [
@@ -148,11 +148,11 @@ module _ (g : Grammar) (most : ℕ) (choices : List (Option ChoiceOf)) (right : 
         ]
 
     -- and so have symbols with a length and a place
-    pub place_trees : 1 ≤ most → (ss : List GrammarSymbol) (len k : ℕ) → total_len most choices ss ≡ Some len → place_of choices starts first ss ≡ Some k
+    pub place_trees : 1 ≤ most → (ss : List GrammarSymbol) (len k : ℕ) → sum_of_lens most choices ss ≡ Some len → begin_index choices starts first ss ≡ Some k
         → (ts : Forest ℕ) × ForestStarts g choices starts first k ts ss
     place_trees positive [] len k total is = absurd (cc)
     place_trees positive (s ∷ ss) len k total is =
-        let parts = added_parts most (len_at choices s) (total_len most choices ss) len total in
+        let parts = added_parts most (len_at choices s) (sum_of_lens most choices ss) len total in
         elim (place_cases choices starts first s ss k is) [
           | inl here ↦
               let one = begin_tree s here.0 in
@@ -184,8 +184,8 @@ module _ (g : Grammar) (most : ℕ) (choices : List (Option ChoiceOf)) (right : 
 
   -- one more rule can begin
   module _ (starts : List (Option StartOf)) (are : AreStarts g choices first starts) (p k len : ℕ) (known : p < prods_len g) (low : rule_of g p < rules_len g)
-      (none : start_at starts (rule_of g p) ≡ None) (total : total_len most choices (symbols_of g p) ≡ Some len)
-      (place : place_of choices starts first (symbols_of g p) ≡ Some k) where
+      (none : start_at starts (rule_of g p) ≡ None) (total : sum_of_lens most choices (symbols_of g p) ≡ Some len)
+      (place : begin_index choices starts first (symbols_of g p) ≡ Some k) where
     abbrev grown : List (Option StartOf)
     grown = set starts (rule_of g p) (Some (record { prod = p; place = k }))
 
@@ -254,7 +254,7 @@ module _ (g : Grammar) (most : ℕ) (choices : List (Option ChoiceOf)) (shortest
         ap is_some (ap (start_at starts) (sym fit.1) ∙ start.1)
 
     pub forest_begins : (ts : Forest ℕ) (ss : List GrammarSymbol) (rest : List ℕ) → AreTreesOf g ss ts → forest_leaves ts ≡ first ∷ rest
-        → (k : ℕ) × (place_of choices starts first ss ≡ Some k)
+        → (k : ℕ) × (begin_index choices starts first ss ≡ Some k)
     forest_begins Nil ss rest fit is = absurd (cc)
     forest_begins (Cons t ts) [] rest fit is = absurd fit
     forest_begins (Cons t ts) (s ∷ ss) rest fit is =
@@ -295,20 +295,20 @@ starts_already g most choices first starts p r is some len k total place =
     ]
 
 pub starts_nowhere : (g : Grammar) (most : ℕ) (choices : List (Option ChoiceOf)) (first : ℕ) (starts : List (Option StartOf)) (p : ℕ)
-    → place_if (total_len most choices (symbols_of g p)) (place_of choices starts first (symbols_of g p)) ≡ None → CanStart g most choices first starts p
+    → index_if (sum_of_lens most choices (symbols_of g p)) (begin_index choices starts first (symbols_of g p)) ≡ None → CanStart g most choices first starts p
 starts_nowhere g most choices first starts p none len k total place =
-    let both = ap (λ (o : Option ℕ). place_if o (place_of choices starts first (symbols_of g p))) (sym total) ∙ none in
+    let both = ap (λ (o : Option ℕ). index_if o (begin_index choices starts first (symbols_of g p))) (sym total) ∙ none in
     let never = sym place ∙ both in absurd (cc)
 
 -- if there is a place there is a length
-pub place_if_parts : (len place : Option ℕ) (k : ℕ) → place_if len place ≡ Some k → (n : ℕ) × (len ≡ Some n) × (place ≡ Some k)
+pub place_if_parts : (len place : Option ℕ) (k : ℕ) → index_if len place ≡ Some k → (n : ℕ) × (len ≡ Some n) × (place ≡ Some k)
 place_if_parts None place k is = absurd (cc)
 place_if_parts (Some n) place k is = (n, refl, is)
 
 module _ {S : Type 0} (index : S → ℕ) (g : Grammar) (most : ℕ) (choices : List (Option ChoiceOf)) (right : AreRight g most choices) (first : ℕ)
     (starts : List (Option (Start S))) (are : AreStarts g choices first (starts_of index starts)) (prod : PIdx S) (k r : ℕ) (known : index prod.0 < prods_len g)
     (is : r ≡ rule_of g (index prod.0)) (low : r < rules_len g) (none : start_at (starts_of index starts) r ≡ None)
-    (found : place_if (total_len most choices (symbols_of g (index prod.0))) (place_of choices (starts_of index starts) first (symbols_of g (index prod.0))) ≡ Some k)
+    (found : index_if (sum_of_lens most choices (symbols_of g (index prod.0))) (begin_index choices (starts_of index starts) first (symbols_of g (index prod.0))) ≡ Some k)
   where
     grown_list : starts_of index (set starts r (Some (record { prod = prod; place = k })))
         ≡ set (starts_of index starts) (rule_of g (index prod.0)) (Some (record { prod = index prod.0; place = k }))
@@ -318,7 +318,7 @@ module _ {S : Type 0} (index : S → ℕ) (g : Grammar) (most : ℕ) (choices : 
 
     pub grown_starts : 1 ≤ most → AreStarts g choices first (starts_of index (set starts r (Some (record { prod = prod; place = k }))))
     grown_starts positive =
-        let parts = place_if_parts (total_len most choices (symbols_of g (index prod.0))) (place_of choices (starts_of index starts) first (symbols_of g (index prod.0))) k found in
+        let parts = place_if_parts (sum_of_lens most choices (symbols_of g (index prod.0))) (begin_index choices (starts_of index starts) first (symbols_of g (index prod.0))) k found in
         subst (AreStarts g choices first) (sym grown_list)
         (grown_right g most choices right first (starts_of index starts) are (index prod.0) k parts.0 known (subst (λ (n : ℕ). n < rules_len g) is low)
         (ap (start_at (starts_of index starts)) (sym is) ∙ none) parts.1 parts.2 positive)

@@ -13,7 +13,7 @@ use Rattle.lrpar_table_rows.specs.PlainRows.{plain_action}
 use Rattle.lrpar_table_rows.specs.Safe.{GoesBy}
 use Rattle.lrpar_table_rows.specs.Table.{Table, TableAction, ShiftTo, ReduceBy, Accepts, Fails, action_of, actions_at, goto_of, gotos_at, states_len}
 use Rattle.lrpar_table_sentences.specs.Choices.{ChoiceOf}
-use Rattle.lrpar_table_sentences.specs.Lens.{added, len_at, total_len}
+use Rattle.lrpar_table_sentences.specs.Lens.{added, len_at, sum_of_lens}
 use Rattle.lrpar_table_rows.specs.declared.rows.Action.{Action}
 use Rattle.lrpar_table_sentences.specs.AccessStrings.{GoBack, StepOf, AccessOf, step_of, symbols_in, access_at, accesses_of}
 use Rattle.lrpar_table_sentences.specs.declared.transitions.Access.{Access}
@@ -26,7 +26,7 @@ pub record EdgeOf : Type 0 where
   pub next : ℕ
   pub len : ℕ
 
--- those of the code
+-- edges as they are stored, with numbers for their steps and states
 abbrev pub edge_of : {S : Type 0} → (S → ℕ) → Edge S → EdgeOf
 edge_of index x = record { step = step_of index x.step; next = index x.next.0; len = x.len }
 
@@ -66,7 +66,7 @@ StoresActions table s = (t : ℕ) (action : TableAction) → Contains (actions_a
 abbrev pub StoresGotos : Table → ℕ → Type 0
 StoresGotos table s = (r next : ℕ) → Contains (gotos_at table s) (r, next) ↔ (goto_of table s r ≡ Some next)
 
--- and so are both
+-- the actions and the gotos that are stored for state s are its own
 pub record IsStoredAt (table : Table) (s : ℕ) : Type 0 where
   pub actions : StoresActions table s
   pub gotos : StoresGotos table s
@@ -96,9 +96,9 @@ pub record AreRightAccesses (table : Table) (most : ℕ) (choices : List (Option
   pub states : length accesses ≡ states_len table
   pub start : access_at accesses table.start ≡ Some (record { len = 0; last = None })
   pub least : (s len : ℕ) (access : AccessOf) (path : List GrammarSymbol) → access_at accesses s ≡ Some access → IsWalk table s path
-      → total_len most choices path ≡ Some len → access.len ≤ len
+      → sum_of_lens most choices path ≡ Some len → access.len ≤ len
   pub back : (s : ℕ) (access : AccessOf) → access_at accesses s ≡ Some access
-      → (steps : List StepOf) × GoBack accesses s steps × LeadBack table s steps × (total_len most choices (symbols_in steps) ≡ Some access.len)
+      → (steps : List StepOf) × GoBack accesses s steps × LeadBack table s steps × (sum_of_lens most choices (symbols_in steps) ≡ Some access.len)
 
 -- the length of a step plus that of the access string of the state that it goes from, if there is one; none if an access string
 -- is kept already
@@ -117,14 +117,14 @@ NoStepIsOpen most accesses edges = (e : EdgeOf) → Contains edges e → open_by
 abbrev pub HasOpenStep : ℕ → List (Option AccessOf) → List EdgeOf → ℕ → Type 0
 HasOpenStep most accesses edges len = (e : EdgeOf) × Contains edges e × (open_by most accesses e ≡ Some len)
 
--- and none has less
+-- no open step has less than this length
 abbrev pub NoStepIsLess : ℕ → List (Option AccessOf) → List EdgeOf → ℕ → Type 0
 NoStepIsLess most accesses edges len = (e : EdgeOf) (other : ℕ) → Contains edges e → open_by most accesses e ≡ Some other → len ≤ other
 
 -- no walk to a state with nothing kept has symbols with fewer tokens
 abbrev pub NoWalkIsBelow : Table → ℕ → List (Option ChoiceOf) → List (Option AccessOf) → ℕ → Type 0
 NoWalkIsBelow table most choices accesses len =
-    (s other : ℕ) (path : List GrammarSymbol) → access_at accesses s ≡ None → IsWalk table s path → total_len most choices path ≡ Some other → len ≤ other
+    (s other : ℕ) (path : List GrammarSymbol) → access_at accesses s ≡ None → IsWalk table s path → sum_of_lens most choices path ≡ Some other → len ≤ other
 
 -- how many states have nothing kept
 abbrev pub open_accesses : List (Option AccessOf) → ℕ
@@ -147,7 +147,7 @@ AppendsStep index choices from symbol next old new =
 abbrev pub AreSteps : {S : Type 0} → (S → ℕ) → Table → List (Option ChoiceOf) → List (Edge S) → Type 0
 AreSteps index table choices edges = AreEdges table choices (edges_of index edges)
 
--- each leads to a state of which the code can keep something
+-- each step leads to a state of which the code can keep something
 abbrev pub LeadWithin : {S : Type 0} → (S → ℕ) → List (Edge S) → List (Option (Access S)) → Type 0
 LeadWithin index edges accesses = All (λ edge. index edge.next.0 < length accesses) edges
 
@@ -170,13 +170,13 @@ abbrev pub open_step_len : {S : Type 0} → (S → ℕ) → List (Option (Access
 open_step_len index accesses edge = open_by MAX (accesses_of index accesses) (edge_of index edge)
 
 -- no step of the code is open
-abbrev pub AllAreSettled : {S : Type 0} → (S → ℕ) → List (Option (Access S)) → List (Edge S) → Type 0
-AllAreSettled index accesses edges = NoStepIsOpen MAX (accesses_of index accesses) (edges_of index edges)
+abbrev pub AllStepsAreClosed : {S : Type 0} → (S → ℕ) → List (Option (Access S)) → List (Edge S) → Type 0
+AllStepsAreClosed index accesses edges = NoStepIsOpen MAX (accesses_of index accesses) (edges_of index edges)
 
 -- the least length of an open step, if there is one
 abbrev pub IsLeastOpenStep : {S : Type 0} → (S → ℕ) → List (Option (Access S)) → List (Edge S) → Option ℕ → Type 0
 IsLeastOpenStep index accesses edges least =
-    MatchOption least (AllAreSettled index accesses edges)
+    MatchOption least (AllStepsAreClosed index accesses edges)
     (λ len. HasOpenStep MAX (accesses_of index accesses) (edges_of index edges) len
     × NoStepIsLess MAX (accesses_of index accesses) (edges_of index edges) len)
 

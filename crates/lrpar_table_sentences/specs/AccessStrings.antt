@@ -25,7 +25,7 @@ pub record AccessOf : Type 0 where
   pub len : ℕ
   pub last : Option StepOf
 
--- those of the code
+-- steps as they are stored, with numbers for their states and symbols
 abbrev pub step_of : {S : Type 0} → (S → ℕ) → Step S → StepOf
 step_of index x = record { from = index x.from.0; symbol = symbol_of index x.symbol }
 
@@ -58,7 +58,8 @@ pub record IsShortestAccess (g : Grammar) (graph : Graph) (most s len : ℕ) : T
   pub least : (symbols : List GrammarSymbol) (trees : Forest ℕ) → IsPathTo g graph s symbols → AreTreesOf g symbols trees
       → len ≤ forest_width trees
 
--- the same if there is such a path; none if the symbols of no path all have trees
+-- the least number of tokens that trees of the symbols of any path to state s have, capped at `most`; none if no path has trees of all its
+-- symbols
 abbrev pub IsShortestAccessIfAny : Grammar → Graph → ℕ → ℕ → Option ℕ → Type 0
 IsShortestAccessIfAny g graph most s None = (symbols : List GrammarSymbol) (trees : Forest ℕ) → IsPathTo g graph s symbols → ¬ (AreTreesOf g symbols trees)
 IsShortestAccessIfAny g graph most s (Some len) = IsShortestAccess g graph most s len
@@ -102,7 +103,7 @@ IsLenTo index accesses s len =
     (g : Grammar) (graph : Graph) (table : Table) → AreAccessStrings g graph table MAX accesses
     → index s.0 < graph_len graph → IsShortestAccessIfAny g graph MAX (index s.0) len
 
--- and the steps of a path to the state are appended, if there is one
+-- in each built table whose access strings these are, the steps of a path to the state are appended, if there is one
 abbrev pub AppendsPath : {S A : Type 0} → (S → ℕ) → List (Option AccessOf) → StIdx S → Vec (Step S) A → Vec (Step S) A → Type 0
 AppendsPath index accesses s old new =
     (g : Grammar) (graph : Graph) (table : Table) → AreAccessStrings g graph table MAX accesses

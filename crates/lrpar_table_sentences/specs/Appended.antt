@@ -10,7 +10,7 @@ use Rattle.lrpar_table_sentences.specs.Moves.{forest_moves, moves_in, moves_of}
 use Rattle.lrpar_table_sentences.specs.Texts.{AreShortestTrees, BeginWith, CanBeginWith, HaveTrees, IsShortestTree}
 use Rattle.lrpar_table_sentences.specs.declared.moves.Move.{Move}
 
--- the symbol has a tree, and each of the symbols
+-- the symbol has a tree, and each of a list of symbols has one
 abbrev pub HasTreeOf : {S : Type 0} → (S → ℕ) → Grammar → Symbol S → Type 0
 HasTreeOf index g symbol = HaveTrees g (symbol_of index symbol ∷ [])
 
@@ -31,7 +31,7 @@ AppendsShortestTrees index g symbols old new =
 abbrev pub CanStartWith : {S : Type 0} → (S → ℕ) → Grammar → List (Symbol S) → TIdx S → Type 0
 CanStartWith index g symbols first = CanBeginWith g (map (symbol_of index) symbols) (index first.0)
 
--- the moves of such trees are appended
+-- the moves of trees of the symbols whose first token is this one are appended
 abbrev pub AppendsTreesWith : {S A : Type 0} → (S → ℕ) → Grammar → List (Symbol S) → TIdx S → Vec (Move S) A → Vec (Move S) A → Type 0
 AppendsTreesWith index g symbols first old new =
     (trees : Forest ℕ) × BeginWith g (map (symbol_of index) symbols) (index first.0) trees

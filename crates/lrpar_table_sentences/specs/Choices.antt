@@ -9,14 +9,14 @@ use Rattle.lrpar_grammar.specs.Symbols.{symbol_of}
 use Rattle.lrpar_grammar.specs.Tree.{Tree, Forest, Leaf, Branch, Nil, Cons}
 use Rattle.lrpar_table_sentences.specs.Reachable.{HasTree}
 use Rattle.lrpar_table_sentences.specs.Texts.{IsShortestIfAny, IsTreeOf, width}
-use Rattle.lrpar_table_sentences.specs.declared.settle.Choice.{Choice}
+use Rattle.lrpar_table_sentences.specs.declared.minimal_sentences.Choice.{Choice}
 
 -- a number of tokens, and a production
 pub record ChoiceOf : Type 0 where
   pub len : ℕ
   pub prod : ℕ
 
--- those of the code
+-- choices as they are stored, with numbers for their productions
 abbrev pub choice_of : {S : Type 0} → (S → ℕ) → Choice S → ChoiceOf
 choice_of index x = record { len = x.len; prod = index x.prod.0 }
 
@@ -54,7 +54,7 @@ pub record AreRight (g : Grammar) (most : ℕ) (choices : List (Option ChoiceOf)
   pub trees : (r : ℕ) (x : ChoiceOf) → choice_at choices r ≡ Some x
       → (tree : Tree ℕ) × Follows g choices tree (Nonterminal r) × (min (width tree) most ≡ x.len)
 
--- it is right, and something is kept of each rule that has a tree
+-- what is kept of rules is right, and something is kept of each rule that has a tree
 pub record AreShortest (g : Grammar) (most : ℕ) (choices : List (Option ChoiceOf)) : Type 0 where
   pub right : AreRight g most choices
   pub all : (r : ℕ) → choice_at choices r ≡ None → (tree : Tree ℕ) → ¬ (IsTreeOf g (Nonterminal r) tree)
@@ -63,11 +63,12 @@ pub record AreShortest (g : Grammar) (most : ℕ) (choices : List (Option Choice
 abbrev pub AreShortestOf : Grammar → List (Option ChoiceOf) → Type 0
 AreShortestOf g = λ choices. AreShortest g MAX choices
 
--- in each grammar of which it is kept, this is the length of the symbols' minimal sentences, if there are any
+-- in each grammar of which the choices are kept, this is the length of the symbols' minimal sentences, if there are any
 abbrev pub IsMinimalLen : List (Option ChoiceOf) → List GrammarSymbol → Option ℕ → Type 0
 IsMinimalLen choices symbols len = (g : Grammar) → AreShortest g MAX choices → IsShortestIfAny g MAX symbols len
 
--- in each such grammar, this is the length of minimal sentences of a symbol of the code, or of symbols, if there are any
+-- in each grammar of which the choices are kept, this is the length of the minimal sentences of a symbol, or of symbols, as they are
+-- stored, if there are any
 abbrev pub IsLenOf : {S : Type 0} → (S → ℕ) → List (Option ChoiceOf) → Symbol S → Option ℕ → Type 0
 IsLenOf index choices symbol len = IsMinimalLen choices (symbol_of index symbol ∷ []) len
 
@@ -78,7 +79,7 @@ IsLenOfAll index choices symbols len = IsMinimalLen choices (map (symbol_of inde
 abbrev pub is_kept : {S : Type 0} → (S → ℕ) → List (Option ChoiceOf) → RIdx S → Bool
 is_kept index choices rule = is_some (choice_at choices (index rule.0))
 
--- in each grammar of which it is kept, the answer is true exactly if the rule has a tree
+-- in each grammar of which the choices are kept, the answer is true exactly if the rule has a tree
 abbrev pub DecidesTree : {S : Type 0} → (S → ℕ) → List (Option ChoiceOf) → RIdx S → Bool → Type 0
 DecidesTree index choices rule answer = (g : Grammar) → AreShortest g MAX choices → IsTrue answer ↔ HasTree g (index rule.0)
 
@@ -86,9 +87,9 @@ DecidesTree index choices rule answer = (g : Grammar) → AreShortest g MAX choi
 abbrev pub RightSoFar : {S : Type 0} → (S → ℕ) → Grammar → List (Option (Choice S)) → Type 0
 RightSoFar index g choices = AreRight g MAX (choices_of index choices)
 
--- and something is kept of each rule that has a tree
-abbrev pub AreSettled : {S : Type 0} → (S → ℕ) → Grammar → List (Option (Choice S)) → Type 0
-AreSettled index g choices = AreShortest g MAX (choices_of index choices)
+-- what the code keeps of rules is right, and something is kept of each rule that has a tree
+abbrev pub AreShortestKept : {S : Type 0} → (S → ℕ) → Grammar → List (Option (Choice S)) → Type 0
+AreShortestKept index g choices = AreShortest g MAX (choices_of index choices)
 
 -- this is what the code keeps of the rule; out of range, nothing
 abbrev pub IsChoiceFor : {S : Type 0} → (S → ℕ) → List (Option (Choice S)) → RIdx S → Option (Choice S) → Type 0

@@ -8,7 +8,7 @@ use Rattle.lrpar_grammar.specs.Tree.{Tree, Forest}
 use Rattle.lrpar_table_sentences.specs.Choices.{RightSoFar, ChoiceOf, Follows, ForestFollows, choices_of}
 use Rattle.lrpar_table_sentences.specs.Moves.{MoveOf, Makes, forest_moves, moves_in, moves_of}
 use Rattle.lrpar_table_sentences.specs.declared.moves.Move.{Move}
-use Rattle.lrpar_table_sentences.specs.declared.settle.Choice.{Choice}
+use Rattle.lrpar_table_sentences.specs.declared.minimal_sentences.Choice.{Choice}
 use Rattle.lrpar_table_sentences.specs.declared.unfold.Frame.{Frame}
 
 -- a production, and how many of its symbols were done
@@ -16,11 +16,11 @@ pub record FrameOf : Type 0 where
   pub prod : ℕ
   pub dot : ℕ
 
--- that of the code
+-- a frame as it is stored, with a number for its production
 abbrev pub frame_of : {S : Type 0} → (S → ℕ) → Frame S → FrameOf
 frame_of index x = record { prod = index x.prod.0; dot = x.dot }
 
--- those of a stack of the code, whose top is the last one, the top first
+-- the frames of a stack as it is stored, the top first; there the top is the last one
 abbrev pub frames_of : {S : Type 0} → (S → ℕ) → List (Frame S) → List FrameOf
 frames_of index frames = reverse (map (frame_of index) frames)
 
@@ -28,7 +28,7 @@ frames_of index frames = reverse (map (frame_of index) frames)
 abbrev pub IsFrameOf : {S : Type 0} → (S → ℕ) → Grammar → Frame S → Type 0
 IsFrameOf index g x = index x.prod.0 < prods_len g
 
--- and so is that of each frame
+-- the production of each frame is one of the grammar
 abbrev pub AreFramesOf : {S A : Type 0} → (S → ℕ) → Grammar → Vec (Frame S) A → Type 0
 AreFramesOf index g frames = All (IsFrameOf index g) frames.items
 
@@ -53,7 +53,7 @@ Begins g choices symbol old new before after derives =
     (tree : Tree ℕ) (rest : List MoveOf) → Follows g choices tree symbol → Unfold g choices old rest
     → IsTrue derives × ((todo : List MoveOf) × Unfold g choices new todo × (after ++ todo ≡ before ++ (moves_of tree ++ rest)))
 
--- the same of the code's frames and moves, in each grammar
+-- what is left to be made once a symbol is begun, of frames and moves as they are stored, in each grammar
 abbrev pub BeginsSymbol : {S A B : Type 0} → (S → ℕ) → List (Option (Choice S)) → Symbol S → Vec (Frame S) A → Vec (Frame S) A
     → Vec (Move S) B → Vec (Move S) B → Bool → Type 0
 BeginsSymbol index choices symbol old new before after = λ derives.
@@ -80,7 +80,7 @@ AppendsTree index g choices symbol old new =
     (tree : Tree ℕ) → Follows g (choices_of index choices) tree (symbol_of index symbol)
     → moves_in index new.items ≡ moves_in index old.items ++ moves_of tree
 
--- and those of the trees that fit symbols
+-- the moves of the trees that follow the choices and fit the symbols are appended
 abbrev pub AppendsTrees : {S B : Type 0} → (S → ℕ) → Grammar → List (Option (Choice S)) → List (Symbol S) → Vec (Move S) B → Vec (Move S) B → Type 0
 AppendsTrees index g choices symbols old new =
     (trees : Forest ℕ) → ForestFollows g (choices_of index choices) trees (map (symbol_of index) symbols)

@@ -9,7 +9,7 @@ use Rattle.lrpar_grammar.specs.Symbols.{symbol_of}
 use Rattle.lrpar_grammar.specs.Tree.{Tree}
 use Rattle.lrpar_table_sentences.specs.Choices.{ChoiceOf, choice_at, choices_of}
 use Rattle.lrpar_table_sentences.specs.Texts.{IsTreeOf, width}
-use Rattle.lrpar_table_sentences.specs.declared.settle.Choice.{Choice}
+use Rattle.lrpar_table_sentences.specs.declared.minimal_sentences.Choice.{Choice}
 
 -- the sum of two numbers, capped at `most`, if there are both
 abbrev pub added : ℕ → Option ℕ → Option ℕ → Option ℕ
@@ -17,7 +17,7 @@ added most (Some a) (Some b) = Some (min (a + b) most)
 added most (Some a) None = None
 added most None b = None
 
--- the lesser one of two numbers, as far as there are
+-- the lesser of two numbers, or the only one
 abbrev pub lesser_of : Option ℕ → Option ℕ → Option ℕ
 lesser_of (Some a) (Some b) = Some (min a b)
 lesser_of (Some a) None = Some a
@@ -29,16 +29,16 @@ len_at choices (Terminal t) = Some 1
 len_at choices (Nonterminal r) = option_map (λ x. x.len) (choice_at choices r)
 
 -- the length of symbols
-abbrev pub total_len : ℕ → List (Option ChoiceOf) → List GrammarSymbol → Option ℕ
-total_len most choices [] = Some 0
-total_len most choices (s ∷ ss) = added most (len_at choices s) (total_len most choices ss)
+abbrev pub sum_of_lens : ℕ → List (Option ChoiceOf) → List GrammarSymbol → Option ℕ
+sum_of_lens most choices [] = Some 0
+sum_of_lens most choices (s ∷ ss) = added most (len_at choices s) (sum_of_lens most choices ss)
 
 -- the length of a symbol of the code, and that of symbols, capped at `usize::MAX`
 abbrev pub len_by : {S : Type 0} → (S → ℕ) → List (Option ChoiceOf) → Symbol S → Option ℕ
 len_by index choices symbol = len_at choices (symbol_of index symbol)
 
 abbrev pub len_by_all : {S : Type 0} → (S → ℕ) → List (Option ChoiceOf) → List (Symbol S) → Option ℕ
-len_by_all index choices symbols = total_len MAX choices (map (symbol_of index) symbols)
+len_by_all index choices symbols = sum_of_lens MAX choices (map (symbol_of index) symbols)
 
 -- the number, if nothing is kept
 abbrev pub unless_some : Option ChoiceOf → Option ℕ → Option ℕ
@@ -47,7 +47,7 @@ unless_some None len = len
 
 -- the length of a production whose rule has nothing kept yet
 abbrev pub open_len : Grammar → ℕ → List (Option ChoiceOf) → ℕ → Option ℕ
-open_len g most choices p = unless_some (choice_at choices (rule_of g p)) (total_len most choices (symbols_of g p))
+open_len g most choices p = unless_some (choice_at choices (rule_of g p)) (sum_of_lens most choices (symbols_of g p))
 
 -- no production is open
 abbrev pub NoneIsOpen : Grammar → ℕ → List (Option ChoiceOf) → Type 0
@@ -57,7 +57,7 @@ NoneIsOpen g most choices = (p : ℕ) → p < prods_len g → open_len g most ch
 abbrev pub HasOpen : Grammar → ℕ → List (Option ChoiceOf) → ℕ → Type 0
 HasOpen g most choices len = (p : ℕ) × (p < prods_len g) × (open_len g most choices p ≡ Some len)
 
--- and none has less
+-- no open production has less than this length
 abbrev pub NoneIsLess : Grammar → ℕ → List (Option ChoiceOf) → ℕ → Type 0
 NoneIsLess g most choices len = (p other : ℕ) → p < prods_len g → open_len g most choices p ≡ Some other → len ≤ other
 
@@ -74,7 +74,7 @@ abbrev pub symbol_len : {S : Type 0} → (S → ℕ) → List (Option (Choice S)
 symbol_len index choices symbol = len_at (choices_of index choices) (symbol_of index symbol)
 
 abbrev pub symbols_len : {S : Type 0} → (S → ℕ) → List (Option (Choice S)) → List (Symbol S) → Option ℕ
-symbols_len index choices symbols = total_len MAX (choices_of index choices) (map (symbol_of index) symbols)
+symbols_len index choices symbols = sum_of_lens MAX (choices_of index choices) (map (symbol_of index) symbols)
 
 abbrev pub open_prod_len : {S : Type 0} → (S → ℕ) → Grammar → List (Option (Choice S)) → PIdx S → Option ℕ
 open_prod_len index g choices prod = open_len g MAX (choices_of index choices) (index prod.0)

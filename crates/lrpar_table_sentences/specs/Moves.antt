@@ -19,11 +19,11 @@ abbrev mutual
   forest_moves Nil = []
   forest_moves (Cons t ts) = moves_of t ++ forest_moves ts
 
--- a move of the code
+-- a move as it is stored, with its token or production by number
 abbrev pub move_of : {S : Type 0} → (S → ℕ) → Move S → MoveOf
 move_of index (Take t) = Takes (index t.0)
 move_of index (Make p) = Makes (index p.0)
 
--- moves of the code
+-- moves as they are stored, with their tokens and productions by number
 abbrev pub moves_in : {S : Type 0} → (S → ℕ) → List (Move S) → List MoveOf
 moves_in index moves = map (move_of index) moves

@@ -31,12 +31,12 @@ pub record IsUnproductive (g : Grammar) (r : ℕ) : Type 0 where
   pub reached : IsReachableRule g r
   pub none : ¬ (HasTree g r)
 
--- and each reachable rule before it is productive
+-- rule r is the first rule that is reachable and unproductive
 pub record IsFirstUnproductive (g : Grammar) (r : ℕ) : Type 0 where
   pub unproductive : IsUnproductive g r
   pub first : (other : ℕ) → other < r → IsReachableRule g other → HasTree g other
 
--- this is the first reachable rule that is unproductive; none if each one is productive
+-- this is the first rule that is reachable and unproductive; none if each reachable rule is productive
 abbrev pub IsFirstUnproductiveIfAny : {S : Type 0} → (S → ℕ) → Grammar → Option (RIdx S) → Type 0
 IsFirstUnproductiveIfAny index g found = MatchOption found (EachReachableHasTree g) (λ rule. IsFirstUnproductive g (index rule.0))
 
@@ -55,7 +55,7 @@ pub record AreMarked (g : Grammar) (marks : List Bool) : Type 0 where
   pub added : IsTrue (is_marked marks 0)
   pub reached : (r : ℕ) → IsTrue (is_marked marks r) → IsReachableRule g r
 
--- if the rule of production p is marked, so is each one on its right side
+-- if the rule of production p is marked, so is each rule on its right side
 abbrev pub MarksOn : Grammar → List Bool → ℕ → Type 0
 MarksOn g marks p = IsTrue (is_marked marks (rule_of g p)) → (s : GrammarSymbol) → Contains (symbols_of g p) s → IsMarkedSymbol marks s
 
@@ -84,7 +84,7 @@ unmarked marks = count_by not marks
 abbrev pub MarksMore : List Bool → List Bool → Type 0
 MarksMore old new = unmarked new < unmarked old
 
--- if the rule of a production is marked, so is each one on its right side: of each production
+-- for each production: if its rule is marked, so is each rule on its right side
 abbrev pub AreClosed : Grammar → List Bool → Type 0
 AreClosed g marks = (p : ℕ) → p < prods_len g → MarksOn g marks p
 

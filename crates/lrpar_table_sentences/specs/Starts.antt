@@ -12,12 +12,12 @@ use Rattle.lrpar_grammar.specs.Symbols.{symbol_of}
 use Rattle.lrpar_grammar.specs.Tree.{Tree, Forest, Leaf, Branch, Nil, Cons}
 use Rattle.lrpar_table_sentences.specs.Choices.{RightSoFar, ChoiceOf, Follows, ForestFollows, choices_of}
 use Rattle.lrpar_table_sentences.specs.Frames.{FrameOf, Unfold, frames_of}
-use Rattle.lrpar_table_sentences.specs.Lens.{len_at, total_len}
+use Rattle.lrpar_table_sentences.specs.Lens.{len_at, sum_of_lens}
 use Rattle.lrpar_table_sentences.specs.Moves.{MoveOf, forest_moves, moves_in, moves_of}
 use Rattle.lrpar_table_sentences.specs.Texts.{width}
 use Rattle.lrpar_table_sentences.specs.declared.begins.Start.{Start}
 use Rattle.lrpar_table_sentences.specs.declared.moves.Move.{Move}
-use Rattle.lrpar_table_sentences.specs.declared.settle.Choice.{Choice}
+use Rattle.lrpar_table_sentences.specs.declared.minimal_sentences.Choice.{Choice}
 use Rattle.lrpar_table_sentences.specs.declared.unfold.Frame.{Frame}
 
 -- a production, and a place in it
@@ -25,26 +25,26 @@ pub record StartOf : Type 0 where
   pub prod : ℕ
   pub place : ℕ
 
--- those of the code
+-- starts as they are stored, with numbers for their productions
 abbrev pub start_of : {S : Type 0} → (S → ℕ) → Start S → StartOf
 start_of index x = record { prod = index x.prod.0; place = x.place }
 
 abbrev pub starts_of : {S : Type 0} → (S → ℕ) → List (Option (Start S)) → List (Option StartOf)
 starts_of index starts = map (option_map (start_of index)) starts
 
--- that of rule r; out of range, none
+-- how rule r can begin with the token; out of range, none
 abbrev pub start_at : List (Option StartOf) → ℕ → Option StartOf
 start_at starts r = slice_index_or starts r None
 
--- that of a symbol: a token has none
+-- how a symbol can begin with the token, if it is a rule; a token has no such start
 abbrev pub start_by : List (Option StartOf) → GrammarSymbol → Option StartOf
 start_by starts (Terminal t) = None
 start_by starts (Nonterminal r) = start_at starts r
 
--- the place, if there is a length
-abbrev pub place_if : Option ℕ → Option ℕ → Option ℕ
-place_if (Some len) place = place
-place_if None place = None
+-- the place, if the symbols have a length
+abbrev pub index_if : Option ℕ → Option ℕ → Option ℕ
+index_if (Some len) place = place
+index_if None place = None
 
 -- one place further
 abbrev pub further : Option ℕ → Option ℕ
@@ -61,10 +61,10 @@ begins starts first (Terminal t) = t == first
 begins starts first (Nonterminal r) = is_some (start_at starts r)
 
 -- the first place in symbols that can begin with the token, if the symbols before it are nullable
-abbrev pub place_of : List (Option ChoiceOf) → List (Option StartOf) → ℕ → List GrammarSymbol → Option ℕ
-place_of choices starts first [] = None
-place_of choices starts first (s ∷ ss) =
-    if begins starts first s then Some 0 else (if is_zero (len_at choices s) then further (place_of choices starts first ss) else None)
+abbrev pub begin_index : List (Option ChoiceOf) → List (Option StartOf) → ℕ → List GrammarSymbol → Option ℕ
+begin_index choices starts first [] = None
+begin_index choices starts first (s ∷ ss) =
+    if begins starts first s then Some 0 else (if is_zero (len_at choices s) then further (begin_index choices starts first ss) else None)
 
 -- a tree of the symbol that begins with the token by the starts; the trees before and after it follow the choices, and those
 -- before it have no tokens
@@ -83,7 +83,8 @@ abbrev mutual
   ForestStarts g choices starts first (suc place) (Cons t ts) (s ∷ ss) =
       Follows g choices t s × (width t ≡ 0) × ForestStarts g choices starts first place ts ss
 
--- how rules can begin is right as far as it goes: by a production of the rule, at one of its places; and there is a tree that does
+-- the starts are right as far as they go: each is a production of its rule and a place in it, and some tree of the rule begins with the
+-- token by it
 pub record AreStarts (g : Grammar) (choices : List (Option ChoiceOf)) (first : ℕ) (starts : List (Option StartOf)) : Type 0 where
   pub rules : length starts ≡ rules_len g
   pub within : (r : ℕ) (x : StartOf) → start_at starts r ≡ Some x
@@ -93,7 +94,7 @@ pub record AreStarts (g : Grammar) (choices : List (Option ChoiceOf)) (first : �
 -- if production p has a length and a place, its rule can begin
 abbrev pub CanStart : Grammar → ℕ → List (Option ChoiceOf) → ℕ → List (Option StartOf) → ℕ → Type 0
 CanStart g most choices first starts p =
-    (len place : ℕ) → total_len most choices (symbols_of g p) ≡ Some len → place_of choices starts first (symbols_of g p) ≡ Some place
+    (len place : ℕ) → sum_of_lens most choices (symbols_of g p) ≡ Some len → begin_index choices starts first (symbols_of g p) ≡ Some place
     → (x : StartOf) × (start_at starts (rule_of g p) ≡ Some x)
 
 -- what the code keeps of rules is right, and so is how they can begin with the token
@@ -105,11 +106,11 @@ pub record AreRightStarts {S : Type 0} (index : S → ℕ) (g : Grammar) (choice
 abbrev pub CanStartBy : {S : Type 0} → (S → ℕ) → Grammar → List (Option (Choice S)) → TIdx S → List (Option (Start S)) → PIdx S → Type 0
 CanStartBy index g choices first starts prod = CanStart g MAX (choices_of index choices) (index first.0) (starts_of index starts) (index prod.0)
 
--- that is so of each production
+-- if a production has a length and a place, its rule can begin: this holds for each production
 abbrev pub AreAllStarts : {S : Type 0} → (S → ℕ) → Grammar → List (Option (Choice S)) → TIdx S → List (Option (Start S)) → Type 0
 AreAllStarts index g choices first starts = (p : ℕ) → p < prods_len g → CanStart g MAX (choices_of index choices) (index first.0) (starts_of index starts) p
 
--- this is how a symbol can begin, if it is a rule that can
+-- this is how a symbol can begin, if it is a rule that can begin with the token
 abbrev pub IsStartFor : {S : Type 0} → (S → ℕ) → List (Option (Start S)) → Symbol S → Option (Start S) → Type 0
 IsStartFor index starts symbol found = option_map (start_of index) found ≡ start_by (starts_of index starts) (symbol_of index symbol)
 
@@ -118,15 +119,15 @@ abbrev pub begins_with : {S : Type 0} → (S → ℕ) → List (Option (Start S)
 begins_with index starts first symbol = begins (starts_of index starts) (index first.0) (symbol_of index symbol)
 
 -- the first place in symbols of the code that can begin with the token, if the symbols before it are nullable
-abbrev pub place_in_symbols : {S : Type 0} → (S → ℕ) → List (Option (Choice S)) → List (Option (Start S)) → TIdx S → List (Symbol S) → Option ℕ
-place_in_symbols index choices starts first symbols =
-    place_of (choices_of index choices) (starts_of index starts) (index first.0) (map (symbol_of index) symbols)
+abbrev pub begin_index_in : {S : Type 0} → (S → ℕ) → List (Option (Choice S)) → List (Option (Start S)) → TIdx S → List (Symbol S) → Option ℕ
+begin_index_in index choices starts first symbols =
+    begin_index (choices_of index choices) (starts_of index starts) (index first.0) (map (symbol_of index) symbols)
 
--- that of a production, if its symbols are productive
-abbrev pub place_in_prod : {S : Type 0} → (S → ℕ) → Grammar → List (Option (Choice S)) → List (Option (Start S)) → TIdx S → PIdx S → Option ℕ
-place_in_prod index g choices starts first prod =
-    place_if (total_len MAX (choices_of index choices) (symbols_of g (index prod.0)))
-    (place_of (choices_of index choices) (starts_of index starts) (index first.0) (symbols_of g (index prod.0)))
+-- the first place in a production that can begin with the token, if its symbols are productive
+abbrev pub begin_index_of_prod : {S : Type 0} → (S → ℕ) → Grammar → List (Option (Choice S)) → List (Option (Start S)) → TIdx S → PIdx S → Option ℕ
+begin_index_of_prod index g choices starts first prod =
+    index_if (sum_of_lens MAX (choices_of index choices) (symbols_of g (index prod.0)))
+    (begin_index (choices_of index choices) (starts_of index starts) (index first.0) (symbols_of g (index prod.0)))
 
 -- how many rules can't begin yet
 abbrev pub starts_open : List (Option StartOf) → ℕ
@@ -153,11 +154,11 @@ AppendsStart index g choices starts first symbol old new =
     (tree : Tree ℕ) → Starts g (choices_of index choices) (starts_of index starts) (index first.0) tree (symbol_of index symbol)
     → moves_in index new.items ≡ moves_in index old.items ++ moves_of tree
 
--- and those of trees of symbols, if they have a place at which the token can come
+-- the moves of trees of the symbols that begin with the token are appended, if there is a place in them at which the token can come
 abbrev pub AppendsStarts : {S B : Type 0} → (S → ℕ) → Grammar → List (Option (Choice S)) → List (Option (Start S)) → TIdx S → List (Symbol S)
     → Vec (Move S) B → Vec (Move S) B → Type 0
 AppendsStarts index g choices starts first symbols old new =
-    (k : ℕ) (trees : Forest ℕ) → place_in_symbols index choices starts first symbols ≡ Some k
+    (k : ℕ) (trees : Forest ℕ) → begin_index_in index choices starts first symbols ≡ Some k
     → ForestStarts g (choices_of index choices) (starts_of index starts) (index first.0) k trees (map (symbol_of index) symbols)
     → moves_in index new.items ≡ moves_in index old.items ++ forest_moves trees
 

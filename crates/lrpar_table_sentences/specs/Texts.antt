@@ -11,7 +11,7 @@ IsTreeOf g symbol tree = Fits (λ token. token) g tree symbol
 abbrev pub AreTreesOf : Grammar → List GrammarSymbol → Forest ℕ → Type 0
 AreTreesOf g symbols trees = ForestFits (λ token. token) g trees symbols
 
--- how many tokens a tree has, and trees
+-- how many tokens a tree has, and a list of trees
 abbrev pub width : Tree ℕ → ℕ
 width tree = length (leaves tree)
 
@@ -23,7 +23,7 @@ pub record IsShortestLen (g : Grammar) (most : ℕ) (symbols : List GrammarSymbo
   pub some : (trees : Forest ℕ) × AreTreesOf g symbols trees × (min (forest_width trees) most ≡ len)
   pub least : (trees : Forest ℕ) → AreTreesOf g symbols trees → len ≤ forest_width trees
 
--- the same if there are such trees; none if there are none
+-- the length of the symbols' minimal sentences, capped at `most`; none if the symbols have no trees
 abbrev pub IsShortestIfAny : Grammar → ℕ → List GrammarSymbol → Option ℕ → Type 0
 IsShortestIfAny g most symbols None = (trees : Forest ℕ) → ¬ (AreTreesOf g symbols trees)
 IsShortestIfAny g most symbols (Some len) = IsShortestLen g most symbols len
@@ -47,6 +47,6 @@ pub record BeginWith (g : Grammar) (symbols : List GrammarSymbol) (token : ℕ) 
   pub fit : AreTreesOf g symbols trees
   pub first : (rest : List ℕ) × (forest_leaves trees ≡ token ∷ rest)
 
--- there are such trees
+-- there are trees of the symbols whose first token is this one
 abbrev pub CanBeginWith : Grammar → List GrammarSymbol → ℕ → Type 0
 CanBeginWith g symbols token = (trees : Forest ℕ) × BeginWith g symbols token trees

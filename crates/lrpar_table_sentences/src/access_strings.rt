@@ -5,7 +5,7 @@ ghost use Rattle.lrpar_table_sentences.specs.Choices.{AreShortest};
 ghost use Rattle.lrpar_table_sentences.specs.AccessStrings.{AppendsPath, AreAccessStrings, IsLenTo, len_kept};
 
 use crate::back::{access_to, push_back, reverse_from};
-use crate::settle_access::settled_accesses;
+use crate::minimal_accesses::find_access_strings;
 use crate::shortest::Shortest;
 use crate::transitions::Access;
 pub use crate::transitions::Step;
@@ -41,7 +41,7 @@ impl<StorageT: StorageIndex> Model for AccessStrings<StorageT> {
 impl<StorageT: StorageIndex> AccessStrings<StorageT> {
     /// The minimal access strings of the states of a table that was built of the grammar.
     ///
-    /// They are settled in the order of their lengths, by sweeps over the shifts and gotos of the table: few in practice. Memory
+    /// They are fixed in the order of their lengths, by sweeps over the shifts and gotos of the table: few in practice. Memory
     /// grows with the shifts and gotos. An `Err` comes if an allocation fails.
     pub fn new(
         alloc: Global,
@@ -54,7 +54,7 @@ impl<StorageT: StorageIndex> AccessStrings<StorageT> {
         requires shortest { AreShortest grm.now usize.MAX shortest.now }
         ensures { IfOk result (λ accesses. AreAccessStrings grm.now sgraph.now stable.now usize.MAX accesses) }
     {
-        let accesses = settled_accesses(alloc, grm, sgraph, stable, shortest)?;
+        let accesses = find_access_strings(alloc, grm, sgraph, stable, shortest)?;
         Ok(AccessStrings { accesses })
     }
 

@@ -3,10 +3,10 @@ ghost use Rattle.std.specs.Prelude.{◌≡◌, ◌<◌, IfOk, Some, length, slic
 ghost use Rattle.std.specs.Bool.{OnFalse, OnTrue};
 ghost use Rattle.lrpar_grammar.specs.Grammar.{prods_len};
 ghost use Rattle.lrpar_table_sentences.specs.Choices.{RightSoFar};
-ghost use Rattle.lrpar_table_sentences.specs.Starts.{AreAllStarts, AreRightStarts, CanStartBy, HasMoreStarts, IsStartFor, begins_with, place_in_prod, place_in_symbols};
+ghost use Rattle.lrpar_table_sentences.specs.Starts.{AreAllStarts, AreRightStarts, CanStartBy, HasMoreStarts, IsStartFor, begins_with, begin_index_of_prod, begin_index_in};
 
 use crate::kept::nothing_kept;
-use crate::settle::{Choice, len_of, total_len};
+use crate::minimal_sentences::{Choice, len_of, sum_of_lens};
 use lrpar_grammar::grammar::YaccGrammar;
 use lrpar_grammar::span::{PIdx, StorageIndex, Symbol, TIdx};
 use std::alloc::{AllocError, Global};
@@ -75,7 +75,7 @@ fn grow<StorageT: StorageIndex>(
     if begins_by(starts, Symbol::Rule(rule), first) {
         return false;
     }
-    match start_place(grm, choices, starts, first, pidx) {
+    match start_position(grm, choices, starts, first, pidx) {
         Some(place) => {
             keep(starts, usize::from(rule), Start { prod: pidx, place });
             true
@@ -97,7 +97,7 @@ fn keep<StorageT: StorageIndex>(
 }
 
 // The place at which the production can begin with the token, if its symbols are productive and there is one.
-fn start_place<StorageT: StorageIndex>(
+fn start_position<StorageT: StorageIndex>(
     grm: &YaccGrammar<StorageT>,
     choices: &[Option<Choice<StorageT>>],
     starts: &[Option<Start<StorageT>>],
@@ -105,22 +105,22 @@ fn start_place<StorageT: StorageIndex>(
     pidx: PIdx<StorageT>,
 ) -> Option<usize>
     requires { StorageT.index pidx.0 < prods_len grm.now }
-    ensures { result ≡ place_in_prod StorageT.index grm.now choices.now starts.now first pidx }
+    ensures { result ≡ begin_index_of_prod StorageT.index grm.now choices.now starts.now first pidx }
 {
-    match total_len(choices, grm.prod(pidx)) {
-        Some(_) => place_of(choices, starts, grm.prod(pidx), first),
+    match sum_of_lens(choices, grm.prod(pidx)) {
+        Some(_) => position_of(choices, starts, grm.prod(pidx), first),
         None => None,
     }
 }
 
 /// The first place in the symbols that can begin with the token by the starts, if the symbols before it are nullable.
-pub(crate) fn place_of<StorageT: StorageIndex>(
+pub(crate) fn position_of<StorageT: StorageIndex>(
     choices: &[Option<Choice<StorageT>>],
     starts: &[Option<Start<StorageT>>],
     symbols: &[Symbol<StorageT>],
     first: TIdx<StorageT>,
 ) -> Option<usize>
-    ensures { result ≡ place_in_symbols StorageT.index choices.now starts.now first symbols.now }
+    ensures { result ≡ begin_index_in StorageT.index choices.now starts.now first symbols.now }
 {
     for (place, symbol) in symbols.iter().enumerate() {
         if begins_by(starts, *symbol, first) {

@@ -1,13 +1,13 @@
 //! The moves of trees that begin with a token.
 ghost use Rattle.std.specs.Prelude.{◌<◌, IfSome, IsSome, OnOk, length};
 ghost use Rattle.lrpar_table_sentences.specs.Appended.{AppendsTreesWith, CanStartWith};
-ghost use Rattle.lrpar_table_sentences.specs.Choices.{AreSettled};
+ghost use Rattle.lrpar_table_sentences.specs.Choices.{AreShortestKept};
 ghost use Rattle.lrpar_table_sentences.specs.Frames.{AreFramesOf};
 ghost use Rattle.lrpar_table_sentences.specs.Starts.{AppendsStart, AppendsStarts, ArePartsAt, AreRightStarts, DescendsTo};
 
-use crate::begins::{Start, place_of, start_of, starts};
+use crate::begins::{Start, position_of, start_of, starts};
+use crate::minimal_sentences::Choice;
 use crate::moves::Move;
-use crate::settle::Choice;
 use crate::unfold::{Frame, push_symbols, unfold};
 use lrpar_grammar::grammar::YaccGrammar;
 use lrpar_grammar::span::{StorageIndex, Symbol, TIdx};
@@ -22,7 +22,7 @@ pub(crate) fn push_beginning<StorageT: StorageIndex>(
     symbols: &[Symbol<StorageT>],
     first: TIdx<StorageT>,
 ) -> Result<(), AllocError>
-    requires rules { AreSettled StorageT.index grm.now choices.now }
+    requires rules { AreShortestKept StorageT.index grm.now choices.now }
     requires some { CanStartWith StorageT.index grm.now symbols.now first }
     ensures { OnOk result (AppendsTreesWith StorageT.index grm.now symbols.now first out.old out.new) }
 {
@@ -30,7 +30,7 @@ pub(crate) fn push_beginning<StorageT: StorageIndex>(
     push_by(alloc, grm, choices, &starts, out, symbols, first)
 }
 
-// The same by how rules can begin.
+// Appends the moves, by how each rule can begin.
 fn push_by<StorageT: StorageIndex>(
     alloc: Global,
     grm: &YaccGrammar<StorageT>,
@@ -43,7 +43,7 @@ fn push_by<StorageT: StorageIndex>(
     requires { AreRightStarts StorageT.index grm.now choices.now first starts.now }
     ensures { OnOk result (AppendsStarts StorageT.index grm.now choices.now starts.now first symbols.now out.old out.new) }
 {
-    let Some(place) = place_of(choices, starts, symbols, first) else {
+    let Some(place) = position_of(choices, starts, symbols, first) else {
         return Ok(());
     };
     let Some((before, symbol, after)) = around(symbols, place) else {

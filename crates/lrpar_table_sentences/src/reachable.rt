@@ -4,9 +4,9 @@ ghost use Rattle.std.specs.Bool.{OnFalse, OnTrue};
 ghost use Rattle.lrpar_grammar.specs.Grammar.{prods_len};
 ghost use Rattle.lrpar_grammar.specs.Symbols.{symbol_of};
 ghost use Rattle.lrpar_table_sentences.specs.Reachable.{AreAllMarked, AreClosed, AreMarked, DecidesReach, HasAllMarks, HasMarkFor, IsFirstUnproductiveIfAny, IsMarkedSymbol, MarksMore, MarksOn, StayMarks, has_mark};
-ghost use Rattle.lrpar_table_sentences.specs.Choices.{AreSettled};
+ghost use Rattle.lrpar_table_sentences.specs.Choices.{AreShortestKept};
 
-use crate::settle::{Choice, choice_of};
+use crate::minimal_sentences::{Choice, choice_of};
 use lrpar_grammar::grammar::YaccGrammar;
 use lrpar_grammar::span::{PIdx, RIdx, StorageIndex, Symbol};
 use std::alloc::{AllocError, Global};
@@ -60,7 +60,7 @@ pub(crate) fn unproductive<StorageT: StorageIndex>(
     grm: &YaccGrammar<StorageT>,
     choices: &[Option<Choice<StorageT>>],
 ) -> Result<Option<RIdx<StorageT>>, AllocError>
-    requires { AreSettled StorageT.index grm.now choices.now }
+    requires { AreShortestKept StorageT.index grm.now choices.now }
     ensures { IfOk result (IsFirstUnproductiveIfAny StorageT.index grm.now) }
 {
     let marks = reachable_rules(alloc, grm)?;
@@ -73,7 +73,7 @@ fn first_unproductive<StorageT: StorageIndex>(
     choices: &[Option<Choice<StorageT>>],
     marks: &[bool],
 ) -> Option<RIdx<StorageT>>
-    requires rules { AreSettled StorageT.index grm.now choices.now }
+    requires rules { AreShortestKept StorageT.index grm.now choices.now }
     requires marks { AreAllMarked grm.now marks.now }
     ensures { IsFirstUnproductiveIfAny StorageT.index grm.now result }
 {
@@ -142,7 +142,7 @@ fn mark_after<StorageT: StorageIndex>(
     ensures closed { OnFalse result (MarksOn grm.now marks.new (StorageT.index pidx.0)) }
 {
     // The proof needs that the grammar is well-formed.
-    let _start = grm.start_prod();
+    let _lemma = grm.start_prod();
     let rule = grm.prod_to_rule(pidx);
     if !marks[usize::from(rule)] {
         return false;

@@ -6,9 +6,9 @@ ghost use Rattle.lrpar_table_sentences.specs.Reachable.{IsFirstUnproductiveIfAny
 ghost use Rattle.lrpar_table_sentences.specs.Appended.{AppendsShortestTree, AppendsShortestTrees, AppendsTreesWith, CanStartWith, HasTreeOf, HaveTreesOf};
 
 use crate::descend::push_beginning;
+use crate::minimal_sentences::{Choice, choice_of, find_minimal_sentences, len_of, sum_of_lens};
 use crate::moves::Move;
 use crate::reachable::unproductive;
-use crate::settle::{Choice, choice_of, len_of, settled, total_len};
 use crate::unfold::{push_symbol, push_symbols};
 use lrpar_grammar::grammar::YaccGrammar;
 use lrpar_grammar::span::{RIdx, StorageIndex, Symbol, TIdx};
@@ -41,13 +41,13 @@ impl<StorageT: StorageIndex> Model for Shortest<StorageT> {
 impl<StorageT: StorageIndex> Shortest<StorageT> {
     /// The minimal sentences of the grammar's rules.
     ///
-    /// They are settled in the order of their lengths (Knuth, 'A Generalization of Dijkstra's Algorithm'), by sweeps over the
+    /// They are fixed in the order of their lengths (Knuth, 'A Generalization of Dijkstra's Algorithm'), by sweeps over the
     /// productions: few in practice, and at most one more than there are rules. Memory grows with the rules. An `Err` comes if an
     /// allocation fails.
     pub fn new(alloc: Global, grm: &YaccGrammar<StorageT>) -> Result<Self, AllocError>
         ensures { IfOk result (AreShortestOf grm.now) }
     {
-        let choices = settled(alloc, grm)?;
+        let choices = find_minimal_sentences(alloc, grm)?;
         Ok(Shortest { choices })
     }
 
@@ -73,7 +73,7 @@ impl<StorageT: StorageIndex> Shortest<StorageT> {
         ensures len { result ≡ len_by_all StorageT.index self.now symbols.now }
         ensures shortest { IsLenOfAll StorageT.index self.now symbols.now result }
     {
-        total_len(&self.choices, symbols)
+        sum_of_lens(&self.choices, symbols)
     }
 
     /// Appends the moves of the tree of a minimal sentence of the symbol, which has to be productive.

@@ -3,8 +3,8 @@ ghost use Rattle.std.specs.Prelude.{◌<◌, ◌≤◌, IfOk, IfSome, OnOk, vec_
 ghost use Rattle.lrpar_table_sentences.specs.Frames.{AppendsFrames, AppendsTree, AppendsTrees, AreFramesOf, BeginsSymbol, IsAfterDot, IsFrameOf, OneIsNew, StayFrames};
 ghost use Rattle.lrpar_table_sentences.specs.Choices.{RightSoFar};
 
+use crate::minimal_sentences::{Choice, choice_of};
 use crate::moves::Move;
-use crate::settle::{Choice, choice_of};
 use lrpar_grammar::grammar::YaccGrammar;
 use lrpar_grammar::span::{PIdx, StorageIndex, Symbol};
 use std::alloc::{AllocError, Global};

@@ -55,10 +55,10 @@ pub data Far {X : Type 0} (token : X → ℕ) (g : Grammar) (table : Table) (lex
 -- A run from the stack at place i, without repairs: its stops; the lexemes that it consumes, if it accepts; and its
 -- reductions.
 pub data Run {X : Type 0} (token : X → ℕ) (g : Grammar) (table : Table) (lexemes : List X) : List ℕ → ℕ → List Stop → Option (List X) → List ℕ → Type 0 where
-  -- it accepts, and consumes the lexemes from place i on
+  -- the run accepts, and consumes the lexemes from place i on
   comes_through : (st : List ℕ) (i : ℕ) (prods : List ℕ) → Far token g table lexemes st i prods Accepted
       → Run token g table lexemes st i [] (Some (drop i lexemes)) prods
-  -- it stops, and no repair is listed
+  -- the run stops, and no repair is listed
   gives_up : (st : List ℕ) (i : ℕ) (prods : List ℕ) (stop : Stop) → Far token g table lexemes st i prods (Stopped stop)
       → Run token g table lexemes st i (stop ∷ []) None prods
 

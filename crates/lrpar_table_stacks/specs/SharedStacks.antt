@@ -30,7 +30,7 @@ abbrev pub NumberedStacksStay : Type 0
 NumberedStacksStay =
     (old new : Shared) (n : ℕ) → Extends old new → n < length old.stacks → (n < length new.stacks) × (stack_at new.stacks n ≡ stack_at old.stacks n)
 
--- the stack with this number has the states that are left of a numbered one without so many of its top states
+-- the stack with this number has the states of a numbered one, without this number of its top states
 abbrev pub IsBelow : List (List ℕ) → ℕ → ℕ → ℕ → Type 0
 IsBelow stacks number count below = stack_at stacks below ≡ take (length (stack_at stacks number) - count) (stack_at stacks number)
 

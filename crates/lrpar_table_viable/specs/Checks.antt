@@ -17,8 +17,8 @@ pub record AreSound {S : Type 0} (d : Viability S) : Type 0 where
   pub shape : HasShape d.grm.now d.sgraph.now d.stable.now
 
 -- what is wrong with the table, or nothing: it is viable
-abbrev pub IsFaultOf : {S : Type 0} → Viability S → Option ViableFault → Type 0
-IsFaultOf d found = MatchOption found (IsViable d.grm.now d.sgraph.now d.stable.now) (IsViableFault d.grm.now d.sgraph.now d.stable.now)
+abbrev pub IsViableFaultOf : {S : Type 0} → Viability S → Option ViableFault → Type 0
+IsViableFaultOf d found = MatchOption found (IsViable d.grm.now d.sgraph.now d.stable.now) (IsViableFault d.grm.now d.sgraph.now d.stable.now)
 
 module _ {S : Type 0} (index : S → ℕ) (d : Viability S) (s : StIdx S) where
   -- s is a state of the table
@@ -46,11 +46,11 @@ module _ {S : Type 0} (index : S → ℕ) (d : Viability S) (s : StIdx S) where
   abbrev pub HasCoreOf : PIdx S → ℕ → Type 0
   HasCoreOf pidx k = HasCore d.sgraph.now (index s.0) (index pidx.0) k
 
-  -- whether the marks justify that core
+  -- whether the marks justify the core of the production with k symbols before the dot
   abbrev pub by_marks : List Bool → PIdx S → ℕ → Bool
   by_marks marks pidx k = is_by_marks d.grm.now d.stable.now (index s.0) marks (index pidx.0) k
 
-  -- if they do, the rule after its dot is marked
+  -- if the marks justify the core of the production with k symbols before the dot, the rule after its dot is marked
   abbrev pub MarkAfter : List Bool → PIdx S → ℕ → Type 0
   MarkAfter marks pidx k = MarksOn d.grm.now d.stable.now (index s.0) marks (index pidx.0) k
 

@@ -29,7 +29,7 @@ pub record IsViableAt (g : Grammar) (graph : Graph) (table : Table) (s : ℕ) : 
   pub some : (p : ℕ) × (k : ℕ) × HasCore graph s p k
   pub justified : (p k : ℕ) → HasCore graph s p k → IsJustified g graph table s p k
 
--- each state of the table is so
+-- each state of the table is viable
 pub record IsViable (g : Grammar) (graph : Graph) (table : Table) : Type 0 where
   pub each : (s : ℕ) → s < states_len table → IsViableAt g graph table s
 

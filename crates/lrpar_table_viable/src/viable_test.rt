@@ -38,25 +38,25 @@ pub fn check_viable<StorageT: StorageIndex>(
         sgraph,
         stable,
     };
-    match checked.first_fault(&mut marks) {
+    match checked.find_first_fault(&mut marks) {
         None => Ok(()),
         Some(fault) => Err(fault),
     }
 }
 
 impl<'a, StorageT: StorageIndex> Viability<'a, StorageT> {
-    ghost use Rattle.lrpar_table_viable.specs.Checks.{AreSound, IsFaultOf, IsFaultOfState, IsFirstRefused, IsState};
+    ghost use Rattle.lrpar_table_viable.specs.Checks.{AreSound, IsViableFaultOf, IsFaultOfState, IsFirstRefused, IsState};
 
     // What is wrong in the first state that isn't viable. `marks` is scratch space: one for each rule.
-    fn first_fault(&self, marks: &mut [bool]) -> Option<ViableFault>
+    fn find_first_fault(&self, marks: &mut [bool]) -> Option<ViableFault>
         requires sound { AreSound self.now }
         requires rules { length marks.old ≡ rules_len self.now.grm.now }
-        ensures fault { IsFaultOf self.now result }
+        ensures fault { IsViableFaultOf self.now result }
         ensures refuted { IfSome result (λ _. ¬ (IsViable self.now.grm.now self.now.sgraph.now self.now.stable.now)) }
     {
         for s in 0..self.stable.states_len() {
             let state = StIdx(StorageT::from_index(s).unwrap());
-            if let Some(fault) = self.fault_at(state, marks) {
+            if let Some(fault) = self.find_fault_at(state, marks) {
                 return Some(fault);
             }
         }
@@ -64,7 +64,7 @@ impl<'a, StorageT: StorageIndex> Viability<'a, StorageT> {
     }
 
     // What is wrong in the state, if anything is.
-    fn fault_at(&self, s: StIdx<StorageT>, marks: &mut [bool]) -> Option<ViableFault>
+    fn find_fault_at(&self, s: StIdx<StorageT>, marks: &mut [bool]) -> Option<ViableFault>
         requires sound { AreSound self.now }
         requires state { IsState StorageT.index self.now s }
         requires rules { length marks.old ≡ rules_len self.now.grm.now }

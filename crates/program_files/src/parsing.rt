@@ -111,12 +111,12 @@ pub fn print_tree<'a, L: NonStreamingLexer<'a, TokenTypes>, O: Write>(
 ) -> Result<bool, Fault>
     requires { L.text lexer.now ≡ input.now }
 {
-    let parsed = parsed_of(alloc, parser, lexer)?;
+    let parsed = parse_text(alloc, parser, lexer)?;
     print_parsed(alloc, parser.grammar(), names, lexer, input, &parsed, out)
 }
 
 // The tree of the lexer's text, if there is one, and the errors.
-fn parsed_of<'a, L: NonStreamingLexer<'a, TokenTypes>>(
+fn parse_text<'a, L: NonStreamingLexer<'a, TokenTypes>>(
     alloc: Global,
     parser: &Parser<'_>,
     lexer: &L,

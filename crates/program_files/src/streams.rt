@@ -48,34 +48,36 @@ pub fn words(rt: &HostRuntime) -> io::Result<Vec<String>> {
     Ok(env::args(rt)?.skip(1).collect(rt.alloc())?)
 }
 
-/// The answer, after `out` is flushed; or a fault, and then what is left in its buffer is dropped.
-pub fn finished<O: Write + Drop>(
+/// Flushes `out`, and returns the answer. If there is a fault, what is left in the buffer of `out` is dropped.
+pub fn flush_answer<O: Write + Drop>(
     answer: Result<Status, Fault>,
     mut out: BufWriter<O>,
 ) -> Result<Status, Fault>
     ensures { IfOk result (λ status. answer ≡ Ok status) }
 {
-    let answer = flushed(answer, &mut out);
+    let answer = answer_after(answer, out.flush());
     if answer.is_err() {
         let _ = out.into_parts();
     }
     answer
 }
 
-// The answer, after `out` is flushed.
-fn flushed<O: Write>(answer: Result<Status, Fault>, out: &mut O) -> Result<Status, Fault>
+// The answer, or that `out` couldn't be flushed.
+fn answer_after(answer: Result<Status, Fault>, flushed: io::Result<()>) -> Result<Status, Fault>
     ensures { IfOk result (λ status. answer ≡ Ok status) }
 {
-    let written = out.flush();
-    match (answer, written) {
+    match (answer, flushed) {
         (Ok(status), Ok(())) => Ok(status),
         (Ok(_), Err(error)) => Err(error.into()),
         (Err(fault), _) => Err(fault),
     }
 }
 
-/// The number that a program ends with. A fault is written to `err` first, with a line feed after it, as far as that can be done.
-pub fn ended<FaultT: Display + Drop, E: Write>(ending: Result<Status, FaultT>, err: &mut E) -> u8
+/// The exit status of a program. A fault is written to `err` first, with a line feed after it, as far as that can be done.
+pub fn exit_status<FaultT: Display + Drop, E: Write>(
+    ending: Result<Status, FaultT>,
+    err: &mut E,
+) -> u8
     ensures status { IfOk ending (λ status. result ≡ status_code status) }
     ensures fault { OnErr ending (result ≡ 2) }
     ensures range { result ≤ 2 }

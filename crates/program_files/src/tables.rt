@@ -16,14 +16,14 @@ pub type Checked = Result<ParserData<u32>, Refused<u32>>;
 
 /// The checked table of a grammar's text.
 pub fn data_of(alloc: Global, text: &str) -> Result<ParserData<u32>, Fault> {
-    match checked(alloc, text, CAP)? {
+    match check_table(alloc, text, CAP)? {
         Ok(data) => Ok(data),
         Err(refused) => Err(refused.fault().into()),
     }
 }
 
-/// The same with this cap.
-pub fn checked(alloc: Global, text: &str, cap: u16) -> Result<Checked, Fault> {
+/// Builds the table of a grammar's text, and checks it with this cap.
+pub fn check_table(alloc: Global, text: &str, cap: u16) -> Result<Checked, Fault> {
     let grm = YaccGrammar::new_with_storaget(alloc, text)?;
     match parser_data(alloc, grm, MAX_STATES, cap) {
         Ok(data) => Ok(Ok(data)),

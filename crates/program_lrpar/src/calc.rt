@@ -49,7 +49,7 @@ struct Found {
 /// on `out`, or says on `err` that it has none. Returns whether each line has a number, and no error.
 ///
 /// The input is read after the repairs are made, and before the first line is computed.
-pub(crate) fn calc<I: Read + Drop, O: Write, E: Write>(
+pub(crate) fn run_calc<I: Read + Drop, O: Write, E: Write>(
     alloc: Global,
     repairs: &str,
     shifts: Option<usize>,
@@ -58,11 +58,11 @@ pub(crate) fn calc<I: Read + Drop, O: Write, E: Write>(
     err: &mut E,
 ) -> Result<bool, Fault> {
     let data = data_of(alloc, GRAMMAR)?;
-    calc_by(alloc, &data, repairs, shifts, input, out, err)
+    compute_input(alloc, &data, repairs, shifts, input, out, err)
 }
 
-// The same by the table of sums and products.
-fn calc_by<I: Read + Drop, O: Write, E: Write>(
+// Computes the lines of the input by the table of sums and products.
+fn compute_input<I: Read + Drop, O: Write, E: Write>(
     alloc: Global,
     data: &ParserData<u32>,
     repairs: &str,
@@ -73,11 +73,11 @@ fn calc_by<I: Read + Drop, O: Write, E: Write>(
 ) -> Result<bool, Fault> {
     let text_parser = text_parser_of(alloc, data, LEXER, repairs, shifts)?;
     let text = input_text(alloc, input)?;
-    calc_lines(alloc, &text_parser, text.as_str(), out, err)
+    compute_lines(alloc, &text_parser, text.as_str(), out, err)
 }
 
-// The same by a parser of texts, for the lines of a text.
-fn calc_lines<O: Write, E: Write>(
+// Computes the lines of a text.
+fn compute_lines<O: Write, E: Write>(
     alloc: Global,
     text_parser: &TextParser<'_>,
     text: &str,
@@ -86,7 +86,7 @@ fn calc_lines<O: Write, E: Write>(
 ) -> Result<bool, Fault> {
     let mut all = true;
     for line in text.split_inclusive('\n') {
-        all = calc_line(alloc, text_parser, without_end(line), out, err)? && all;
+        all = compute_line(alloc, text_parser, without_end(line), out, err)? && all;
     }
     Ok(all)
 }
@@ -100,7 +100,7 @@ fn without_end(line: &str) -> &str {
 }
 
 // Computes a line. A line of white space alone counts as clean.
-fn calc_line<O: Write, E: Write>(
+fn compute_line<O: Write, E: Write>(
     alloc: Global,
     text_parser: &TextParser<'_>,
     line: &str,
@@ -110,25 +110,25 @@ fn calc_line<O: Write, E: Write>(
     if line.trim().is_empty() {
         return Ok(true);
     }
-    let found = computed(alloc, text_parser, line, out)?;
+    let found = parse_line(alloc, text_parser, line, out)?;
     print_result(found.number, out, err)?;
     Ok(found.number.is_some() && !found.has_errors)
 }
 
-// Prints the errors of a line, and returns its number.
-fn computed<'a, O: Write>(
+// Parses a line, prints its errors, and returns what is found in it.
+fn parse_line<'a, O: Write>(
     alloc: Global,
     text_parser: &'a TextParser<'_>,
     line: &'a str,
     out: &mut O,
 ) -> Result<Found, Fault> {
     let lexer = RuleLexer::new(alloc, &text_parser.rules, line)?;
-    let parsed = parsed_of(alloc, text_parser, &lexer, line)?;
-    print_parsed(alloc, &text_parser.names, &lexer, line, &parsed, out)
+    let parsed = fold_line(alloc, text_parser, &lexer, line)?;
+    print_line_errors(alloc, &text_parser.names, &lexer, line, &parsed, out)
 }
 
 // The value of a line, if it has one, and its errors.
-fn parsed_of(
+fn fold_line(
     alloc: Global,
     text_parser: &TextParser<'_>,
     lexer: &RuleLexer<'_, '_>,
@@ -140,13 +140,13 @@ fn parsed_of(
             alloc,
             lexer,
             |lexeme| part_of(grm, line, lexeme),
-            |_, parts| joined(&parts),
+            |_, parts| value_of(&parts),
         )?,
     )
 }
 
-// The same for a parsed line.
-fn print_parsed<'a, L: NonStreamingLexer<'a, TokenTypes>, O: Write>(
+// Prints the errors of a parsed line, and returns what is found in it.
+fn print_line_errors<'a, L: NonStreamingLexer<'a, TokenTypes>, O: Write>(
     alloc: Global,
     names: &'a [&'a str],
     lexer: &L,
@@ -194,7 +194,7 @@ fn token_name(grm: &YaccGrammar<u32>, number: u32) -> &str {
 }
 
 // The value of a right side.
-fn joined(parts: &[Part]) -> Part {
+fn value_of(parts: &[Part]) -> Part {
     Part::Number(match parts {
         [part] => number_of(*part),
         [left, middle, right] => number_of_three(*left, *middle, *right),

@@ -6,19 +6,19 @@ use lrpar_table::check::{CheckFault, CompleteFault, ParserData, Refused};
 use lrpar_table::table::StateTable;
 use program_files::fault::Fault;
 use program_files::parsing::print_line;
-use program_files::tables::checked;
+use program_files::tables::check_table;
 use std::alloc::Global;
 use std::io::Write;
 
 /// Prints how large the grammar of the text and its table are, what the check of chains says, and whether a table that passes is
 /// complete. Returns whether it passes.
-pub(crate) fn check<O: Write>(
+pub(crate) fn run_check<O: Write>(
     alloc: Global,
     grammar: &str,
     cap: u16,
     out: &mut O,
 ) -> Result<bool, Fault> {
-    match checked(alloc, grammar, cap)? {
+    match check_table(alloc, grammar, cap)? {
         Ok(data) => {
             print_checked(alloc, &data, out)?;
             Ok(true)

@@ -12,7 +12,7 @@ use std::alloc::{AllocError, Global};
 use std::io::Write;
 
 /// Prints the conflicts of the table of the grammar with this path and text; nothing, if there are none.
-pub(crate) fn conflicts<O: Write>(
+pub(crate) fn print_conflicts<O: Write>(
     alloc: Global,
     path: &str,
     grammar: &str,

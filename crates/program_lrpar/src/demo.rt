@@ -12,13 +12,13 @@ use std::io::Write;
 const GRAMMAR: &str = "%% E: T '+' E | T; T: 'ID';";
 
 /// Parses the text as a sum, and prints its errors and its tree. Returns whether there is a tree, and no error.
-pub(crate) fn demo<O: Write>(alloc: Global, text: &str, out: &mut O) -> Result<bool, Fault> {
+pub(crate) fn run_demo<O: Write>(alloc: Global, text: &str, out: &mut O) -> Result<bool, Fault> {
     let data = data_of(alloc, GRAMMAR)?;
-    demo_by(alloc, &data, text, out)
+    parse_sum(alloc, &data, text, out)
 }
 
-// The same by a table.
-fn demo_by<O: Write>(
+// Parses the text by the table of sums, and prints its errors and its tree.
+fn parse_sum<O: Write>(
     alloc: Global,
     data: &ParserData<u32>,
     text: &str,
@@ -26,17 +26,6 @@ fn demo_by<O: Write>(
 ) -> Result<bool, Fault> {
     let names = printed_names(alloc, data.grm())?;
     let parser = parser_by(data, FixedRecoverer::new(Vec::new(alloc)), None)?;
-    sum_of(alloc, &parser, &names, text, out)
-}
-
-// The same by a parser.
-fn sum_of<'a, O: Write>(
-    alloc: Global,
-    parser: &Parser<'_>,
-    names: &'a [&'a str],
-    text: &'a str,
-    out: &mut O,
-) -> Result<bool, Fault> {
     let lexer = SumLexer::new(alloc, text)?;
-    print_tree(alloc, parser, names, &lexer, text, out)
+    print_tree(alloc, &parser, &names, &lexer, text, out)
 }

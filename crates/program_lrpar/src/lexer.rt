@@ -37,7 +37,7 @@ impl<'input> SumLexer<'input> {
     }
 
     // The line and the column of a byte.
-    fn place(&self, byte: usize) -> (usize, usize)
+    fn position(&self, byte: usize) -> (usize, usize)
         requires { IsCharBoundary self.now.input.now byte }
         ensures line { result.0 ≡ line_of self.now.input.now byte }
         ensures column { result.1 ≡ column_of self.now.input.now byte }
@@ -75,7 +75,7 @@ impl<'input> NonStreamingLexer<'input, TokenTypes> for SumLexer<'input> {
     }
 
     fn line_col(&self, span: Span) -> ((usize, usize), (usize, usize)) {
-        (self.place(span.start()), self.place(span.end()))
+        (self.position(span.start()), self.position(span.end()))
     }
 }
 

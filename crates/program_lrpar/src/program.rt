@@ -3,15 +3,15 @@
 ghost use Rattle.std.specs.Prelude.{◌≤◌};
 
 use crate::arguments::{Command, TreePaths, command_of};
-use crate::calc::calc;
-use crate::check::check;
-use crate::conflicts::conflicts;
-use crate::demo::demo;
+use crate::calc::run_calc;
+use crate::check::run_check;
+use crate::conflicts::print_conflicts;
+use crate::demo::run_demo;
 use crate::fault_line::FaultLine;
-use crate::tree::{TreeTexts, tree};
+use crate::tree::{TreeTexts, run_tree};
 use program_files::fault::Fault;
 use program_files::files::{file_text, text_if_any};
-use program_files::streams::{Status, ended, finished, words};
+use program_files::streams::{Status, exit_status, flush_answer, words};
 use std::alloc::Global;
 use std::io::{BufWriter, Read, Write};
 use std::rt::Files;
@@ -23,7 +23,7 @@ pub fn run_of_process(rt: &HostRuntime) -> u8
 {
     match words(rt) {
         Ok(args) => run(rt, rt.alloc(), &args, rt.stdin(), rt.stdout(), rt.stderr()),
-        Err(error) => ended(
+        Err(error) => exit_status(
             Err(FaultLine(Fault::of_arguments(&error))),
             &mut rt.stderr(),
         ),
@@ -47,12 +47,12 @@ pub fn run<R: Files, I: Read + Drop, O: Write + Drop, E: Write + Drop>(
 ) -> u8
     ensures status { result ≤ 2 }
 {
-    let ending = written(rt, alloc, args, input, out, &mut err);
-    ended(ending.map_err(FaultLine), &mut err)
+    let ending = run_buffered(rt, alloc, args, input, out, &mut err);
+    exit_status(ending.map_err(FaultLine), &mut err)
 }
 
-// The status of the command, after `out` is flushed.
-fn written<R: Files, I: Read + Drop, O: Write + Drop, E: Write>(
+// Runs the command over a buffered `out`, and returns its status after `out` is flushed.
+fn run_buffered<R: Files, I: Read + Drop, O: Write + Drop, E: Write>(
     rt: &R,
     alloc: Global,
     args: &[String],
@@ -62,15 +62,15 @@ fn written<R: Files, I: Read + Drop, O: Write + Drop, E: Write>(
 ) -> Result<Status, Fault> {
     match BufWriter::new(alloc, out) {
         Ok(mut out) => {
-            let status = printed(rt, alloc, args, input, &mut out, err);
-            finished(status, out)
+            let status = run_command(rt, alloc, args, input, &mut out, err);
+            flush_answer(status, out)
         }
         Err(_) => Err(Fault::Memory),
     }
 }
 
 // Runs the command, which prints its answer, and returns its status.
-fn printed<R: Files, I: Read + Drop, O: Write, E: Write>(
+fn run_command<R: Files, I: Read + Drop, O: Write, E: Write>(
     rt: &R,
     alloc: Global,
     args: &[String],
@@ -79,24 +79,24 @@ fn printed<R: Files, I: Read + Drop, O: Write, E: Write>(
     err: &mut E,
 ) -> Result<Status, Fault> {
     match command_of(args)? {
-        Command::Demo { text } => Ok(Status::of(demo(alloc, text, out)?)),
+        Command::Demo { text } => Ok(Status::of(run_demo(alloc, text, out)?)),
         Command::Tree { shifts, paths } => {
-            Ok(Status::of(tree_of_files(rt, alloc, paths, shifts, out)?))
+            Ok(Status::of(tree_files(rt, alloc, paths, shifts, out)?))
         }
         Command::Check { grammar, cap } => check_file(rt, alloc, grammar, cap, out),
         Command::Conflicts { grammar } => {
-            conflicts_of_file(rt, alloc, grammar, out)?;
+            print_file_conflicts(rt, alloc, grammar, out)?;
             Ok(Status::Success)
         }
         Command::Calc { shifts, repairs } => {
-            let clean = calc_input(rt, alloc, repairs, shifts, input, out, err)?;
+            let clean = compute_standard_input(rt, alloc, repairs, shifts, input, out, err)?;
             Ok(Status::of(clean))
         }
     }
 }
 
 // Prints the errors and the tree of a file. Returns whether there is a tree, and no error.
-fn tree_of_files<R: Files, O: Write>(
+fn tree_files<R: Files, O: Write>(
     rt: &R,
     alloc: Global,
     paths: TreePaths<'_>,
@@ -104,7 +104,7 @@ fn tree_of_files<R: Files, O: Write>(
     out: &mut O,
 ) -> Result<bool, Fault> {
     let texts = tree_texts(rt, alloc, paths)?;
-    tree(alloc, &texts, shifts, out)
+    run_tree(alloc, &texts, shifts, out)
 }
 
 // The texts of the files that `tree` reads.
@@ -126,7 +126,7 @@ fn check_file<R: Files, O: Write>(
     out: &mut O,
 ) -> Result<Status, Fault> {
     let grammar = file_text(rt, alloc, grammar)?;
-    if check(alloc, grammar.as_str(), cap, out)? {
+    if run_check(alloc, grammar.as_str(), cap, out)? {
         Ok(Status::Success)
     } else {
         Ok(Status::NoAnswer)
@@ -134,18 +134,18 @@ fn check_file<R: Files, O: Write>(
 }
 
 // Prints the conflicts of the table of a file's grammar.
-fn conflicts_of_file<R: Files, O: Write>(
+fn print_file_conflicts<R: Files, O: Write>(
     rt: &R,
     alloc: Global,
     path: &str,
     out: &mut O,
 ) -> Result<(), Fault> {
     let grammar = file_text(rt, alloc, path)?;
-    conflicts(alloc, path, grammar.as_str(), out)
+    print_conflicts(alloc, path, grammar.as_str(), out)
 }
 
 // Computes the lines of standard input, with the repairs of a file. Returns whether each has a number, and no error.
-fn calc_input<R: Files, I: Read + Drop, O: Write, E: Write>(
+fn compute_standard_input<R: Files, I: Read + Drop, O: Write, E: Write>(
     rt: &R,
     alloc: Global,
     repairs: Option<&str>,
@@ -155,5 +155,5 @@ fn calc_input<R: Files, I: Read + Drop, O: Write, E: Write>(
     err: &mut E,
 ) -> Result<bool, Fault> {
     let repairs = text_if_any(rt, alloc, repairs)?;
-    calc(alloc, repairs.as_str(), shifts, input, out, err)
+    run_calc(alloc, repairs.as_str(), shifts, input, out, err)
 }

@@ -2,7 +2,7 @@
 use lrpar_lexer::RuleLexer;
 use lrpar_table::check::ParserData;
 use program_files::fault::Fault;
-use program_files::parsing::{TextParser, print_tree, text_parser_of};
+use program_files::parsing::{print_tree, text_parser_of};
 use program_files::tables::data_of;
 use std::alloc::Global;
 use std::io::Write;
@@ -17,18 +17,18 @@ pub(crate) struct TreeTexts {
 }
 
 /// Prints the errors and the tree of the input. Returns whether there is a tree, and no error.
-pub(crate) fn tree<O: Write>(
+pub(crate) fn run_tree<O: Write>(
     alloc: Global,
     texts: &TreeTexts,
     shifts: Option<usize>,
     out: &mut O,
 ) -> Result<bool, Fault> {
     let data = data_of(alloc, texts.grammar.as_str())?;
-    tree_by(alloc, &data, texts, shifts, out)
+    parse_input(alloc, &data, texts, shifts, out)
 }
 
-// The same by a table that was checked.
-fn tree_by<O: Write>(
+// Parses the input by the table of the grammar, and prints its errors and its tree.
+fn parse_input<O: Write>(
     alloc: Global,
     data: &ParserData<u32>,
     texts: &TreeTexts,
@@ -37,16 +37,7 @@ fn tree_by<O: Write>(
 ) -> Result<bool, Fault> {
     let lexer = texts.lexer.as_str();
     let text_parser = text_parser_of(alloc, data, lexer, texts.repairs.as_str(), shifts)?;
-    tree_of(alloc, &text_parser, texts.input.as_str(), out)
-}
-
-// The same by a parser of texts.
-fn tree_of<'a, O: Write>(
-    alloc: Global,
-    text_parser: &'a TextParser<'_>,
-    input: &'a str,
-    out: &mut O,
-) -> Result<bool, Fault> {
+    let input = texts.input.as_str();
     let lexer = RuleLexer::new(alloc, &text_parser.rules, input)?;
     print_tree(
         alloc,

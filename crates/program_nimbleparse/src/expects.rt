@@ -1,7 +1,7 @@
 //! The numbers of conflicts that a file expects.
 use crate::show::fault_of_report;
-use lrpar_grammar::grammar::{Declarations, Number};
 use lrpar_grammar::span::Span;
+use lrpar_grammar_yacc::declarations::{Declarations, Number};
 use lrpar_report::{Report, Reporter};
 use lrpar_table::table::StateTable;
 use program_files::fault::Fault;

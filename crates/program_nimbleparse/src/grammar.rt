@@ -7,12 +7,14 @@ use crate::kind::GrammarKind;
 use crate::show::{fault_of_report, push_reports, write_messages};
 use crate::source::{Source, source_of};
 use crate::states::push_states;
-use lrpar_grammar::grammar::{Declarations, YaccGrammar};
+use lrpar_grammar::grammar::YaccGrammar;
 use lrpar_grammar::span::TIdx;
+use lrpar_grammar_yacc::declarations::Declarations;
 use lrpar_report::{Report, Reporter, build_report, chain_report, rule_warnings_but};
 use lrpar_table::build::BuildFault;
 use lrpar_table::check::{CheckFault, ParserData, Refused};
 use lrpar_table::table::{StateGraph, StateTable};
+use lrpar_table_levels::precedences_of_declarations;
 use lrpar_table_options::{Minimiser, TableOptions};
 use lrpar_table_precedence::precedences::Precedences;
 use program_files::fault::Fault;
@@ -60,7 +62,7 @@ impl Drop for GrammarTable {
 
 /// The checked table of a grammar file. Warns of rules that are of no use, and of conflicts, unless the program is to be quiet. A table
 /// with another number of conflicts than the file expects is refused.
-pub fn table_of<O: Write, E: Write>(
+pub fn make_table<O: Write, E: Write>(
     alloc: Global,
     reporter: &Reporter<'_>,
     text: &str,
@@ -75,7 +77,7 @@ pub fn table_of<O: Write, E: Write>(
     };
     let avoided = avoided_tokens(alloc, &grammar, declared)?;
     let has_precedences = matches!(declared, Some(declared) if !declared.levels.is_empty());
-    let data = built_data(alloc, reporter, grammar, declared, asked, out, err)?;
+    let data = build_data(alloc, reporter, grammar, declared, asked, out, err)?;
     Ok(GrammarTable {
         data,
         avoided,
@@ -101,7 +103,7 @@ fn avoided_tokens(
 }
 
 // The checked table of a grammar whose conflicts are resolved by the precedences that its file declares, if it declares any.
-fn built_data<O: Write, E: Write>(
+fn build_data<O: Write, E: Write>(
     alloc: Global,
     reporter: &Reporter<'_>,
     grm: YaccGrammar<u32>,
@@ -135,7 +137,7 @@ fn precedences_of(
     declared: Option<&Declarations<'_>>,
 ) -> Result<Precedences, AllocError> {
     match declared {
-        Some(declared) => Precedences::declared(alloc, grm, declared),
+        Some(declared) => precedences_of_declarations(alloc, grm, declared),
         None => Ok(Precedences::none(alloc)),
     }
 }

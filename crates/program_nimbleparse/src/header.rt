@@ -1,9 +1,8 @@
 //! The header of a `.y` file, `%grmtools{..}`, and the kind that it names.
 use crate::kind::GrammarKind;
-use lrpar_grammar::grammar::YaccKind;
 use lrpar_grammar::span::Span;
 use lrpar_grammar_words::word_order::Expected;
-use lrpar_grammar_yacc::parts::PartKind;
+use lrpar_grammar_yacc::parts::{PartKind, YaccKind};
 use lrpar_grammar_yacc::steps::{StepKind, step_at};
 use std::alloc::{AllocError, Global};
 

@@ -1,7 +1,6 @@
 //! The kinds of grammar files, and how the kind of a file is found.
-use lrpar_grammar::grammar::YaccKind;
 use lrpar_grammar_words::word_order::Expected;
-use lrpar_grammar_yacc::parts::PartKind;
+use lrpar_grammar_yacc::parts::{PartKind, YaccKind};
 use lrpar_grammar_yacc::steps::{StepKind, step_at};
 
 /// How a grammar file is read.
@@ -56,7 +55,7 @@ fn seen_by(kind: YaccKind, text: &str) -> Seen {
     seen
 }
 
-// The same, after what begins where the text can't be read on: a type, an action, `%prec` or `%grmtools` that isn't whole.
+// What is seen, with what begins where the text can't be read on: a type, an action, `%prec` or `%grmtools` that isn't whole.
 fn with_beginning(seen: Seen, expected: Expected, rest: &[u8]) -> Seen {
     let is_type = matches!(expected, Expected::RuleColon) && rest.starts_with(b"->");
     let is_part = match expected {

@@ -1,7 +1,7 @@
 //! The words after the program's name as options and paths.
 use crate::kind::GrammarKind;
 use crate::plan::{Format, Recovery};
-use lrpar_grammar::grammar::YaccKind;
+use lrpar_grammar_yacc::parts::YaccKind;
 use lrpar_table_options::Minimiser;
 use program_files::fault::{Fault, Misuse};
 use std::alloc::Global;
@@ -122,20 +122,20 @@ pub(crate) fn options_of(alloc: Global, args: &[String]) -> Result<Options<'_>, 
         let Some((word, others)) = left.split_first() else {
             break;
         };
-        left = taken(&mut said, word.as_str(), others)?;
+        left = read_word(&mut said, word.as_str(), others)?;
     }
     options_said(said)
 }
 
 // Takes a word, and the words after it that belong to it. Returns the words that are left.
-fn taken<'a>(
+fn read_word<'a>(
     said: &mut Said<'a>,
     word: &'a str,
     others: &'a [String],
 ) -> Result<&'a [String], Fault> {
     if let Some(option) = option_named(word) {
         let (value, left) = value(option, others)?;
-        take_value(said, option, value)?;
+        set_option(said, option, value)?;
         return Ok(left);
     }
     match word {
@@ -190,7 +190,7 @@ fn needs(option: Valued) -> Misuse {
 }
 
 // Takes an option with the word that belongs to it.
-fn take_value(said: &mut Said<'_>, option: Valued, value: &str) -> Result<(), Fault> {
+fn set_option(said: &mut Said<'_>, option: Valued, value: &str) -> Result<(), Fault> {
     match option {
         Valued::Kind => said.kind = Some(kind_of(value)?),
         Valued::Minimiser => said.minimiser = minimiser_of(value)?,

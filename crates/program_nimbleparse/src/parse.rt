@@ -32,17 +32,17 @@ pub fn parse<R: Recoverer<u32, Token<u32>> + Drop, O: Write, E: Write>(
     match plan.rules {
         LexerRules::Lines(rules) => {
             let lexer = RuleLexer::new(alloc, rules, input)?;
-            parsed(alloc, parser, plan, &lexer, path, input, out, err)
+            parse_lexemes(alloc, parser, plan, &lexer, path, input, out, err)
         }
         LexerRules::States(rules) => {
             let lexer = StateLexer::new(alloc, rules, input)?;
-            parsed(alloc, parser, plan, &lexer, path, input, out, err)
+            parse_lexemes(alloc, parser, plan, &lexer, path, input, out, err)
         }
     }
 }
 
-// The same by the lexer of the input.
-fn parsed<
+// Parses the lexemes of an input, and prints what comes of it. Returns whether there is a tree, and no error.
+fn parse_lexemes<
     'input,
     R: Recoverer<u32, Token<u32>> + Drop,
     L: NonStreamingLexer<'input, TokenTypes>,
@@ -60,11 +60,11 @@ fn parsed<
 ) -> Result<bool, Fault> {
     let (tree, errors) = parser.parse_generictree(alloc, lexer)?;
     let tree = tree.as_ref();
-    printed(alloc, plan, lexer, path, input, tree, &errors, out, err)
+    print_result(alloc, plan, lexer, path, input, tree, &errors, out, err)
 }
 
 // Writes messages of the errors, and prints the tree. Returns whether there is a tree, and no error.
-fn printed<'input, L: NonStreamingLexer<'input, TokenTypes>, O: Write, E: Write>(
+fn print_result<'input, L: NonStreamingLexer<'input, TokenTypes>, O: Write, E: Write>(
     alloc: Global,
     plan: &Plan<'_>,
     lexer: &L,

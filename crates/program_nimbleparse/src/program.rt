@@ -3,7 +3,7 @@
 ghost use Rattle.std.specs.Prelude.{◌≤◌};
 
 use crate::fault_line::{FaultLine, USAGE};
-use crate::grammar::{Asked, GrammarTable, table_of};
+use crate::grammar::{Asked, GrammarTable, make_table};
 use crate::inputs::{STANDARD_INPUT, file_text, input_text};
 use crate::options::{HELP, Options, asks_for_help, options_of};
 use crate::parse::parse;
@@ -23,7 +23,7 @@ use lrpar_table::table::StateTable;
 use lrpar_table_options::Minimiser;
 use program_files::fault::{Fault, Misuse};
 use program_files::parsing::with_shifts;
-use program_files::streams::{Status, ended, finished, words};
+use program_files::streams::{Status, exit_status, flush_answer, words};
 use std::alloc::{AllocError, Global};
 use std::env;
 use std::io::{BufWriter, IsTerminal, Read, Write};
@@ -53,7 +53,7 @@ pub fn run_of_process(rt: &HostRuntime) -> u8
             rt.stdout(),
             rt.stderr(),
         ),
-        Err(error) => ended(
+        Err(error) => exit_status(
             Err(FaultLine(Fault::of_arguments(&error))),
             &mut rt.stderr(),
         ),
@@ -77,8 +77,8 @@ pub fn run<R: Files, I: Read + Drop, O: Write + Drop, E: Write + Drop>(
 ) -> u8
     ensures status { result ≤ 2 }
 {
-    let ending = written(rt, alloc, args, terminal, input, out, &mut err);
-    ended(ending.map_err(FaultLine), &mut err)
+    let ending = run_buffered(rt, alloc, args, terminal, input, out, &mut err);
+    exit_status(ending.map_err(FaultLine), &mut err)
 }
 
 // What is known of the terminal.
@@ -102,8 +102,8 @@ fn may_colour(rt: &HostRuntime) -> bool {
     }
 }
 
-// How the program ends, after `out` is flushed.
-fn written<R: Files, I: Read + Drop, O: Write + Drop, E: Write>(
+// Runs the program over a buffered `out`, and returns how it ends after `out` is flushed.
+fn run_buffered<R: Files, I: Read + Drop, O: Write + Drop, E: Write>(
     rt: &R,
     alloc: Global,
     args: &[String],
@@ -114,15 +114,15 @@ fn written<R: Files, I: Read + Drop, O: Write + Drop, E: Write>(
 ) -> Result<Status, Fault> {
     match BufWriter::new(alloc, out) {
         Ok(mut out) => {
-            let status = printed(rt, alloc, args, terminal, input, &mut out, err);
-            finished(status, out)
+            let status = run_words(rt, alloc, args, terminal, input, &mut out, err);
+            flush_answer(status, out)
         }
         Err(_) => Err(Fault::Memory),
     }
 }
 
-// The same, before `out` is flushed.
-fn printed<R: Files, I: Read + Drop, O: Write, E: Write>(
+// Does what the words ask for, and returns how the program ends.
+fn run_words<R: Files, I: Read + Drop, O: Write, E: Write>(
     rt: &R,
     alloc: Global,
     args: &[String],
@@ -132,21 +132,21 @@ fn printed<R: Files, I: Read + Drop, O: Write, E: Write>(
     err: &mut E,
 ) -> Result<Status, Fault> {
     if asks_for_help(args) {
-        return helped(out);
+        return print_help(out);
     }
     let options = options_of(alloc, args)?;
-    printed_by_options(rt, alloc, &options, terminal, input, out, err)
+    run_files(rt, alloc, &options, terminal, input, out, err)
 }
 
 // Prints the usage line and the help text.
-fn helped<O: Write>(out: &mut O) -> Result<Status, Fault> {
+fn print_help<O: Write>(out: &mut O) -> Result<Status, Fault> {
     out.write_all(USAGE.as_bytes())?;
     out.write_all(HELP.as_bytes())?;
     Ok(Status::Success)
 }
 
-// The same by options.
-fn printed_by_options<R: Files, I: Read + Drop, O: Write, E: Write>(
+// Reads the files that the options name, and does what these ask for.
+fn run_files<R: Files, I: Read + Drop, O: Write, E: Write>(
     rt: &R,
     alloc: Global,
     options: &Options<'_>,
@@ -163,7 +163,7 @@ fn printed_by_options<R: Files, I: Read + Drop, O: Write, E: Write>(
         grammar: grammar.as_str(),
         lexer: lexer.as_str(),
     };
-    printed_by_texts(rt, alloc, work, input, out, err)
+    run_work(rt, alloc, work, input, out, err)
 }
 
 // What the words ask for, and the texts of the files that they name.
@@ -211,8 +211,8 @@ impl<'a> Work<'a> {
     }
 }
 
-// The same by the texts.
-fn printed_by_texts<R: Files, I: Read + Drop, O: Write, E: Write>(
+// Makes the table and the lexer's rules of the texts, warns of what is of no use, and parses the inputs.
+fn run_work<R: Files, I: Read + Drop, O: Write, E: Write>(
     rt: &R,
     alloc: Global,
     work: Work<'_>,
@@ -220,27 +220,14 @@ fn printed_by_texts<R: Files, I: Read + Drop, O: Write, E: Write>(
     out: &mut O,
     err: &mut E,
 ) -> Result<Status, Fault> {
-    let table = grammar_table(alloc, work, out, err)?;
-    printed_by_table(rt, alloc, work, &table, input, out, err)
-}
-
-// The same by the checked table of the grammar.
-fn printed_by_table<R: Files, I: Read + Drop, O: Write, E: Write>(
-    rt: &R,
-    alloc: Global,
-    work: Work<'_>,
-    table: &GrammarTable,
-    input: I,
-    out: &mut O,
-    err: &mut E,
-) -> Result<Status, Fault> {
+    let table = make_grammar_table(alloc, work, out, err)?;
     let rules = rules_of_lexer(alloc, work, &table.data)?;
-    warn(alloc, work, table, &rules, out, err)?;
-    parse_inputs(rt, alloc, work, table, &rules, input, out, err)
+    warn(alloc, work, &table, &rules, out, err)?;
+    parse_inputs(rt, alloc, work, &table, &rules, input, out, err)
 }
 
 // The checked table of the grammar.
-fn grammar_table<O: Write, E: Write>(
+fn make_grammar_table<O: Write, E: Write>(
     alloc: Global,
     work: Work<'_>,
     out: &mut O,
@@ -251,7 +238,7 @@ fn grammar_table<O: Write, E: Write>(
         write_messages(out, err, "nimbleparse: building the table ..\n")?;
     }
     let reporter = work.grammar_reporter(alloc)?;
-    table_of(alloc, &reporter, work.grammar, asked, out, err)
+    make_table(alloc, &reporter, work.grammar, asked, out, err)
 }
 
 // The rules of the lexer.
@@ -381,7 +368,7 @@ fn parse_inputs<R: Files, I: Read + Drop, O: Write, E: Write>(
             let parser = parser.recoverer(cheapest(alloc, limit, avoided)?);
             parse_by(rt, alloc, work, &plan, parser, input, out, err)
         }
-        Recovery::Complete { limit } => match completion(alloc, work, data, out, err)? {
+        Recovery::Complete { limit } => match make_completion(alloc, work, data, out, err)? {
             Some(completion) => {
                 let parser = parser.recoverer(cheapest(alloc, limit, avoided)?.or(completion));
                 parse_by(rt, alloc, work, &plan, parser, input, out, err)
@@ -405,7 +392,7 @@ fn cheapest(alloc: Global, limit: usize, avoided: &[TIdx<u32>]) -> Result<CpctPl
 }
 
 // What completes each input, if the table is fit for it. Otherwise a note says why it isn't, unless the program is to be quiet.
-fn completion<'a, O: Write, E: Write>(
+fn make_completion<'a, O: Write, E: Write>(
     alloc: Global,
     work: Work<'_>,
     data: &'a ParserData<u32>,
@@ -480,14 +467,14 @@ fn parse_by<R: Files, P: Recoverer<u32, Token<u32>> + Drop, I: Read + Drop, O: W
     let mut input = Some(input);
     let mut are_clean = true;
     for path in &work.options.inputs {
-        let text = text_of_input(rt, alloc, path, &mut input)?;
+        let text = read_input(rt, alloc, path, &mut input)?;
         are_clean = parse(alloc, &parser, plan, path, text.as_str(), out, err)? && are_clean;
     }
     Ok(Status::of(are_clean))
 }
 
 // The text of an input.
-fn text_of_input<R: Files, I: Read + Drop>(
+fn read_input<R: Files, I: Read + Drop>(
     rt: &R,
     alloc: Global,
     path: &str,

@@ -2,8 +2,11 @@
 use crate::header::{Named, named_kind};
 use crate::kind::{GrammarKind, kind_by_look};
 use crate::show::fault_of_report;
-use lrpar_grammar::grammar::{GrammarFault, YaccGrammar, YaccKind, YaccText};
+use lrpar_grammar::grammar::{GrammarFault, YaccGrammar};
 use lrpar_grammar::span::Span;
+use lrpar_grammar_yacc::faults::YaccText;
+use lrpar_grammar_yacc::file::YaccFile;
+use lrpar_grammar_yacc::parts::YaccKind;
 use lrpar_report::{Report, Reporter, grammar_report, push_quoted, yacc_report};
 use program_files::fault::Fault;
 use std::alloc::{AllocError, Global};
@@ -84,7 +87,7 @@ fn by_yacc<'a>(
     text: &'a str,
     kind: YaccKind,
 ) -> Result<Source<'a>, Fault> {
-    match YaccGrammar::new_with_kind(alloc, kind, text) {
+    match YaccFile::new_with_kind(alloc, kind, text) {
         Ok(file) => {
             let (grammar, text) = file.into_parts();
             Ok(Source {

@@ -149,7 +149,7 @@ fn push_symbols(out: &mut Printed, grm: &YaccGrammar<u8>, symbols: &[Symbol<u8>]
         out.text(" ");
         match symbol {
             Symbol::Rule(rule) => out.text(rule_name(grm, *rule)),
-            Symbol::Token(token) => out.quoted('\'', token_name(grm, *token)),
+            Symbol::Token(token) => out.push_quoted('\'', token_name(grm, *token)),
         }
         push_span(out, *span);
         mark = ',';
@@ -164,7 +164,7 @@ fn push_tokens(out: &mut Printed, grm: &YaccGrammar<u8>) {
         if usize::from(token) < grm.tokens_len() {
             if let Some(epp) = grm.token_epp(token) {
                 out.text(" ");
-                out.quoted('"', epp);
+                out.push_quoted('"', epp);
             }
             if let Some(span) = grm.token_span(token) {
                 push_span(out, span);

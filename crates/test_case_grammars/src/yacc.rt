@@ -1,11 +1,12 @@
 //! Grammars of `.y` files: why there is none, or the erased file, what it declares, and what the case asks of the grammar.
 use crate::grammars::push_shown;
-use lrpar_grammar::grammar::{GrammarFault, YaccFileFault, YaccGrammar};
 use lrpar_grammar::span::Span;
 use lrpar_grammar_words::words::Word;
 use lrpar_grammar_yacc::declarations::{Declarations, Level, Number, Prec};
 use lrpar_grammar_yacc::faults::{YaccFault, YaccText};
-use lrpar_grammar_yacc::parts::{AssocKind, YaccKind};
+use lrpar_grammar_yacc::file::{YaccFile, YaccFileFault};
+use lrpar_grammar_yacc::parts::YaccKind;
+use lrpar_table_precedence::precedence::AssocKind;
 use std::alloc::Global;
 use test_case_lines::cases::Case;
 use test_case_lines::fault::Fault;
@@ -18,7 +19,7 @@ pub const INPUTS: &[&str] = &["text", "kind", "show", "find"];
 /// The grammar of the file, in the smallest storage type.
 pub fn outcome(out: &mut Printed, alloc: Global, case: Case<'_, '_>) -> Result<(), Fault> {
     let text = case.text(alloc, "text")?;
-    match YaccGrammar::<u8>::new_with_kind(alloc, kind_of(case), text.as_str()) {
+    match YaccFile::<u8>::new_with_kind(alloc, kind_of(case), text.as_str()) {
         Ok(file) => {
             push_text(out, &file.text);
             if case.value("show").is_some() {
@@ -44,7 +45,7 @@ pub fn outcome_of_cuts(out: &mut Printed, alloc: Global, case: Case<'_, '_>) -> 
 
 // Why there is no grammar of the file.
 fn push_cut(out: &mut Printed, alloc: Global, kind: YaccKind, cut: &str) {
-    let fault = YaccGrammar::<u8>::new_with_kind(alloc, kind, cut).err();
+    let fault = YaccFile::<u8>::new_with_kind(alloc, kind, cut).err();
     match &fault {
         None => out.text("a grammar\n"),
         Some(fault) => push_fault(out, fault),
@@ -63,10 +64,8 @@ fn push_fault(out: &mut Printed, fault: &YaccFileFault) {
             | YaccFault::BadNumber(span),
         )
         | YaccFileFault::UnknownToken(span) => out.line("..", &span.end()),
-        YaccFileFault::Declared(YaccFault::Memory)
-        | YaccFileFault::Text(GrammarFault::Memory)
-        | YaccFileFault::Memory => out.lack_memory(),
-        YaccFileFault::Text(_) => out.text("\n"),
+        YaccFileFault::Memory => out.lack_memory(),
+        _ => out.text("\n"),
     }
 }
 

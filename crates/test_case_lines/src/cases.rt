@@ -103,7 +103,7 @@ impl<'t, 'a> Case<'t, 'a> {
         bytes_of(alloc, self.from(key))
     }
 
-    /// The same as a string.
+    /// The value of a key as a string.
     pub fn text(&self, alloc: Global, key: &str) -> Result<String, Fault> {
         match String::from_utf8(self.bytes(alloc, key)?) {
             Ok(text) => Ok(text),

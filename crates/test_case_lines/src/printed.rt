@@ -71,7 +71,7 @@ impl Printed {
     }
 
     /// Writes a text between two of these signs.
-    pub fn quoted(&mut self, sign: char, text: &str) {
+    pub fn push_quoted(&mut self, sign: char, text: &str) {
         self.show(&sign);
         self.text(text);
         self.show(&sign);

@@ -1,8 +1,8 @@
 //! Numbers and spans in the values of lines.
 use crate::cases::Case;
 use crate::fault::Fault;
-use lrpar_grammar::grammar::YaccKind;
 use lrpar_grammar::span::{Span, StorageIndex};
+use lrpar_grammar_yacc::parts::YaccKind;
 
 /// The cap of a table whose case names none.
 pub const CAP: u16 = 10;

@@ -36,7 +36,7 @@ pub(crate) fn push_expected_at_errors(
     push_agreed(out, &by_rows, &by_entries);
 }
 
-// The same by one table.
+// Adds the tokens that the table's states expect at the errors.
 fn push_expected_by(out: &mut Printed, data: &ParserData<u32>, errors: &[CaseError]) {
     for error in errors {
         if let LexParseError::ParseError(error) = error {

@@ -30,14 +30,14 @@ pub fn outcome(
 ) -> Result<(), Fault> {
     let Subject { case: _, tables } = subject;
     let (mut by_rows, mut by_entries) = (Printed::new(alloc), Printed::new(alloc));
-    expected_by(&mut by_rows, alloc, case, &tables.by_rows)?;
-    expected_by(&mut by_entries, alloc, case, &tables.by_entries)?;
+    push_expected_by(&mut by_rows, alloc, case, &tables.by_rows)?;
+    push_expected_by(&mut by_entries, alloc, case, &tables.by_entries)?;
     push_agreed(out, &by_rows, &by_entries);
     Ok(())
 }
 
-// The same by one table.
-fn expected_by(
+// Adds what is expected by this table.
+fn push_expected_by(
     out: &mut Printed,
     alloc: Global,
     case: Case<'_, '_>,

@@ -15,7 +15,7 @@ use test_case_lines::fault::Fault;
 /// What supplies sequences at the errors of a case.
 #[derive(Drop)]
 pub(crate) enum CaseRecoverer<'a> {
-    /// The same ones at each.
+    /// These repairs, at each error.
     Fixed(FixedRecoverer<u32>),
     /// The cheapest ones.
     CpctPlus(CpctPlus),

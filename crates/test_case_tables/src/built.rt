@@ -97,7 +97,7 @@ fn push_built<S: StorageIndex>(
     Ok(())
 }
 
-// The same of the grammar.
+// Adds the tables that are built of the grammar.
 fn push_tables<S: StorageIndex>(
     out: &mut Printed,
     alloc: Global,

@@ -1,5 +1,6 @@
 //! Why a case has no table. A failed allocation stays [`Fault::Memory`].
-use lrpar_grammar::grammar::{GrammarFault, YaccFault, YaccFileFault};
+use lrpar_grammar::grammar::GrammarFault;
+use lrpar_grammar_yacc::file::YaccFileFault;
 use lrpar_table::check::CheckFault;
 use lrpar_table::table::TableFault;
 use test_case_lines::fault::Fault;
@@ -12,12 +13,10 @@ pub fn of_grammar(fault: GrammarFault, line: usize, text: &'static str) -> Fault
     }
 }
 
-/// The same of the grammar of a `.y` file.
+/// Why there is no grammar of a `.y` file in this line: this reason, or that an allocation failed.
 pub fn of_file(fault: &YaccFileFault, line: usize, text: &'static str) -> Fault {
     match fault {
-        YaccFileFault::Memory
-        | YaccFileFault::Text(GrammarFault::Memory)
-        | YaccFileFault::Declared(YaccFault::Memory) => Fault::Memory,
+        YaccFileFault::Memory => Fault::Memory,
         _ => Fault::Line(line, text),
     }
 }

@@ -2,12 +2,14 @@
 use crate::faults::of_file;
 use crate::rows::{push_conflicts, push_place};
 use crate::subject::{MAX_STATES, Tables, of_unbuilt, read_back};
-use lrpar_grammar::grammar::{YaccFile, YaccGrammar};
+use lrpar_grammar::grammar::YaccGrammar;
 use lrpar_grammar::span::{PIdx, TIdx};
+use lrpar_grammar_yacc::file::YaccFile;
 use lrpar_table::check::ParserData;
 use lrpar_table::table::StateTable;
+use lrpar_table_levels::precedences_of_declarations;
 use lrpar_table_options::{Minimiser, TableOptions};
-use lrpar_table_precedence::precedences::{Precedences, Resolution};
+use lrpar_table_precedence::precedences::Resolution;
 use std::alloc::Global;
 use test_case_lines::cases::Case;
 use test_case_lines::fault::Fault;
@@ -23,7 +25,7 @@ pub fn built_by_precedences(
 ) -> Result<ParserData<u32>, Fault> {
     let cap = cap_at(case, "cap")?;
     let (grammar, text) = file_of(alloc, case, text)?.into_parts();
-    let precedences = Precedences::declared(alloc, &grammar, &text.declarations)?;
+    let precedences = precedences_of_declarations(alloc, &grammar, &text.declarations)?;
     let minimiser = match case.value_or_nothing("minimiser") {
         "pager" => Minimiser::Pager,
         _ => Minimiser::Canonical,
@@ -60,7 +62,7 @@ fn file_of<'a>(
     case: Case<'_, '_>,
     text: &'a str,
 ) -> Result<YaccFile<'a, u32>, Fault> {
-    match YaccGrammar::new_with_kind(alloc, kind_of(case), text) {
+    match YaccFile::new_with_kind(alloc, kind_of(case), text) {
         Ok(file) => Ok(file),
         Err(fault) => Err(of_file(&fault, case.number, "the text is no grammar")),
     }
@@ -121,7 +123,7 @@ fn push_pairs(out: &mut Printed, grm: &YaccGrammar<u32>, table: &StateTable<u32>
     }
 }
 
-// The same of one token and one production, if they have any.
+// Adds what is decided of one token and one production, if both have a precedence.
 fn push_pair(
     out: &mut Printed,
     grm: &YaccGrammar<u32>,

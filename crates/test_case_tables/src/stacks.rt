@@ -122,13 +122,13 @@ fn push_by_list(
     call: Call,
 ) -> Result<(), AllocError> {
     let mut stack = Vec::from_slice(alloc, states)?;
-    push_answer(out, called(data, &mut stack, call)?);
+    push_answer(out, call(data, &mut stack, call)?);
     push_states(out, &stack);
     Ok(())
 }
 
 // What the call returns at the list.
-fn called(
+fn call(
     data: &ParserData<u32>,
     stack: &mut Vec<StIdx<u32>>,
     call: Call,
@@ -155,13 +155,13 @@ fn push_by_overlay(
     over: &mut Overlay<'_, u32>,
     call: Call,
 ) -> Result<(), AllocError> {
-    push_answer(out, called_over(data, over, call)?);
+    push_answer(out, call_over(data, over, call)?);
     push_states(out, &over.to_vec()?);
     Ok(())
 }
 
 // What the call returns at the overlay.
-fn called_over(
+fn call_over(
     data: &ParserData<u32>,
     over: &mut Overlay<'_, u32>,
     call: Call,

@@ -106,7 +106,7 @@ pub(crate) fn of_unbuilt(unbuilt: &Unbuilt<u32>, line: usize) -> Fault {
     }
 }
 
-/// The same table, of its rows and of this grammar, which is its own.
+/// The checked table once more, of its rows and of this grammar, which is its own.
 pub(crate) fn read_back(
     alloc: Global,
     case: Case<'_, '_>,
@@ -118,7 +118,7 @@ pub(crate) fn read_back(
     checked(alloc, case, grm, sgraph, stable, data.cap())
 }
 
-// The same item sets, of their items.
+// The item sets once more, of their items.
 fn graph_of(
     alloc: Global,
     case: Case<'_, '_>,
@@ -130,7 +130,7 @@ fn graph_of(
     }
 }
 
-/// The same table, made of its full rows.
+/// The table once more, made of its full rows.
 pub(crate) fn table_of(
     alloc: Global,
     case: Case<'_, '_>,

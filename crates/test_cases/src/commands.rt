@@ -37,7 +37,7 @@ pub fn outcome<R: Files>(
     ran
 }
 
-// The same, with the files in their places.
+// Runs the command with the files in their places, and adds what it writes.
 fn push_run<R: Files>(
     out: &mut Printed,
     rt: &R,
@@ -55,7 +55,7 @@ fn push_run<R: Files>(
     }
 }
 
-// The same, with these words and this input.
+// Runs the command with these words and this input, and adds what it writes.
 fn push_ending<R: Files>(
     out: &mut Printed,
     rt: &R,

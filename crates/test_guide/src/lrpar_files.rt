@@ -1,8 +1,8 @@
 //! A tree by the files of an lrpar project, as a user writes it.
 use lrpar::build::{TableOptions, Unbuilt};
-use lrpar::grammar::{YaccFileFault, YaccGrammar, YaccKind};
 use lrpar::parser::ParseFault;
-use lrpar::precedences::Precedences;
+use lrpar::precedences::precedences_of_declarations;
+use lrpar::yacc::{YaccFile, YaccFileFault, YaccKind};
 use lrpar::{ParserData, RTParserBuilder};
 use lrpar_lexer_lrlex::{LrlexFault, StateLexer, rules_of_lrlex};
 use std::alloc::{AllocError, Global};
@@ -56,9 +56,9 @@ enum Failed {
 
 // The checked table of a `.y` file.
 fn table_of(alloc: Global, text: &str) -> Result<ParserData<u32>, Failed> {
-    let file = YaccGrammar::<u32>::new_with_kind(alloc, YaccKind::Grmtools, text)?;
+    let file = YaccFile::<u32>::new_with_kind(alloc, YaccKind::Grmtools, text)?;
     let (grammar, text) = file.into_parts();
-    let precedences = Precedences::declared(alloc, &grammar, &text.declarations)?;
+    let precedences = precedences_of_declarations(alloc, &grammar, &text.declarations)?;
     let options = TableOptions::new().precedences(&precedences);
     Ok(options.build(alloc, grammar)?)
 }

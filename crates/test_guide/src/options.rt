@@ -1,7 +1,7 @@
 //! A table by options.
 use lrpar::build::{Minimiser, TableOptions};
 use lrpar::grammar::YaccGrammar;
-use lrpar::precedences::{AssocKind, Level, Precedences};
+use lrpar::precedences::{AssocKind, Level, Precedences, precedences_of_levels};
 use lrpar::span::TIdx;
 use std::alloc::Global;
 use std::process::Abort;
@@ -22,7 +22,7 @@ fn left_plus(rt: &impl Abort, alloc: Global, grm: &YaccGrammar<u8>) -> Precedenc
         tokens: Vec::new(alloc),
     };
     level.tokens.push(TIdx(0)).expect(rt, "memory");
-    Precedences::new(alloc, grm, &[level], &[]).expect(rt, "precedences")
+    precedences_of_levels(alloc, grm, &[level], &[]).expect(rt, "precedences")
 }
 
 #[test]

@@ -33,7 +33,7 @@ fn shown_grammar_fault(alloc: Global, text: &str) -> Result<String, Failed> {
     Ok(shown.to_string(alloc)?)
 }
 
-/// The same of the rules of a lexer.
+/// The message of the fault of a lexer's rules.
 fn shown_rules_fault(alloc: Global, grm: &YaccGrammar<u32>, text: &str) -> Result<String, Failed> {
     let Err(fault) = rules_of(alloc, grm, text) else {
         return Ok(String::new(alloc));

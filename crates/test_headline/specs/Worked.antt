@@ -25,7 +25,7 @@ module _ {X : Type 0} (about : Subject X) (supplied : List (List PlainStep)) (le
   abbrev pub WorksAt : Stop → List PlainStep → Type 0
   WorksAt stop steps = Works (λ x. (about.facts x).token) about.checked.grammar about.checked.table lexemes about.shifts stop.stack stop.place steps
 
-  -- the repairs that an error at the error point lists for it
+  -- the repairs that an error at the error point lists for a sequence
   abbrev pub repairs_at : Stop → List PlainStep → List (Repair X)
   repairs_at stop steps = repairs_over (drop stop.place lexemes) steps
 
@@ -39,7 +39,7 @@ module _ {X : Type 0} (about : Subject X) (supplied : List (List PlainStep)) (le
         → (steps : List PlainStep) × Contains supplied steps × WorksAt stop steps × (repairs ≡ repairs_at stop steps)
     pub order : (listed : List (List PlainStep)) × AreThoseWith (WorksAt stop) supplied listed × (failure.repairs ≡ map (repairs_at stop) listed)
 
-  -- the same for an error
+  -- the error lists the supplied sequences that work at its error point, and no others; a lexing error is none
   abbrev pub ListsWhatWorks : {S L C : Type 0} → RepairStop → LexParseError S L X C → Type 0
   ListsWhatWorks at (LexError error) = ⊥
   ListsWhatWorks at (ParseError failure) = ListsWhatWorksAt at.stop failure

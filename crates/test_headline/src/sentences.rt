@@ -74,6 +74,6 @@ pub fn trees_are_one<StorageT: StorageIndex, LexemeT>(
     ensures { OnOk result ((token : LexemeT → ℕ) → HasOneTree token checked.now.grammar) }
 {
     complete_tables_take_sentences::<LexemeT>();
-    let _table = checked.stable();
+    let _lemma = checked.stable();
     checked.check_complete(alloc)
 }

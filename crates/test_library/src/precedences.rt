@@ -3,10 +3,9 @@ use crate::expectations::{holds, same};
 use lrpar_grammar::grammar::YaccGrammar;
 use lrpar_grammar::span::{PIdx, TIdx};
 use lrpar_table::table::StateTable;
+use lrpar_table_levels::{Level, PrecedenceFault, precedences_of_levels};
 use lrpar_table_options::TableOptions;
-use lrpar_table_precedence::precedences::{
-    AssocKind, Level, PrecedenceFault, Precedences, Resolution,
-};
+use lrpar_table_precedence::precedences::{AssocKind, Resolution};
 use std::alloc::Global;
 use std::process::Abort;
 use std::test::Fail;
@@ -87,7 +86,7 @@ fn levels(rt: &impl Abort, alloc: Global) -> Vec<Level<u8>> {
 fn table(rt: &impl Abort, alloc: Global, named: &[(PIdx<u8>, usize)]) -> StateTable<u8> {
     let grm = calculator(rt, alloc);
     let levels = levels(rt, alloc);
-    let precedences = Precedences::new(alloc, &grm, &levels, named).expect(rt, "precedences");
+    let precedences = precedences_of_levels(alloc, &grm, &levels, named).expect(rt, "precedences");
     let options = TableOptions::new()
         .precedences(&precedences)
         .max_states(100);
@@ -139,7 +138,7 @@ fn refusal(
             .push(level(rt, alloc, kind, tokens))
             .expect(rt, "memory");
     }
-    Precedences::new(alloc, &grm, &levels, named).err()
+    precedences_of_levels(alloc, &grm, &levels, named).err()
 }
 
 #[test]

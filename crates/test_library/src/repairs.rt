@@ -31,7 +31,7 @@ fn counted(
     counted_by(rt, alloc, &parser)
 }
 
-/// The same by a parser.
+/// How many errors this parser finds, and how many repairs they list.
 pub(crate) fn counted_by<R: Recoverer<u32, Token<u32>> + Drop>(
     rt: &impl Abort,
     alloc: Global,

@@ -102,7 +102,7 @@ fn returned_parts(rt: &impl Abort, alloc: Global) -> Parts {
     }
 }
 
-// The same, checked with the cap 2.
+// The table of the parts that a refusal gave back, checked with the cap 2.
 fn checked_again(rt: &impl Abort, alloc: Global) -> ParserData<u8> {
     let (grm, graph, table) = returned_parts(rt, alloc);
     match ParserData::new(alloc, grm, graph, table, 2) {

@@ -1,6 +1,6 @@
 //! Productions and the texts of a list, each text at its production.
 ghost use Rattle.std.specs.Prelude.{◌≡◌, [], ◌∷◌, ◌++◌, IfErr, IfNone, IfOk, IfSome, OnOk, length};
-ghost use Rattle.lrpar_grammar.specs.Chains.{AreFirstFrom, AreNextFrom, AreOwnNumbers};
+ghost use Rattle.lrpar_grammar.specs.SameProds.{AreFirstFrom, AreNextFrom, AreOwnNumbers};
 ghost use Rattle.lrpar_grammar.specs.Stored.{rows_in};
 ghost use Rattle.lrpar_grammar.specs.declared.grammar.matching.Misfit.TheVariants.{Memory};
 
@@ -61,7 +61,7 @@ impl<T: Drop> From<AllocFailed<T>> for Misfit {
 }
 
 impl<'a> Matching<'a> {
-    ghost use Rattle.lrpar_grammar.specs.Matching.{HasAllPlaces, IsFirstWithout, IsMatched, IsMisfit, prods_of, texts_of};
+    ghost use Rattle.lrpar_grammar.specs.Matching.{HasAllTexts, IsFirstWithout, IsMatched, IsMisfit, prods_of, texts_of};
 
     // The productions, and no texts. Takes logarithmic time for each production.
     pub(super) fn new(alloc: Global, prods: &'a [Vec<usize>]) -> Result<Self, AllocError>
@@ -69,7 +69,7 @@ impl<'a> Matching<'a> {
         ensures prods { IfOk result (λ matching. prods_of matching ≡ rows_in prods.now) }
         ensures texts { IfOk result (λ matching. texts_of matching ≡ []) }
     {
-        let (first, next) = chains(alloc, prods)?;
+        let (first, next) = link_equals(alloc, prods)?;
         let free = own_numbers(alloc, prods.len())?;
         let places = vec![in alloc; None; prods.len()]?;
         Ok(Matching {
@@ -84,7 +84,7 @@ impl<'a> Matching<'a> {
 
     // Takes one more text, with these numbers. It goes to the first production with these numbers that has no text. Takes
     // logarithmic time. After an error the matching is of no use.
-    pub(super) fn take(&mut self, numbers: Vec<usize>) -> Result<(), Misfit>
+    pub(super) fn match_text(&mut self, numbers: Vec<usize>) -> Result<(), Misfit>
         requires { IsMatched self.old }
         ensures matched { OnOk result (IsMatched self.new) }
         ensures prods { OnOk result (prods_of self.new ≡ prods_of self.old) }
@@ -106,7 +106,7 @@ impl<'a> Matching<'a> {
 
     // The first production without a text.
     pub(super) fn first_without_text(&self) -> Option<usize>
-        ensures all { IfNone result (HasAllPlaces self.now) }
+        ensures all { IfNone result (HasAllTexts self.now) }
         ensures first { IfSome result (IsFirstWithout (self.now).places.items) }
     {
         for (prod, place) in self.places.iter().enumerate() {
@@ -118,7 +118,7 @@ impl<'a> Matching<'a> {
     }
 
     // For each production the place of its text.
-    pub(super) fn into_places(self) -> Vec<Option<usize>>
+    pub(super) fn into_positions(self) -> Vec<Option<usize>>
         ensures { result ≡ self.entry.places }
     {
         let Matching {
@@ -138,7 +138,7 @@ impl<'a> Matching<'a> {
 }
 
 // For all numbers of productions the first production that has them; and for each production the next one with its numbers.
-fn chains<'a>(
+fn link_equals<'a>(
     alloc: Global,
     prods: &'a [Vec<usize>],
 ) -> Result<(BTreeMap<&'a [usize], usize>, Vec<Option<usize>>), AllocError>

@@ -3,7 +3,7 @@ ghost use Rattle.std.specs.Prelude.{◌≡◌, ◌<◌, IfOk, OnOk, string_bytes
 ghost use Rattle.lrpar_grammar_reader.specs.Symbols.{symbol_of};
 ghost use Rattle.lrpar_grammar.specs.ProdText.{prod_text, quote_for, quoted_name, symbol_text};
 ghost use Rattle.lrpar_grammar_places.specs.Strings.{Appends};
-ghost use Rattle.lrpar_grammar.specs.Stored.{IsListedIn};
+ghost use Rattle.lrpar_grammar.specs.Stored.{IsDeclaredIn};
 
 use super::value::YaccGrammar;
 use lrpar_grammar_places::span::{PIdx, StorageIndex, Symbol};
@@ -20,7 +20,7 @@ impl<StorageT: StorageIndex> YaccGrammar<StorageT> {
     {
         let mut text = String::from_str(alloc, self.rule_name_str(self.prod_to_rule(pidx)))?;
         text.push(':')?;
-        for symbol in self.listed_symbols(pidx) {
+        for symbol in self.declared_symbols(pidx) {
             text.push(' ')?;
             self.push_symbol(&mut text, *symbol)?;
         }
@@ -29,7 +29,7 @@ impl<StorageT: StorageIndex> YaccGrammar<StorageT> {
 
     // Appends a rule's name, or a token's name in quotes.
     fn push_symbol(&self, text: &mut String, symbol: Symbol<StorageT>) -> Result<(), AllocError>
-        requires { IsListedIn StorageT.index self.now symbol }
+        requires { IsDeclaredIn StorageT.index self.now symbol }
         ensures { OnOk result (Appends text.old text.new (symbol_text self.now (symbol_of StorageT.index symbol))) }
     {
         match symbol {

@@ -2,7 +2,7 @@
 ghost use Rattle.std.specs.Prelude.{◌≡◌, ◌<◌, ◌≤◌, [], None, IfErr, IfOk, OnOk, slice_index_or};
 ghost use Rattle.lrpar_grammar_reader.specs.Symbols.{symbol_of};
 ghost use Rattle.lrpar_grammar.specs.Matching.{IsMatched, prods_of, texts_of};
-ghost use Rattle.lrpar_grammar.specs.Spelled.{AreListedProds, AreProdNumbers, IsListing, SpellEach, symbol_number};
+ghost use Rattle.lrpar_grammar.specs.Spelled.{AreNumberedProds, AreProdNumbers, IsListing, SpellEach, symbol_number};
 ghost use Rattle.lrpar_grammar.specs.SpelledFaults.{AreUnlisted, IsMissingOf, IsSpelledFault, IsTextFault};
 ghost use Rattle.lrpar_grammar.specs.Stored.{texts_in};
 
@@ -46,7 +46,7 @@ impl<StorageT: StorageIndex> Spelled<StorageT> {
         self.of_number(usize::from(pidx))
     }
 
-    /// The same for the production with this number. Takes constant time.
+    /// Where the text of the production with this number is in the list. Takes constant time.
     pub fn of_number(&self, production: usize) -> Option<usize>
         ensures { result ≡ slice_index_or self.now production None }
     {
@@ -84,8 +84,8 @@ impl<StorageT: StorageIndex> YaccGrammar<StorageT> {
         ensures faulty { IfErr result (IsSpelledFault self.now (texts_in texts.now)) }
         ensures unlisted { IfErr result (AreUnlisted self.now (texts_in texts.now)) }
     {
-        let prods = self.listed_prods(alloc)?;
-        let places = self.text_places(alloc, &prods, texts)?;
+        let prods = self.number_prods(alloc)?;
+        let places = self.text_positions(alloc, &prods, texts)?;
         Ok(Spelled {
             places,
             kind: PhantomData,
@@ -93,23 +93,23 @@ impl<StorageT: StorageIndex> YaccGrammar<StorageT> {
     }
 
     // The place of each production's text.
-    fn text_places(
+    fn text_positions(
         &self,
         alloc: Global,
         prods: &[Vec<usize>],
         texts: &[&str],
     ) -> Result<Vec<Option<usize>>, SpelledFault>
-        requires prods { AreListedProds self.now prods.now }
+        requires prods { AreNumberedProds self.now prods.now }
         requires fits { start_prod self.now < StorageT.limit }
         ensures listed { IfOk result (λ places. IsListing self.now (texts_in texts.now) places.items) }
         ensures faulty { IfErr result (IsSpelledFault self.now (texts_in texts.now)) }
     {
         let names = SymbolNames::new(alloc, self)?;
         let mut matching = Matching::new(alloc, prods)?;
-        take_texts(alloc, &names, texts, &mut matching)?;
+        match_texts(alloc, &names, texts, &mut matching)?;
         match matching.first_without_text() {
             Some(prod) => Err(self.missing(alloc, prod)),
-            None => Ok(matching.into_places()),
+            None => Ok(matching.into_positions()),
         }
     }
 
@@ -127,8 +127,8 @@ impl<StorageT: StorageIndex> YaccGrammar<StorageT> {
     }
 
     // The productions other than the start production, as numbers of symbols.
-    fn listed_prods(&self, alloc: Global) -> Result<Vec<Vec<usize>>, AllocError>
-        ensures prods { IfOk result (λ prods. AreListedProds self.now prods.items) }
+    fn number_prods(&self, alloc: Global) -> Result<Vec<Vec<usize>>, AllocError>
+        ensures prods { IfOk result (λ prods. AreNumberedProds self.now prods.items) }
         ensures fits { start_prod self.now < StorageT.limit }
     {
         let end = self.start_prod().0.to_index();
@@ -167,7 +167,7 @@ fn symbol_number<StorageT: StorageIndex>(rules: usize, symbol: Symbol<StorageT>)
 }
 
 // Takes each text of the list.
-fn take_texts(
+fn match_texts(
     alloc: Global,
     names: &SymbolNames,
     texts: &[&str],
@@ -184,7 +184,7 @@ fn take_texts(
         let Some(numbers) = names.numbers_of(alloc, text)? else {
             return Err(SpelledFault::unknown(alloc, text, place));
         };
-        match matching.take(numbers) {
+        match matching.match_text(numbers) {
             Ok(()) => {}
             Err(Misfit::Unknown) => return Err(SpelledFault::unknown(alloc, text, place)),
             Err(Misfit::Repeated) => return Err(SpelledFault::repeated(alloc, text, place)),

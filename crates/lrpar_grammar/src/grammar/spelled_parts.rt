@@ -1,7 +1,7 @@
 //! The productions of a grammar, as a caller lists them by their texts in several parts.
 ghost use Rattle.std.specs.Prelude.{◌≡◌, None, IfErr, IfOk, OnOk, slice_index_or};
 ghost use Rattle.lrpar_grammar.specs.SpelledFaults.{AreUnlistedInParts, IsSpelledFault};
-ghost use Rattle.lrpar_grammar.specs.SpelledParts.{AppendsPlaces, ArePlaces, IsListingInParts, joined, parts_in};
+ghost use Rattle.lrpar_grammar.specs.SpelledParts.{AppendsIndexes, AreIndexesInParts, IsListingInParts, joined, parts_in};
 
 use super::spelled::Spelled;
 use super::spelled_fault::SpelledFault;
@@ -30,11 +30,11 @@ impl<StorageT: StorageIndex> Drop for SpelledParts<StorageT> {
 
 impl<StorageT: StorageIndex> Model for SpelledParts<StorageT> {
     ghost use Rattle.std.specs.Prelude.{ℕ, List, Option, map};
-    ghost use Rattle.lrpar_grammar.specs.SpelledParts.{place_in_parts};
+    ghost use Rattle.lrpar_grammar.specs.SpelledParts.{index_in_parts};
 
     ghost Value = { List (Option (ℕ × ℕ)) };
 
-    ghost view = { λ s. map (place_in_parts s.places.items) s.spelled };
+    ghost view = { λ s. map (index_in_parts s.places.items) s.spelled };
 }
 
 impl<StorageT: StorageIndex> SpelledParts<StorageT> {
@@ -46,7 +46,7 @@ impl<StorageT: StorageIndex> SpelledParts<StorageT> {
         self.of_number(usize::from(pidx))
     }
 
-    /// The same for the production with this number. Takes constant time.
+    /// The part, and the position in it, of the text of the production with this number. Takes constant time.
     pub fn of_number(&self, production: usize) -> Option<(usize, usize)>
         ensures { result ≡ slice_index_or self.now production None }
     {
@@ -77,7 +77,7 @@ impl<StorageT: StorageIndex> YaccGrammar<StorageT> {
         ensures faulty { IfErr result (IsSpelledFault self.now (joined (parts_in parts.now))) }
         ensures unlisted { IfErr result (AreUnlistedInParts self.now (parts_in parts.now)) }
     {
-        let places = places_of(alloc, parts)?;
+        let places = positions_of(alloc, parts)?;
         let texts = parts.concat(alloc)?;
         let spelled = self.prods_spelled(alloc, &texts)?;
         Ok(SpelledParts { spelled, places })
@@ -85,23 +85,23 @@ impl<StorageT: StorageIndex> YaccGrammar<StorageT> {
 }
 
 // For each text of the parts the number of its part, and its place in this part.
-fn places_of(alloc: Global, parts: &[&[&str]]) -> Result<Vec<(usize, usize)>, AllocError>
-    ensures { IfOk result (λ places. ArePlaces (parts_in parts.now) places.items) }
+fn positions_of(alloc: Global, parts: &[&[&str]]) -> Result<Vec<(usize, usize)>, AllocError>
+    ensures { IfOk result (λ places. AreIndexesInParts (parts_in parts.now) places.items) }
 {
     let mut places = Vec::new(alloc);
     for (part, texts) in parts.iter().enumerate() {
-        push_places(&mut places, part, texts.len())?;
+        push_positions(&mut places, part, texts.len())?;
     }
     Ok(places)
 }
 
 // Adds the places of a part of this length.
-fn push_places(
+fn push_positions(
     places: &mut Vec<(usize, usize)>,
     part: usize,
     len: usize,
 ) -> Result<(), AllocFailed<(usize, usize)>>
-    ensures { OnOk result (AppendsPlaces places.old places.new part len) }
+    ensures { OnOk result (AppendsIndexes places.old places.new part len) }
 {
     for place in 0..len {
         places.push((part, place))?;

@@ -1,7 +1,7 @@
 //! The grammar of a text.
 ghost use Rattle.std.specs.Prelude.{IfErr, IfOk};
 ghost use Rattle.lrpar_grammar_reader.specs.SpansFit.{SpansFit};
-ghost use Rattle.lrpar_grammar_reader.specs.Spells.{IsFaultOf, Spells};
+ghost use Rattle.lrpar_grammar_reader.specs.Spells.{IsGrammarFaultOf, Spells};
 
 use super::value::YaccGrammar;
 use lrpar_grammar_places::span::StorageIndex;
@@ -30,7 +30,7 @@ impl<StorageT: StorageIndex> YaccGrammar<StorageT> {
         ensures spelled { IfOk result (Spells text.now) }
         ensures well_formed { IfOk result IsWellFormed }
         ensures fits { IfOk result (λ grm. SpansFit grm text.now) }
-        ensures faulty { IfErr result (IsFaultOf StorageT.limit text.now) }
+        ensures faulty { IfErr result (IsGrammarFaultOf StorageT.limit text.now) }
     {
         let parts = read_parts(alloc, text)?;
         Ok(YaccGrammar::made(alloc, parts)?)

@@ -3,7 +3,7 @@ ghost use Rattle.std.specs.Prelude.{◌≡◌, ◌<◌, ◌≤◌, ◌↔◌, if
 ghost use Rattle.std.specs.List.{range_with_len};
 ghost use Rattle.lrpar_grammar_reader.specs.SpansFit.{NamesFit, SpansFit};
 ghost use Rattle.lrpar_grammar_reader.specs.Symbols.{prod_numbers};
-ghost use Rattle.lrpar_grammar.specs.Stored.{FailsExactly, HasListedRightSide, HaveTokenNames, HaveTokenNumbers, IsEndOf, IsFirstNamed, IsGrammarOf, IsRightSide, IsTokenAt, text_in};
+ghost use Rattle.lrpar_grammar.specs.Stored.{FailsExactly, HasDeclaredRightSide, HaveTokenNames, HaveTokenNumbers, IsEndOf, IsFirstNamed, IsGrammarOf, IsRightSide, IsTokenAt, text_in};
 
 use super::fit::{prods_fit, rules_fit, tokens_fit};
 use super::numbers::Numbers;
@@ -163,10 +163,10 @@ impl<StorageT: StorageIndex> YaccGrammar<StorageT> {
     }
 
     // The right side of a production, whose symbols are rules and tokens of the grammar.
-    pub(super) fn listed_symbols(&self, pidx: PIdx<StorageT>) -> &[Symbol<StorageT>]
+    pub(super) fn declared_symbols(&self, pidx: PIdx<StorageT>) -> &[Symbol<StorageT>]
         requires { StorageT.index pidx.0 < prods_len self.now }
         ensures symbols { IsRightSide StorageT.index self.now pidx result.now }
-        ensures listed { HasListedRightSide StorageT.index self.now pidx }
+        ensures listed { HasDeclaredRightSide StorageT.index self.now pidx }
     {
         &self.prods[usize::from(pidx)].symbols
     }

@@ -1,5 +1,5 @@
 //! Clones of trees.
-ghost use Rattle.std.specs.Prelude.{◌≡◌, IfOk};
+ghost use Rattle.std.specs.Prelude.{◌≡◌, [], IfOk};
 ghost use Rattle.lrpar_parse_trees.specs.Walks.{IsNodeOver, walk};
 
 use crate::node::Node;
@@ -14,7 +14,10 @@ impl<LexemeT: Copy, StorageT: Copy> Node<LexemeT, StorageT> {
     {
         match self {
             Node::Term { lexeme } => Ok(Node::Term { lexeme: *lexeme }),
-            Node::Nonterm { ridx, nodes } => copied(alloc, *ridx, nodes),
+            Node::Nonterm { ridx, nodes } => {
+                let mut below = Vec::new(alloc);
+                copy_nodes(alloc, &mut below, *ridx, nodes)
+            }
         }
     }
 }
@@ -27,15 +30,16 @@ struct Growing<'a, LexemeT, StorageT> {
     left: &'a [Node<LexemeT, StorageT>],
 }
 
-// The node of the rule over clones of these trees. A list holds the rules around the current tree, an entry for each level.
-fn copied<'a, LexemeT: Copy, StorageT: Copy>(
+// The node of the rule over clones of these trees. `below` holds the rules around the current tree, an entry for each level.
+fn copy_nodes<'a, LexemeT: Copy, StorageT: Copy>(
     alloc: Global,
+    below: &mut Vec<Growing<'a, LexemeT, StorageT>>,
     mut ridx: RIdx<StorageT>,
     nodes: &'a [Node<LexemeT, StorageT>],
 ) -> Result<Node<LexemeT, StorageT>, AllocError>
+    requires { below.old.items ≡ [] }
     ensures { IfOk result (IsNodeOver ridx nodes.entry.now) }
 {
-    let mut below = Vec::new(alloc);
     let mut made = Vec::with_capacity(alloc, nodes.len())?;
     let mut left = nodes;
     loop {

@@ -1,10 +1,9 @@
 //! Equality of trees.
-ghost use Rattle.std.specs.Prelude.{◌≡◌, length};
+ghost use Rattle.std.specs.Prelude.{◌≡◌, [], length};
 ghost use Rattle.lrpar_parse_trees.specs.Walks.{nodes_eq};
 
 use crate::node::Node;
 use crate::node::bounded::{CALLS, have_fewer_nodes};
-use std::alloc::Global;
 
 impl<LexemeT: PartialEq, StorageT: PartialEq> PartialEq for Node<LexemeT, StorageT> {
     ghost use Rattle.lrpar_parse_trees.specs.Walks.{node_eq};
@@ -22,7 +21,8 @@ impl<LexemeT: PartialEq, StorageT: PartialEq> PartialEq for Node<LexemeT, Storag
         match self {
             Node::Term { lexeme: _ } => true,
             Node::Nonterm { ridx: _, nodes } => {
-                are_equal(*nodes.allocator(), nodes, other.children())
+                let mut left = Vec::new(*nodes.allocator());
+                are_equal(&mut left, nodes, other.children())
             }
         }
     }
@@ -36,17 +36,7 @@ impl<LexemeT: Eq, StorageT: Eq> Eq for Node<LexemeT, StorageT> {
 
 impl<LexemeT, StorageT> Node<LexemeT, StorageT> {
     ghost use Rattle.lrpar_parse_trees.specs.Visits.{visit_eq};
-    ghost use Rattle.lrpar_parse_trees.specs.Walks.{visit, children};
-
-    // The trees of the node's symbols. A lexeme has none.
-    pub(super) fn children(&self) -> &[Node<LexemeT, StorageT>]
-        ensures children { result.now ≡ children self.now }
-    {
-        match self {
-            Node::Term { lexeme: _ } => &[],
-            Node::Nonterm { ridx: _, nodes } => nodes,
-        }
-    }
+    ghost use Rattle.lrpar_parse_trees.specs.Walks.{visit};
 
     // Whether the nodes have equal lexemes, or equal rules and the same number of children.
     fn is_like(&self, other: &Self) -> bool
@@ -76,17 +66,17 @@ struct Pair<'a, LexemeT, StorageT> {
     others: &'a [Node<LexemeT, StorageT>],
 }
 
-// Whether two lists of the same length have equal trees, one by one. A list holds the trees that are left, an entry for each level.
-// If it can't grow, the trees below a node are compared without one.
+// Whether two lists of the same length have equal trees, one by one. `left` holds the trees that are left, an entry for each level.
+// If it can't grow, the trees below a node are compared without it.
 fn are_equal<'a, LexemeT: PartialEq, StorageT: PartialEq>(
-    alloc: Global,
+    left: &mut Vec<Pair<'a, LexemeT, StorageT>>,
     mut nodes: &'a [Node<LexemeT, StorageT>],
     mut others: &'a [Node<LexemeT, StorageT>],
 ) -> bool
+    requires none { left.old.items ≡ [] }
     requires even { length nodes.now ≡ length others.now }
     ensures { result ≡ nodes_eq LexemeT.PartialEq.eq StorageT.PartialEq.eq nodes.entry.now others.entry.now }
 {
-    let mut left = Vec::new(alloc);
     loop {
         match (nodes.split_first(), others.split_first()) {
             (Some((node, rest)), Some((other, other_rest))) => {
@@ -123,7 +113,7 @@ fn are_equal<'a, LexemeT: PartialEq, StorageT: PartialEq>(
     }
 }
 
-// The same without a list. After a node, the trees below it and those beside it are left: a recursive call compares the ones, and the
+// Compares the trees without a list of those that are left. After a node, the trees below it and those beside it are left: a recursive call compares the ones, and the
 // loop goes on with the others. Down to the depth `calls` a call takes the trees below the node; deeper, it takes those that have
 // fewer nodes.
 fn equal_by_calls<'a, LexemeT: PartialEq, StorageT: PartialEq>(

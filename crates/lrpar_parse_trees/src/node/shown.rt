@@ -1,10 +1,10 @@
 //! The `Debug` text of trees.
+ghost use Rattle.std.specs.Prelude.{◌≡◌, []};
 ghost use Rattle.std.specs.Fmt.{DisplaysOnOk, WritesOnOk};
 ghost use Rattle.lrpar_parse_trees.specs.Shown.{ShowsTrees, shown, shown_lexeme, shown_rule};
 
 use crate::node::Node;
 use lrpar_grammar::span::RIdx;
-use std::alloc::Global;
 use std::fmt;
 use std::fmt::Write;
 
@@ -21,7 +21,8 @@ impl<LexemeT: fmt::Debug, StorageT: fmt::Debug> fmt::Debug for Node<LexemeT, Sto
             Node::Term { lexeme } => write_lexeme(f, lexeme),
             Node::Nonterm { ridx, nodes } => {
                 write_rule(f, ridx)?;
-                write_nodes(*nodes.allocator(), f, nodes)
+                let mut left = Vec::new(*nodes.allocator());
+                write_nodes(f, &mut left, nodes)
             }
         }
     }
@@ -51,15 +52,15 @@ fn write_rule<StorageT: fmt::Debug, W: fmt::Write>(
     f.write_str("), nodes: [")
 }
 
-// Writes the trees of a rule, and its end. A list holds the trees that are left on the levels above, an entry for each level.
+// Writes the trees of a rule, and its end. `left` holds the trees that are left on the levels above, an entry for each level.
 fn write_nodes<'a, LexemeT: fmt::Debug, StorageT: fmt::Debug, W: fmt::Write>(
-    alloc: Global,
     f: &mut fmt::Formatter<W>,
+    left: &mut Vec<&'a [Node<LexemeT, StorageT>]>,
     mut nodes: &'a [Node<LexemeT, StorageT>],
 ) -> fmt::Result
+    requires { left.old.items ≡ [] }
     ensures { ShowsTrees LexemeT.debug_output StorageT.debug_output W.write_str_gives nodes.entry.now f.old result f.new }
 {
-    let mut left = Vec::new(alloc);
     let mut mark = "";
     loop {
         match nodes.split_first() {
@@ -118,18 +119,18 @@ fn write_lines<LexemeT: fmt::Debug, StorageT: fmt::Debug, W: fmt::Write>(
         Node::Term { lexeme } => lines.write_lexeme(lexeme),
         Node::Nonterm { ridx, nodes } => {
             lines.write_rule(ridx, nodes.is_empty())?;
-            write_lines_of(*nodes.allocator(), &mut lines, nodes)
+            let mut left = Vec::new(*nodes.allocator());
+            write_lines_of(&mut lines, &mut left, nodes)
         }
     }
 }
 
-// Writes the trees of a rule, and its end, as `{:#?}` does.
+// Writes the trees of a rule, and its end, as `{:#?}` does. `left` is a list for the trees that are left on the levels above.
 fn write_lines_of<'a, LexemeT: fmt::Debug, StorageT: fmt::Debug, W: fmt::Write>(
-    alloc: Global,
     lines: &mut Lines<W>,
+    left: &mut Vec<&'a [Node<LexemeT, StorageT>]>,
     mut nodes: &'a [Node<LexemeT, StorageT>],
 ) -> fmt::Result {
-    let mut left = Vec::new(alloc);
     loop {
         match nodes.split_first() {
             Some((node, rest)) => match node {

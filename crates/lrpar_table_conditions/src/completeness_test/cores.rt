@@ -2,7 +2,7 @@
 ghost use Rattle.std.specs.Prelude.{◌≡◌, ◌<◌, ◌↔◌, IsTrue, length};
 ghost use Rattle.lrpar_grammar.specs.Grammar.{Nonterminal, Terminal, rules_len};
 ghost use Rattle.lrpar_table_first.specs.FirstRows.{HoldNothing, rows_of};
-ghost use Rattle.lrpar_table_conditions.specs.Tested.{AddsLookaheads, CarriesCore, ClosesCoreBy, EndsAt, EndsCore, EndsEach, HasAdvanced, HasCoreIn, HasItemIn, HasRoomIn, HasSetsIn, HasStartsOf, HasWidth, IsDotIn, IsNear, IsProdIn, IsRuleIn, IsStateIn, IsTestable, IsTokenAfter, IsTokenIn, PutsStart, ShiftsCore, StartsCover, StepsOnBy, TakesStart};
+ghost use Rattle.lrpar_table_conditions.specs.Tested.{AddsLookaheads, CarriesCore, ClosesCoreBy, EndsAt, EndsCore, EndsEach, HasAdvanced, HasCoreIn, HasItemIn, HasRoomIn, HasSetsIn, HasStartsOf, HasWidth, IsDotIn, IsNear, IsProdIn, IsRuleIn, IsStateIn, IsTestable, IsTokenAfter, IsTokenIn, PutsStart, ShiftsCore, StartsCover, StepsOnBy, ClearsStart};
 
 use crate::completeness_test::Completeness;
 use crate::completeness_test::sets::WorkSets;
@@ -102,7 +102,7 @@ impl<'a, StorageT: StorageIndex> Completeness<'a, StorageT> {
     }
 
     // Empties the sets, which have the lookaheads of the state's items with dot 0.
-    pub(super) fn take_starts(&self, s: StIdx<StorageT>, starts: &mut [TokenSet])
+    pub(super) fn clear_starts(&self, s: StIdx<StorageT>, starts: &mut [TokenSet])
         requires known { IsTestable self.now }
         requires state { IsStateIn StorageT.index self.now s }
         requires room { HasSetsIn self.now starts.old }
@@ -111,12 +111,12 @@ impl<'a, StorageT: StorageIndex> Completeness<'a, StorageT> {
         ensures none { HoldNothing (rows_of starts.new) }
     {
         for (pidx, dot) in self.sgraph.cores(s) {
-            self.take_start(s, *pidx, *dot, starts);
+            self.clear_start(s, *pidx, *dot, starts);
         }
     }
 
     // Empties the set of the core's production, if its dot is 0.
-    fn take_start(
+    fn clear_start(
         &self,
         s: StIdx<StorageT>,
         pidx: PIdx<StorageT>,
@@ -127,7 +127,7 @@ impl<'a, StorageT: StorageIndex> Completeness<'a, StorageT> {
         requires core { HasCoreIn StorageT.index self.now s pidx dot }
         requires room { HasSetsIn self.now starts.old }
         ensures room { HasSetsIn self.now starts.new }
-        ensures left { TakesStart StorageT.index pidx dot starts.old starts.new }
+        ensures left { ClearsStart StorageT.index pidx dot starts.old starts.new }
     {
         if dot == 0 {
             let prod = usize::from(pidx);
@@ -249,7 +249,7 @@ impl<'a, StorageT: StorageIndex> Completeness<'a, StorageT> {
         requires dot { IsDotIn StorageT.index self.now pidx dot }
         ensures { IsTrue result ↔ HasAdvanced StorageT.index self.now s pidx dot next }
     {
-        let _symbols = self.grm.prod(pidx);
+        let _lemma = self.grm.prod(pidx);
         let tokens = self.sgraph.lookaheads(s, pidx, dot);
         let near = self.sgraph.lookaheads(next, pidx, dot + 1);
         for place in 0..tokens.len() {

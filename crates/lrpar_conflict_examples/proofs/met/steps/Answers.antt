@@ -5,7 +5,7 @@ use Rattle.lrpar_table_first.specs.FirstRows.{row_at, rows_of}
 use Rattle.lrpar_table_first.proofs.RowLemmas.{row_is}
 use Rattle.lrpar_table_rows.specs.Table.{states_len}
 use Rattle.lrpar_table_sentences.specs.AccessLens.{IsStoredAt}
-use Rattle.lrpar_table_sentences.proofs.SettleLemmas.{index_back}
+use Rattle.lrpar_table_sentences.proofs.FixLemmas.{index_back}
 use Rattle.lrpar_conflict_examples.specs.Met.{AreSteps, steps_below}
 use Rattle.lrpar_conflict_examples.proofs.MetLemmas.{are_steps, steps_more}
 use Rattle.lrpar_conflict_examples.proofs.met.steps.Goals as goal

@@ -3,7 +3,7 @@ use Rattle.std.proofs.lemmas.Result.{IfErr-weaker, IfOk-weaker}
 use Rattle.lrpar_grammar_words.specs.Outline.{outline_of}
 use Rattle.lrpar_grammar_reader.specs.Parts.{AreSound, grammar_of, parts_of}
 use Rattle.lrpar_grammar_reader.specs.SpansFit.{SpansFit}
-use Rattle.lrpar_grammar_reader.specs.Spells.{IsFaultOf, Spells}
+use Rattle.lrpar_grammar_reader.specs.Spells.{IsGrammarFaultOf, Spells}
 use Rattle.lrpar_grammar_reader.specs.TextNames.{AreSpelled, IsRefusedAs}
 use Rattle.lrpar_grammar_reader.proofs.FaultTextLemmas.{refusal_of_text}
 use Rattle.lrpar_grammar_reader.proofs.SpellsFitLemmas.{outline_fits}
@@ -27,6 +27,6 @@ returns g c =
       fits = IfOk-weaker c.checked_parts.result (λ parts. AreSpelled limit o (parts_of index parts)) (λ parts. SpansFit (grammar_of (parts_of index parts)) text)
           (λ parts made. subst (λ x. SpansFit (grammar_of x) text) (sym made.is)
           (outline_fits text o c.utf8.text c.in_ok-outline.ensures.outline c.in_ok-outline.ensures.order)) spelled;
-      faulty = IfErr-weaker c.checked_parts.result (IsRefusedAs limit o) (IsFaultOf limit text)
+      faulty = IfErr-weaker c.checked_parts.result (IsRefusedAs limit o) (IsGrammarFaultOf limit text)
           (refusal_of_text limit text o c.in_ok-outline.ensures.outline) c.checked_parts.ensures.err;
     }

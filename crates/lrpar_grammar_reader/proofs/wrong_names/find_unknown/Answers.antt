@@ -1,21 +1,24 @@
-use Rattle.std.proofs.Common.{◌≡◌, true, not, map, take, ap, sym, ◌∙◌}
+use Rattle.std.proofs.Common.{map, not, rules, tests}
+use Rattle.std.proofs.lemmas.Iterator.{YieldsList-from_slice}
+use Rattle.std.proofs.lemmas.Iterator.Search.{find_from_yields_List}
 use Rattle.lrpar_grammar_words.specs.Words.{PlacedWord, placed}
+use Rattle.lrpar_grammar_words.specs.declared.words.Word.{Word}
 use Rattle.lrpar_grammar_reader.specs.Spells.{is_known}
 use Rattle.lrpar_grammar_reader.specs.TextNames.{numbering_by}
-use Rattle.lrpar_grammar_reader.proofs.FaultsLemmas.{all_of, none_fails, lies_at}
-use Rattle.lrpar_grammar_reader.proofs.GrowthLemmas.{all_more}
+use Rattle.lrpar_grammar_reader.proofs.FaultsLemmas.{all_pass, lies_at, none_lies}
 use Rattle.lrpar_grammar_reader.proofs.wrong_names.find_unknown.Goals as goal
 
-pub returns-then-not-is_known : goal.returns-then-not-is_known
-returns-then-not-is_known c =
-    lies_at (λ (w : PlacedWord). not (is_known (numbering_by c.args.tables.now) w)) c.args.symbols.now c.loop-word.word-index _ c.span.result c.loop-word-test.true
-    (none_fails (is_known (numbering_by c.args.tables.now)) (take c.loop-word.word-index (map placed c.args.symbols.now)) c.loop-word.invariant)
-    (ap not (sym c.is_known.ensures ∙ c.if-not-is_known.true)) c.span.ensures
-
-pub loop-word-preserved : goal.loop-word-preserved
-loop-word-preserved c =
-    all_more (λ (w : PlacedWord). is_known (numbering_by c.args.tables.now) w ≡ true) placed c.args.symbols.now c.loop-word.word-index _ c.loop-word-test.true
-    (sym c.is_known.ensures ∙ c.if-not-is_known.false) c.loop-word.invariant
+pub returns-in_err-found : goal.returns-in_err-found
+returns-in_err-found c =
+    rw c.from_residual.ensures
+    (all_pass (λ (w : PlacedWord). is_known (numbering_by c.args.tables.now) w) (map placed c.args.symbols.now) (none_lies (λ (w : PlacedWord). not (is_known (numbering_by c.args.tables.now) w)) c.args.symbols.now c.find.result
+    (find_from_yields_List (λ (w : Word). not (is_known (numbering_by c.args.tables.now) (placed w))) _ _ c.find.result c.find.ensures.ran
+    (YieldsList-from_slice c.args.symbols.now cc) (λ x b q k. search (rules, tests)))
+    c.in_err-found.was))
 
 pub returns : goal.returns
-returns c = all_of (λ (w : PlacedWord). is_known (numbering_by c.args.tables.now) w ≡ true) placed c.args.symbols.now c.loop-word.word-index c.loop-word-test.false c.loop-word.invariant
+returns c =
+    lies_at (λ (w : PlacedWord). not (is_known (numbering_by c.args.tables.now) w)) c.args.symbols.now c.find.result c.in_ok-found.found c.span.result
+    (find_from_yields_List (λ (w : Word). not (is_known (numbering_by c.args.tables.now) (placed w))) _ _ c.find.result c.find.ensures.ran
+    (YieldsList-from_slice c.args.symbols.now cc) (λ x b q k. search (rules, tests)))
+    c.in_ok-found.was c.span.ensures

@@ -48,7 +48,7 @@ places-preserved g c =
     winner_of_rules c.args.rules.now _ text c.range_from.result.now c.places.at (Some c.in-Some.winner)
     c.places.invariant.programs c.range_from.ensures.value c.in-Some.ensures.winner in
     record {
-      programs = c.winner.ensures.same ∙ c.places.invariant.programs;
+      programs = c.find_winner.ensures.same ∙ c.places.invariant.programs;
       boundary = boundary_past text c.places.at c.in-Some.winner.len c.places.invariant.boundary.0 wins.matches.boundary;
       leads = subst (LeadsTo rules text (c.places.at + c.in-Some.winner.len)) (sym c.in_ok-push_lexeme.ensures)
           (leads_on rules text c.places.at c.in-Some.winner.len token (plain_answers index c.places.answers.items) c.places-test.true

@@ -13,14 +13,14 @@ returns-in_default g c =
     let at = c.args.at in
     let none : NoneMatches (map pattern_of rules) (drop at text) =
     winner_of_rules rules _ text c.range_from.result.now at None c.requires.programs c.range_from.ensures.value c.in_default.ensures.winner in
-    let run : IsUnmatched (map pattern_of rules) text at c.unmatched_len.result =
-    run_of_rules rules _ text at c.unmatched_len.result (c.winner.ensures.same ∙ c.requires.programs) none
-    (λ patterns find. c.unmatched_len.ensures.unmatched patterns find tt) in
+    let run : IsUnmatched (map pattern_of rules) text at c.measure_unmatched.result =
+    run_of_rules rules _ text at c.measure_unmatched.result (c.find_winner.ensures.same ∙ c.requires.programs) none
+    (λ patterns find. c.measure_unmatched.ensures.unmatched patterns find tt) in
     record {
-      next = run_is_next index rules (index c.args.unmatched.0) text at c.unmatched_len.result run;
+      next = run_is_next index rules (index c.args.unmatched.0) text at c.measure_unmatched.result run;
       some = run.some;
       boundary = run.boundary;
-      same = c.unmatched_len.ensures.same ∙ c.winner.ensures.same;
+      same = c.measure_unmatched.ensures.same ∙ c.find_winner.ensures.same;
     }
 
 pub token_of-requires : goal.token_of-requires
@@ -43,5 +43,5 @@ returns g c =
       next = inl (reads_winner index rules text at winner.rule winner.len token wins c.token_of.ensures);
       some = wins.matches.some;
       boundary = boundary_past text at winner.len c.requires.boundary.0 wins.matches.boundary;
-      same = c.winner.ensures.same;
+      same = c.find_winner.ensures.same;
     }

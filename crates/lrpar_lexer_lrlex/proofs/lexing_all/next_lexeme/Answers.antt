@@ -14,15 +14,15 @@ returns-in_default g c =
     let rules = plain_state_rules index c.args.rules.now in
     let text = c.args.text.now in
     let top = c.args.stack.now.top in
-    let run : IsUnmatched (patterns_in rules top) text c.args.at c.unmatched_len-run.result =
-    run_in index c.args.rules.now top (programs_of c.read_at.new.matchers) c.args.active.now text c.args.at c.unmatched_len-run.result
-    (c.read_at.ensures.same ∙ c.requires.ready.programs) c.requires.ready.active c.in_default.ensures.found c.unmatched_len-run.ensures.unmatched in
+    let run : IsUnmatched (patterns_in rules top) text c.args.at c.measure_unmatched-run.result =
+    run_in index c.args.rules.now top (programs_of c.read_at.new.matchers) c.args.active.now text c.args.at c.measure_unmatched-run.result
+    (c.read_at.ensures.same ∙ c.requires.ready.programs) c.requires.ready.active c.in_default.ensures.found c.measure_unmatched-run.ensures.unmatched in
     record {
-      next = skips c.unmatched_len-run.result run;
+      next = skips c.measure_unmatched-run.result run;
       some = run.some;
       boundary = run.boundary;
       stays = λ _. refl;
-      same = c.unmatched_len-run.ensures.same ∙ c.read_at.ensures.same;
+      same = c.measure_unmatched-run.ensures.same ∙ c.read_at.ensures.same;
     }
 
 pub returns-then-not-goes : goal.returns-then-not-goes

@@ -10,7 +10,7 @@ returns-in_default g c =
     let index = g.StorageT.StorageIndex.index in
     let d = c.args.checked.now in
     let t = index c.args.token.0 in
-    let above = states_of index c.fed_over.new.above.items in
+    let above = states_of index c.feed_above.new.above.items in
     let no = rw c.in_default.is at c.in_ok-kept.ensures in
     (refl, subst (λ states. FeedsTo d.grammar d.table t (states_of index states) None above) c.deref.ensures.value no)
 
@@ -21,7 +21,7 @@ returns g c =
     let t = index c.args.token.0 in
     let old = c.args.stack.now.items in
     let cut = c.truncate.new.self.items in
-    let above = c.fed_over.new.above.items in
+    let above = c.feed_above.new.above.items in
     let to = rw c.in-Some.is at c.in_ok-kept.ensures in
     let fed = subst (λ states. FeedsTo d.grammar d.table t (states_of index states) (Some c.in-Some.kept) (states_of index above)) c.deref.ensures.value to in
     let number = λ (x : StIdx g.row.StorageT.Denot). index x.0 in

@@ -2,7 +2,7 @@ use Rattle.std.proofs.Common.{◌≡◌, ◌<◌, ◌+◌, ◌++◌, [], ◌∷�
 use Rattle.std.specs.Io.KnownBytes.{Appends}
 use Rattle.std.proofs.lemmas.List.{nil_from_length}
 use Rattle.lrpar_parse_lexemes.specs.Lexemes.{facts_of}
-use Rattle.lrpar_parse_trees.specs.TreeText.{nodes_below}
+use Rattle.lrpar_parse_trees.specs.Walks.{children}
 use Rattle.lrpar_parse_trees.proofs.WriteLemmas.{appends_both}
 use Rattle.lrpar_parse_trees.specs.Graph.{edge_line}
 use Rattle.lrpar_parse_trees.specs.Lines.{node_line}
@@ -14,11 +14,11 @@ nodes-init g c = λ last more.
     let index = g.StorageT.StorageIndex.index in
     let facts = λ (x : g.row.LexemeT.Denot). facts_of index (g.LexemeT.Lexeme.parts x) in
     subst (Appends (g.W.Write.contents c.args.out.now) last) (left_begins facts index c.args.grm.now c.args.input.now c.args.nodes.now)
-    (rw c.new-above.ensures.items at more)
+    (rw c.requires at more)
 
 pub nodes-smaller-in-Some : goal.nodes-smaller-in-Some
 nodes-smaller-in-Some g c =
-    rw (c.in_ok-push-in-Some.ensures.items, c.trees_of-left.ensures)
+    rw (c.in_ok-push-in-Some.ensures.items, c.children-left.ensures)
     (enter_falls c.nodes.parent c.nodes.above.items c.in-Some.rest c.in-Some.node.now c.nodes.left.now c.in-Some.ensures.cases.0)
 
 pub nodes-preserved-in-Some : goal.nodes-preserved-in-Some
@@ -35,9 +35,9 @@ nodes-preserved-in-Some g c = λ last more.
     let node = c.in-Some.node.now in
     let line = node_line facts index grm input next node in
     let edge = edge_line parent next in
-    let inner = left_lines facts index grm input next (next + 1) (above ++ (parent, rest) ∷ []) (nodes_below node) in
+    let inner = left_lines facts index grm input next (next + 1) (above ++ (parent, rest) ∷ []) (children node) in
     let after : Appends (contents c.write_edge.new.out) last inner =
-    (rw (c.in_ok-push-in-Some.ensures.items, c.trees_of-left.ensures, c.in_ok-next-in-Some.ensures) at more) in
+    (rw (c.in_ok-push-in-Some.ensures.items, c.children-left.ensures, c.in_ok-next-in-Some.ensures) at more) in
     c.nodes.invariant last (subst (Appends (contents c.nodes.out) last)
     (left_enter facts index grm input parent next above rest node c.nodes.left.now c.in-Some.ensures.cases.0)
     (appends_both (contents c.nodes.out) (contents c.write_node.new.out) last line (edge ++ inner) c.in_ok-write_node-in-Some.ensures

@@ -11,5 +11,5 @@ returns g c =
     on_ok_weaker c.write_all-2.result
     (λ ended. graph_appends facts index c.args.grm.now c.args.input.now (contents c.args.out.now) (contents c.write_all.new.self) (contents c.write_node.new.out)
     (contents c.write_below.new.out) (contents c.write_all-2.new.self) c.args.tree.now c.in_ok-write_all.ensures.bytes c.in_ok-write_node.ensures
-    (rw c.trees_of.ensures at c.in_ok-write_below.ensures) ended)
+    (rw c.children.ensures at c.in_ok-write_below.ensures) ended)
     c.write_all-2.ensures.bytes

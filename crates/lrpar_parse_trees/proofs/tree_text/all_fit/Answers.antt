@@ -1,6 +1,6 @@
 use Rattle.std.proofs.Common.{◌++◌, length, ap}
 use Rattle.std.proofs.lemmas.List.{nil_from_length}
-use Rattle.lrpar_parse_trees.specs.TreeText.{nodes_below}
+use Rattle.lrpar_parse_trees.specs.Walks.{children}
 use Rattle.lrpar_parse_trees.proofs.WeightLemmas.{weights_skip}
 use Rattle.lrpar_parse_trees.proofs.FitsLemmas.{entered_falls, enters, fit, fit_level, fit_parts, fits_enter, later_trees, later_trees_push, passes_over, refused, through, turned_falls, weights_below}
 use Rattle.lrpar_parse_trees.proofs.tree_text.all_fit.Goals as goal
@@ -17,7 +17,7 @@ returns-then-not-fit_by_calls g c =
     let P = fit g.StorageT.StorageIndex.index g.LexemeT.Lexeme.parts c.args.grm.now c.args.input.now in
     let later = later_trees c.loop-node.left.items in
     refused c.fit_by_calls.result c.if-not-fit_by_calls.true (rw c.children.ensures at c.fit_by_calls.ensures) (λ all.
-    (fit_parts P (nodes_below c.in-Some.node.now) (c.in-Some.rest.now ++ later)
+    (fit_parts P (children c.in-Some.node.now) (c.in-Some.rest.now ++ later)
     (fits_enter P (fit_level g.StorageT.StorageIndex.index g.LexemeT.Lexeme.parts c.args.grm.now c.args.input.now) c.in-Some.node.now c.in-Some.rest.now c.loop-node.nodes.now later c.in-Some.ensures.cases.0 (c.loop-node.invariant.1 all)).1).0)
 
 pub loop-node-smaller-in-Ok : goal.loop-node-smaller-in-Ok

@@ -2,7 +2,7 @@ use Rattle.std.proofs.Common.{◌<◌, ℕ, get_or}
 use Rattle.lrpar_table_rows.specs.Table.{states_len}
 use Rattle.lrpar_table_rows.specs.Safe.{IsSafeAt}
 use Rattle.lrpar_table_rows.specs.declared.condition.TheConstants.SafetyCondition.{ALL}
-use Rattle.lrpar_table_check.proofs.safety.first_fault.Given as goal
+use Rattle.lrpar_table_check.proofs.safety.find_first_fault.Given as goal
 
 -- the conditions so far hold everywhere
 abbrev pub invariant-loop-condition : goal.invariant-loop-condition

@@ -8,4 +8,4 @@ returns-clause-cores g c =
     let index = g.StorageT.StorageIndex.index in
     let grm = c.args.grm.now in
     c.in_ok-finished.ensures.cores grm
-    (subst (λ states. All (IsKernel grm) (kernels_of index states)) (sym c.deref-3.ensures.value) c.in_ok-settle.ensures.merging.kernels)
+    (subst (λ states. All (IsKernel grm) (kernels_of index states)) (sym c.deref-3.ensures.value) c.in_ok-work_until_done.ensures.merging.kernels)

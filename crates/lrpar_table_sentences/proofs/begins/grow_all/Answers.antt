@@ -5,7 +5,7 @@ use Rattle.std.proofs.lemmas.Bool.{OnFalse_at, OnFalse_from}
 use Rattle.lrpar_table_sentences.specs.Choices.{choices_of}
 use Rattle.lrpar_table_sentences.specs.Starts.{CanStart, starts_of, starts_open}
 use Rattle.lrpar_table_sentences.proofs.GrowthLemmas.{pass_grows, pass_stays}
-use Rattle.lrpar_table_sentences.proofs.SettleLemmas.{index_back}
+use Rattle.lrpar_table_sentences.proofs.FixLemmas.{index_back}
 use Rattle.lrpar_table_sentences.proofs.begins.grow_all.Goals as goal
 use Rattle.lrpar_table_sentences.proofs.begins.grow_all.Goals.{then-grow, else-grow}
 

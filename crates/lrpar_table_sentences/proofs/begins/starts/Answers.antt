@@ -4,7 +4,7 @@ use Rattle.lrpar_grammar.specs.Grammar.{prods_len}
 use Rattle.lrpar_table_sentences.specs.Choices.{choices_of}
 use Rattle.lrpar_table_sentences.specs.Starts.{CanStart, start_of, starts_of}
 use Rattle.lrpar_table_sentences.proofs.GrowthLemmas.{whole_back}
-use Rattle.lrpar_table_sentences.proofs.SettleLemmas.{nothing_at, nothing_len}
+use Rattle.lrpar_table_sentences.proofs.FixLemmas.{nothing_at, nothing_len}
 use Rattle.lrpar_table_sentences.proofs.StartLemmas.{starts_none}
 use Rattle.lrpar_table_sentences.proofs.begins.starts.Goals as goal
 

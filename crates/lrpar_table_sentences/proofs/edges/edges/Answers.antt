@@ -3,7 +3,7 @@ use Rattle.std.proofs.lemmas.Bool.{cases_eq}
 use Rattle.lrpar_table_rows.specs.Table.{states_len}
 use Rattle.lrpar_table_sentences.specs.AccessLens.{AreEdges, IsStoredAt, edges_at, edges_below, edges_of}
 use Rattle.lrpar_table_sentences.proofs.EdgeLemmas.{are_edges, below_more}
-use Rattle.lrpar_table_sentences.proofs.SettleLemmas.{index_back}
+use Rattle.lrpar_table_sentences.proofs.FixLemmas.{index_back}
 use Rattle.lrpar_table_sentences.proofs.edges.edges.Goals as goal
 
 pub loop-state-preserved : goal.loop-state-preserved

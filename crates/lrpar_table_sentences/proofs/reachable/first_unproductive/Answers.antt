@@ -1,7 +1,7 @@
 use Rattle.std.proofs.Common.{◌^◌, ◌-◌}
 use Rattle.lrpar_table_sentences.specs.Choices.{choices_of}
 use Rattle.lrpar_table_sentences.proofs.ReachableLemmas.{kept_by, not_reached, one_more}
-use Rattle.lrpar_table_sentences.proofs.SettleLemmas.{index_back}
+use Rattle.lrpar_table_sentences.proofs.FixLemmas.{index_back}
 use Rattle.lrpar_table_sentences.proofs.reachable.first_unproductive.Goals as goal
 use Rattle.lrpar_table_sentences.proofs.reachable.first_unproductive.Goals.{else-marks-rule-via-then-marks-rule+else-is_none, else-marks-rule-via-else-marks-rule}
 

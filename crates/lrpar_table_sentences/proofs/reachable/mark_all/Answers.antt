@@ -3,7 +3,7 @@ use Rattle.std.specs.Bool.{OnFalse}
 use Rattle.std.proofs.lemmas.Bool.{OnFalse_at, OnFalse_from}
 use Rattle.lrpar_table_sentences.specs.Reachable.{MarksOn, unmarked}
 use Rattle.lrpar_table_sentences.proofs.GrowthLemmas.{pass_grows, pass_stays}
-use Rattle.lrpar_table_sentences.proofs.SettleLemmas.{index_back}
+use Rattle.lrpar_table_sentences.proofs.FixLemmas.{index_back}
 use Rattle.lrpar_table_sentences.proofs.reachable.mark_all.Goals as goal
 use Rattle.lrpar_table_sentences.proofs.reachable.mark_all.Goals.{then-mark_after, else-mark_after}
 

@@ -5,7 +5,7 @@ use Rattle.lrpar_grammar_words.specs.Words.{piece_at, word_at}
 use Rattle.lrpar_grammar_words.specs.Outline.{outline_of, with_word}
 use Rattle.lrpar_grammar_words.proofs.OutlineLemmas.{OutlinesTo, outlines_all, outlines_blank, outlines_none, outlines_word, refused_end, refused_piece, refused_word}
 use Rattle.lrpar_grammar_words.proofs.outline.Outline.read.Goals as goal
-use Rattle.lrpar_grammar_words.proofs.outline.Outline.read.Goals.{in-Some-word+in-Some-after+in_ok-take, in_default-word}
+use Rattle.lrpar_grammar_words.proofs.outline.Outline.read.Goals.{in-Some-word+in-Some-after+in_ok-add_word, in_default-word}
 
 -- the rest of a text from a place on
 rest_is : (bytes text : List ℕ) (place : ℕ) → bytes ≡ text → take (length bytes - place) (drop place bytes) ≡ drop place text
@@ -45,11 +45,11 @@ loop-place-preserved c =
     record {
       within = omega (arith, c.in-Some.ensures.within.most, ap length rest, length-drop place text);
       read = elim c.match-piece.branch [
-        | in-Some-word+in-Some-after+in_ok-take w ↦
+        | in-Some-word+in-Some-after+in_ok-add_word w ↦
             let word = outlines_word text place c.loop-place.expected w.in-Some-after.next (outline_of c.loop-place.outline) piece w.in-Some-word.kind
             w.in-Some-after.role is w.in-Some-word.is (sym w.in-Some-after.ensures) c.loop-place.invariant.read in
             let taken : outline_of c.match-piece.outline ≡ with_word (outline_of c.loop-place.outline) w.in-Some-after.role (word_at place (drop place text) w.in-Some-word.kind piece.len) =
-            ap outline_of w.outline-is ∙ w.in_ok-take.ensures ∙ ap (with_word (outline_of c.loop-place.outline) w.in-Some-after.role) w.word_at-word.ensures in
+            ap outline_of w.outline-is ∙ w.in_ok-add_word.ensures ∙ ap (with_word (outline_of c.loop-place.outline) w.in-Some-after.role) w.word_at-word.ensures in
             subst (λ e. OutlinesTo text next e (outline_of c.match-piece.outline)) (sym w.expected-is) (subst (OutlinesTo text next w.in-Some-after.next) (sym taken) word)
         | in_default-word w ↦
             let blank = outlines_blank text place c.loop-place.expected (outline_of c.loop-place.outline) piece is w.in_default-word.is c.loop-place.invariant.read in

@@ -4,5 +4,5 @@ use Rattle.lrpar_grammar_yacc.proofs.declarations.Declarations.of_parts.Goals as
 
 pub loop-part-preserved : goal.loop-part-preserved
 loop-part-preserved c =
-    let step = rw c.loop-part.invariant at c.in_ok-take.ensures in
+    let step = rw c.loop-part.invariant at c.in_ok-add_part.ensures in
     step ∙ declared_more c.args.text.now c.args.parts.now c.loop-part.part-index _ c.loop-part-test.true

@@ -12,7 +12,7 @@ value_of-requires g c =
     let actions = c.args.actions.now in
     let by = argument_folds about (token_by index parts) (span_by parts) (g.A.Actions.fact actions) (g.A.Actions.answers actions) c.args.lexer.now c.args.param.now in
     is_value about (token_by index parts) (span_by parts) (g.A.Actions.fact actions) (g.A.Actions.answers actions) c.args.lexer.now c.args.param.now _ _ (λ t e is. by t e is.represents is.suit)
-    c.in-Ok.entry c.argument_of.result c.in-Ok.errors c.argument_of.ensures (rw c.in-Ok.is at c.parsed.ensures.parse)
+    c.in-Ok.entry c.argument_of.result c.in-Ok.errors c.argument_of.ensures (rw c.in-Ok.is at c.parse_to_entry.ensures.parse)
 
 pub returns-in-Ok : goal.returns-in-Ok
 returns-in-Ok g c =
@@ -23,8 +23,8 @@ returns-in-Ok g c =
     let by = argument_folds about (token_by index parts) (span_by parts) (g.A.Actions.fact actions) (g.A.Actions.answers actions) c.args.lexer.now c.args.param.now in
     record {
       parse = acted_parse about (token_by index parts) (span_by parts) (g.A.Actions.fact actions) (g.A.Actions.answers actions) c.args.lexer.now c.args.param.now _ _ (λ t e is. by t e is.represents is.suit)
-          c.in-Ok.entry c.argument_of.result c.in-Ok.errors c.argument_of.ensures (rw c.in-Ok.is at c.parsed.ensures.parse) c.value_of.result c.value_of.ensures;
+          c.in-Ok.entry c.argument_of.result c.in-Ok.errors c.argument_of.ensures (rw c.in-Ok.is at c.parse_to_entry.ensures.parse) c.value_of.result c.value_of.ensures;
     }
 
 pub returns-in-Err : goal.returns-in-Err
-returns-in-Err g c = record { parse = refusal_as _ _ _ _ _ _ c.in-Err.fault (rw c.in-Err.is at c.parsed.ensures.parse) }
+returns-in-Err g c = record { parse = refusal_as _ _ _ _ _ _ c.in-Err.fault (rw c.in-Err.is at c.parse_to_entry.ensures.parse) }

@@ -144,7 +144,7 @@ items-preserved g c =
       dot = opened.dot;
       completing = λ can is.
           completing_next d c.stable-table.ensures.checked (states_of index c.args.stack.now) is l.place (index l.prod.0) l.dot (tokens_of index l.tokens.items)
-          (l.invariant.completing can is) can (index base.0) (index c.in-Some.next.0) c.in-Some.at (tokens_of index c.opened.new.tokens.items) low at
+          (l.invariant.completing can is) can (index base.0) (index c.in-Some.next.0) c.in-Some.at (tokens_of index c.find_opener.new.tokens.items) low at
           l.invariant.known opened;
     }
 
@@ -170,8 +170,8 @@ pub bounds-stack-place-in-items : goal.bounds-stack-place-in-items
 bounds-stack-place-in-items g c =
     let inside = c.items.invariant.within in omega (arith, inside, length-map c.args.stack.now (λ x. g.StorageT.StorageIndex.index x.0))
 
-pub opened-requires-clause-prod : goal.opened-requires-clause-prod
-opened-requires-clause-prod g c = c.items.invariant.known
+pub find_opener-requires-clause-prod : goal.find_opener-requires-clause-prod
+find_opener-requires-clause-prod g c = c.items.invariant.known
 
 pub push_rest-requires : goal.push_rest-requires
 push_rest-requires g c = record { shortest = rw c.grm-grm.ensures c.requires.shortest }

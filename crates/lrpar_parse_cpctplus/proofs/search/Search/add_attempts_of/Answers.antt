@@ -7,7 +7,7 @@ use Rattle.lrpar_parse_cpctplus.proofs.AddLemmas.{attempts_of}
 use Rattle.lrpar_parse_cpctplus.proofs.search.Search.add_attempts_of.Goals as goal
 
 pub add_inserts-requires : goal.add_inserts-requires
-add_inserts-requires g c = record { ascending = c.tokens-tokens.ensures.tokens.ascending }
+add_inserts-requires g c = record { ascending = c.find_tokens-tokens.ensures.tokens.ascending }
 
 pub returns-clause-adds : goal.returns-clause-adds
 returns-clause-adds g c =
@@ -15,6 +15,6 @@ returns-clause-adds g c =
     let search = c.args.self.now in
     on_ok_weaker c.add_delete.result
     (attempts_of (token_by index g.LexemeT.Lexeme.parts) search.terms.now.costs search.point.now (configured_at c.args.stacks.now.stacks c.args.at) c.args.from c.args.weight
-    (map (λ t. index t.0) c.tokens-tokens.result.now) c.tokens-tokens.ensures.tokens.exact (plain_attempts index c.args.attempts.now.items)
+    (map (λ t. index t.0) c.find_tokens-tokens.result.now) c.find_tokens-tokens.ensures.tokens.exact (plain_attempts index c.args.attempts.now.items)
     (plain_attempts index c.add_inserts.new.attempts.items) (plain_attempts index c.add_delete.new.attempts.items) c.in_ok-add_inserts.ensures.adds)
     c.add_delete.ensures.adds

@@ -6,8 +6,8 @@ use Rattle.lrpar_parse_cpctplus.proofs.HeldLemmas.{all_held_stay, held_numbered}
 use Rattle.lrpar_parse_cpctplus.proofs.SharedLemmas.{step_linked, step_stopped}
 use Rattle.lrpar_parse_cpctplus.proofs.search.Search.add_step.Goals as goal
 
-pub taken-requires : goal.taken-requires
-taken-requires g c = record { held = c.requires.growing.held c.args.from c.at.result c.at.ensures }
+pub try_step-requires : goal.try_step-requires
+try_step-requires g c = record { held = c.requires.growing.held c.args.from c.at.result c.at.ensures }
 
 pub returns-in_ok-link : goal.returns-in_ok-link
 returns-in_ok-link g c =
@@ -17,7 +17,7 @@ returns-in_ok-link g c =
     let graph = c.args.graph.now in
     let keys = graph.configurations.keys in
     let old = c.args.stacks.now in
-    let new = c.taken.new.stacks in
+    let new = c.try_step.new.stacks in
     let growing = c.requires.growing in
     let extends = c.in_ok-reached.ensures.extends in
     let linked = c.in_ok-link.ensures.linked in
@@ -42,9 +42,9 @@ returns-in_default g c =
     let growing = c.requires.growing in
     let extends = c.in_ok-reached.ensures.extends in
     record {
-      held = all_held_stay at.checked.table (length at.lexemes) c.args.stacks.now c.taken.new.stacks extends keys growing.held;
+      held = all_held_stay at.checked.table (length at.lexemes) c.args.stacks.now c.try_step.new.stacks extends keys growing.held;
       firsts = refl;
-      grown = step_stopped token c.args.self.now.terms.now.costs at c.args.first (length graph.firsts.items - 1) c.args.stacks.now c.taken.new.stacks extends keys growing.held
+      grown = step_stopped token c.args.self.now.terms.now.costs at c.args.first (length graph.firsts.items - 1) c.args.stacks.now c.try_step.new.stacks extends keys growing.held
           (plain_links index graph.links.items) growing.known c.args.from c.at.result (plain_step index c.args.step) c.at.ensures c.requires.due
           (rw c.in_default.is at c.in_ok-reached.ensures.leads.leads);
     }

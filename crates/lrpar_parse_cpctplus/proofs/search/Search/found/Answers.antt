@@ -13,8 +13,8 @@ use Rattle.lrpar_parse_cpctplus.proofs.KnownLemmas.{round_begins}
 use Rattle.lrpar_parse_cpctplus.proofs.NumberLemmas.{single}
 use Rattle.lrpar_parse_cpctplus.proofs.search.Search.found.Goals as goal
 
-pub rounds-requires-clause-round : goal.rounds-requires-clause-round
-rounds-requires-clause-round g c =
+pub run_rounds-requires-clause-round : goal.run_rounds-requires-clause-round
+run_rounds-requires-clause-round g c =
     let index = g.StorageT.StorageIndex.index in
     let token = token_by index g.LexemeT.Lexeme.parts in
     let costs = c.args.self.now.terms.now.costs in

@@ -85,8 +85,8 @@ returns-then-max-end g c =
       extends = l.invariant.extends;
     }
 
-pub accepts-requires-clause-stack : goal.accepts-requires-clause-stack
-accepts-requires-clause-stack g c = rw c.engine-engine.ensures.checked c.feeding.invariant.stack
+pub try_accept-requires-clause-stack : goal.try_accept-requires-clause-stack
+try_accept-requires-clause-stack g c = rw c.engine-engine.ensures.checked c.feeding.invariant.stack
 
 pub returns : goal.returns
 returns g c =
@@ -107,5 +107,5 @@ returns g c =
     record {
       reach = subst (λ (n : ℕ). ReachesBy index g.LexemeT.Lexeme.parts search c.args.stacks.now c.args.at n) sum
           (l.invariant.left (min l.place (at.place + 250) + from_bool c.in_ok-ends.ends) far);
-      extends = extends_both c.args.stacks.now l.stacks c.accepts.new.stack l.invariant.extends (moved_extends _ _ _ _ _ l.stacks c.accepts.new.stack c.in_ok-ends.ensures.moved);
+      extends = extends_both c.args.stacks.now l.stacks c.try_accept.new.stack l.invariant.extends (moved_extends _ _ _ _ _ l.stacks c.try_accept.new.stack c.in_ok-ends.ensures.moved);
     }

@@ -25,10 +25,10 @@ returns-then-at-self-clause-goes_on g c =
     let d = c.args.self.now.checked.now in
     let kind = g.S.StateStack in
     let l = c.lexemes in
-    IfOk-weaker c.accepts.result _ _
+    IfOk-weaker c.try_accept.result _ _
     (λ accepts h. go_on_ends token d.grammar d.table c.args.self.now.lexemes.now _ (IsTrue accepts) c.args.self.now.shifts l.counter (kind.states l.stack) l.at
     c.lexemes-test.true c.if-at-self.true h l.invariant.left)
-    c.accepts.ensures.accepts
+    c.try_accept.ensures.accepts
 
 pub returns-in-None-clause-goes_on : goal.returns-in-None-clause-goes_on
 returns-in-None-clause-goes_on g c =
@@ -69,10 +69,10 @@ returns-then-at-self-clause-moved g c =
     let d = c.args.self.now.checked.now in
     let kind = g.S.StateStack in
     let l = c.lexemes in
-    on_ok_weaker c.accepts.result
-    (moved_more kind.states kind.reduces g.S.ShiftStack.shifts d.grammar d.table d.cap l.counter 1 c.args.self.now.shifts c.args.stack.now l.stack c.accepts.new.stack
+    on_ok_weaker c.try_accept.result
+    (moved_more kind.states kind.reduces g.S.ShiftStack.shifts d.grammar d.table d.cap l.counter 1 c.args.self.now.shifts c.args.stack.now l.stack c.try_accept.new.stack
     (omega arith) l.invariant.moved)
-    c.accepts.ensures.moved
+    c.try_accept.ensures.moved
 
 pub returns-clause-moved : goal.returns-clause-moved
 returns-clause-moved g c =

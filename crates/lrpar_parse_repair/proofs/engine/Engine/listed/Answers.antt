@@ -5,4 +5,4 @@ use Rattle.lrpar_parse_repair.proofs.engine.Engine.listed.Goals as goal
 pub returns : goal.returns
 returns g c =
     let base = ap (λ (o : Overlaid). o.base) c.new-states.ensures.made in
-    record { listed = rw base at c.tested.ensures.listed }
+    record { listed = rw base at c.retain_working.ensures.listed }

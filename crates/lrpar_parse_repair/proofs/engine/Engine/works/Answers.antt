@@ -26,7 +26,7 @@ returns-in-None-clause-works g c =
     let l = c.loop-step in (
       λ h. absurd (cc),
       λ all. absurd (works_stops token d.grammar d.table c.args.self.now.lexemes.now index _ c.args.self.now.shifts c.args.steps.now l.step-index c.step-item.result
-          (kind.states l.stack) l.at _ _ c.loop-step-test.true c.step-item.is c.in_ok-take.ensures.taken c.in-None.is l.invariant.left all),
+          (kind.states l.stack) l.at _ _ c.loop-step-test.true c.step-item.is c.in_ok-try_step.ensures.taken c.in-None.is l.invariant.left all),
     )
 
 pub loop-step-preserved : goal.loop-step-preserved
@@ -37,13 +37,13 @@ loop-step-preserved g c =
     let kind = g.S.StateStack in
     let l = c.loop-step in
     record {
-      stack = c.in_ok-take.ensures.stack;
+      stack = c.in_ok-try_step.ensures.stack;
       within = taken_within token d.grammar d.table c.args.self.now.lexemes.now (kind.states l.stack) l.at (plain_step index c.step-item.result) _ _ _
-          l.invariant.within c.in_ok-take.ensures.taken c.in-Some.is;
-      moved = moved_more kind.states kind.reduces g.S.ShiftStack.shifts d.grammar d.table d.cap l.step-index 1 (l.step-index + 1) c.args.stack.now l.stack c.take.new.stack
-          (omega arith) l.invariant.moved c.in_ok-take.ensures.moved;
+          l.invariant.within c.in_ok-try_step.ensures.taken c.in-Some.is;
+      moved = moved_more kind.states kind.reduces g.S.ShiftStack.shifts d.grammar d.table d.cap l.step-index 1 (l.step-index + 1) c.args.stack.now l.stack c.try_step.new.stack
+          (omega arith) l.invariant.moved c.in_ok-try_step.ensures.moved;
       left = works_next token d.grammar d.table c.args.self.now.lexemes.now index _ c.args.self.now.shifts c.args.steps.now l.step-index c.step-item.result
-          (kind.states l.stack) l.at _ _ c.in-Some.next c.loop-step-test.true c.step-item.is c.in_ok-take.ensures.taken c.in-Some.is l.invariant.left;
+          (kind.states l.stack) l.at _ _ c.in-Some.next c.loop-step-test.true c.step-item.is c.in_ok-try_step.ensures.taken c.in-Some.is l.invariant.left;
     }
 
 pub returns-in-None-clause-moved : goal.returns-in-None-clause-moved
@@ -51,8 +51,8 @@ returns-in-None-clause-moved g c =
     let d = c.args.self.now.checked.now in
     let kind = g.S.StateStack in
     let l = c.loop-step in
-    moved_more kind.states kind.reduces g.S.ShiftStack.shifts d.grammar d.table d.cap l.step-index 1 (length c.args.steps.now + c.args.self.now.shifts) c.args.stack.now l.stack c.take.new.stack
-    (omega arith) l.invariant.moved c.in_ok-take.ensures.moved
+    moved_more kind.states kind.reduces g.S.ShiftStack.shifts d.grammar d.table d.cap l.step-index 1 (length c.args.steps.now + c.args.self.now.shifts) c.args.stack.now l.stack c.try_step.new.stack
+    (omega arith) l.invariant.moved c.in_ok-try_step.ensures.moved
 
 pub returns-clause-works : goal.returns-clause-works
 returns-clause-works g c =

@@ -13,7 +13,7 @@ use Rattle.lrpar_parse_run.proofs.MovesLemmas.{rise_by_settle, rise_to_next}
 use Rattle.lrpar_parse_repair.proofs.TokenLemmas.{good_token}
 use Rattle.lrpar_parse_run.proofs.RunningLemmas.{run_is_ready, run_on}
 use Rattle.lrpar_parse_run.proofs.StackedLemmas.{no_reduce, no_shift}
-use Rattle.lrpar_parse_run.proofs.run.Run.far.Goals as goal
+use Rattle.lrpar_parse_run.proofs.run.Run.run_far.Goals as goal
 
 pub loop-at-init : goal.loop-at-init
 loop-at-init g c =

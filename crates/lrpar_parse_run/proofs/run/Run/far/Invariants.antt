@@ -2,7 +2,7 @@ use Rattle.std.proofs.Common.{◌≤◌}
 use Rattle.lrpar_parse_lexemes.specs.Views.{facts_by}
 use Rattle.lrpar_parse_run.specs.Running.{IsRunAt}
 use Rattle.lrpar_parse_run.proofs.FarLemmas.{HasCome}
-use Rattle.lrpar_parse_run.proofs.run.Run.far.Given as goal
+use Rattle.lrpar_parse_run.proofs.run.Run.run_far.Given as goal
 
 -- the run has come to this place
 abbrev pub invariant-loop-at : goal.invariant-loop-at

@@ -32,8 +32,8 @@ stops-init g c =
       on = λ some. absurd (omega (arith, some, ap length none));
     }
 
-pub far-requires : goal.far-requires
-far-requires g c = c.stops.invariant.here
+pub run_far-requires : goal.run_far-requires
+run_far-requires g c = c.stops.invariant.here
 
 pub into_entry-requires : goal.into_entry-requires
 into_entry-requires g c =
@@ -41,7 +41,7 @@ into_entry-requires g c =
     let about = subject g.StorageT.StorageIndex.index g.LexerTypesT.LexemeT.Lexeme.parts g.R.Recoverer.allows self in
     let there = c.stops.invariant.there in
     let far = rw c.in_default.is at c.in_ok-stop.ensures.far in
-    let found = there_accepts about (g.B.Build.builds self.run.build.now) self.lexemes.now c.stable-stable.ensures.runs c.stops.stack c.stops.place there.0 there.1 c.far.new.stack far in
+    let found = there_accepts about (g.B.Build.builds self.run.build.now) self.lexemes.now c.stable-stable.ensures.runs c.stops.stack c.stops.place there.0 there.1 c.run_far.new.stack far in
     (found.0, found.1)
 
 pub returns-in_default : goal.returns-in_default
@@ -50,7 +50,7 @@ returns-in_default g c =
     let about = subject g.StorageT.StorageIndex.index g.LexerTypesT.LexemeT.Lexeme.parts g.R.Recoverer.allows self in
     let there = c.stops.invariant.there in
     let far = rw c.in_default.is at c.in_ok-stop.ensures.far in
-    accepted_answer about (g.B.Build.builds self.run.build.now) self.lexemes.now (Some c.into_entry.result, c.stops.errors) c.stable-stable.ensures.checked c.stable-stable.ensures.runs c.stops.stack c.stops.place there.0 there.1 c.far.new.stack
+    accepted_answer about (g.B.Build.builds self.run.build.now) self.lexemes.now (Some c.into_entry.result, c.stops.errors) c.stable-stable.ensures.checked c.stable-stable.ensures.runs c.stops.stack c.stops.place there.0 there.1 c.run_far.new.stack
     far c.into_entry.result c.into_entry.ensures refl there.2
 
 pub resume-requires : goal.resume-requires
@@ -61,7 +61,7 @@ resume-requires g c =
       there = rw c.in-Some.is at c.in_ok-stop.ensures.there;
       shifts = c.requires.shifts;
       fails = far_fails (facts_by g.StorageT.StorageIndex.index g.LexerTypesT.LexemeT.Lexeme.parts) (g.B.Build.builds self.run.build.now) self.run.checked.now self.lexemes.now
-          c.stops.stack c.stops.place c.in-Some.stop c.far.new.stack c.stable-stable.ensures.runs c.requires.valid c.stops.invariant.here.run_stack far;
+          c.stops.stack c.stops.place c.in-Some.stop c.run_far.new.stack c.stable-stable.ensures.runs c.requires.valid c.stops.invariant.here.run_stack far;
     }
 
 pub returns-in_default-2 : goal.returns-in_default-2
@@ -70,7 +70,7 @@ returns-in_default-2 g c =
     let about = subject g.StorageT.StorageIndex.index g.LexerTypesT.LexemeT.Lexeme.parts g.R.Recoverer.allows self in
     let there = c.stops.invariant.there in
     let far = rw c.in-Some.is at c.in_ok-stop.ensures.far in
-    stop_ends about (g.B.Build.builds self.run.build.now) self.lexemes.now c.stable-stable.ensures.runs c.stops.stack c.stops.place there.0 there.1 c.far.new.stack c.in-Some.stop far
+    stop_ends about (g.B.Build.builds self.run.build.now) self.lexemes.now c.stable-stable.ensures.runs c.stops.stack c.stops.place there.0 there.1 c.run_far.new.stack c.in-Some.stop far
     c.stops.errors.items c.resume.new.errors.items there.2 c.resume.new.stack c.in_ok-next.field-0 c.in_ok-next.ensures.recovered c.stable-stable.ensures.checked (None, c.resume.new.errors) c.in_default-2.is refl refl
 
 pub stops-smaller : goal.stops-smaller
@@ -79,7 +79,7 @@ stops-smaller g c =
     let about = subject g.StorageT.StorageIndex.index g.LexerTypesT.LexemeT.Lexeme.parts g.R.Recoverer.allows self in
     let there = c.stops.invariant.there in
     let far = rw c.in-Some.is at c.in_ok-stop.ensures.far in
-    stop_smaller about (g.B.Build.builds self.run.build.now) self.lexemes.now c.stable-stable.ensures.runs c.stops.stack c.stops.place there.0 there.1 c.far.new.stack c.in-Some.stop far
+    stop_smaller about (g.B.Build.builds self.run.build.now) self.lexemes.now c.stable-stable.ensures.runs c.stops.stack c.stops.place there.0 there.1 c.run_far.new.stack c.in-Some.stop far
     c.stops.errors.items c.resume.new.errors.items there.2 c.resume.new.stack c.in_ok-next.field-0 c.in_ok-next.ensures.recovered c.in-Some-2.next c.in-Some-2.is
     c.requires.shifts (rw c.in-Some-2.is at c.in_ok-next.ensures.there).within c.stops.invariant.on
 
@@ -93,9 +93,9 @@ stops-preserved g c =
     record {
       here = rw c.in-Some-2.is at c.in_ok-next.ensures.there;
       there =
-          stop_goes_on about builds self.lexemes.now c.stable-stable.ensures.runs c.stops.stack c.stops.place there.0 there.1 c.far.new.stack c.in-Some.stop far
+          stop_goes_on about builds self.lexemes.now c.stable-stable.ensures.runs c.stops.stack c.stops.place there.0 there.1 c.run_far.new.stack c.in-Some.stop far
           c.stops.errors.items c.resume.new.errors.items there.2 c.resume.new.stack c.in_ok-next.field-0 c.in_ok-next.ensures.recovered c.in-Some-2.next c.in-Some-2.is;
       on = λ _.
-          stop_feeds about builds self.lexemes.now c.stable-stable.ensures.runs c.stops.stack c.stops.place there.0 there.1 c.far.new.stack c.in-Some.stop far
+          stop_feeds about builds self.lexemes.now c.stable-stable.ensures.runs c.stops.stack c.stops.place there.0 there.1 c.run_far.new.stack c.in-Some.stop far
           c.stops.errors.items c.resume.new.errors.items there.2 c.resume.new.stack c.in_ok-next.field-0 c.in_ok-next.ensures.recovered c.in-Some-2.next c.in-Some-2.is;
     }

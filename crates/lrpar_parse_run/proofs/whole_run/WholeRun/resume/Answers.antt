@@ -7,8 +7,8 @@ use Rattle.lrpar_parse_repair.specs.Sequences.{PlainStep}
 use Rattle.lrpar_parse_run.proofs.WholeRunLemmas.{first_replays, first_sequence, no_sequence}
 use Rattle.lrpar_parse_run.proofs.whole_run.WholeRun.resume.Goals as goal
 
-pub recorded-requires-clause-stop : goal.recorded-requires-clause-stop
-recorded-requires-clause-stop g c =
+pub record_error-requires-clause-stop : goal.record_error-requires-clause-stop
+record_error-requires-clause-stop g c =
     let run_stack = c.requires.there.run_stack in
     let table = c.stable-stable.ensures.table in
     let stack = path_is_stack c.args.self.now.run.checked.now.table (rw table at c.tokens_len-tokens.ensures.end) (rw table at c.rules_len-rules.ensures.end) run_stack.symbols c.args.stack.now.states run_stack.path in

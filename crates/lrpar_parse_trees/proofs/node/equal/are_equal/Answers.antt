@@ -18,12 +18,12 @@ returns-then-not-is_like g c =
 pub equal_by_calls-requires : goal.equal_by_calls-requires
 equal_by_calls-requires g c =
     let like = children_even g.LexemeT.PartialEq.eq g.StorageT.PartialEq.eq c.in-Some-Some.node.now c.in-Some-Some.other.now (sym c.if-not-is_like.ensures.like) in
-    record { even = ap length c.children.ensures.children ∙ like ∙ sym (ap length c.children-in-Err.ensures.children) }
+    record { even = ap length c.children.ensures ∙ like ∙ sym (ap length c.children-in-Err.ensures) }
 
 pub returns-then-not-equal_by_calls : goal.returns-then-not-equal_by_calls
 returns-then-not-equal_by_calls g c =
     sym (nodes_eq_skip g.LexemeT.PartialEq.eq g.StorageT.PartialEq.eq false (later_nodes c.loop-node.left.items) (later_others c.loop-node.left.items)
-    c.in-Some-Some.ensures.cases.0 c.in-Some-Some.ensures'.cases.0 c.if-not-is_like.ensures.like c.children.ensures.children c.children-in-Err.ensures.children
+    c.in-Some-Some.ensures.cases.0 c.in-Some-Some.ensures'.cases.0 c.if-not-is_like.ensures.like c.children.ensures c.children-in-Err.ensures
     c.if-not-equal_by_calls.ensures)
     ∙ c.loop-node.invariant.same
 
@@ -34,7 +34,7 @@ loop-node-smaller-in-Ok g c =
     let left = c.loop-node.left.items in
     let after : Pair g.row.LexemeT.Denot g.row.StorageT.Denot = record { nodes = c.in-Some-Some.rest; others = c.in-Some-Some.other_rest } in
     weights_fall c.children-nodes.result.now (children node) rest (later_nodes left) (later_nodes c.push.new.self.items) _ _ _
-    (weights_entered node rest c.loop-node.nodes.now (later_nodes left) c.in-Some-Some.ensures.cases.0) c.children-nodes.ensures.children
+    (weights_entered node rest c.loop-node.nodes.now (later_nodes left) c.in-Some-Some.ensures.cases.0) c.children-nodes.ensures
     (ap later_nodes c.in-Ok.ensures.items ∙ later_nodes_push left after) (ap length c.in-Ok.ensures.items ∙ length_push left after)
 
 pub loop-node-preserved-in-Ok : goal.loop-node-preserved-in-Ok
@@ -48,8 +48,8 @@ loop-node-preserved-in-Ok g c =
     c.in-Some-Some.ensures.cases.0 c.in-Some-Some.ensures'.cases.0 c.if-not-is_like.ensures.like in
     let after : Pair g.row.LexemeT.Denot g.row.StorageT.Denot = record { nodes = c.in-Some-Some.rest; others = c.in-Some-Some.other_rest } in
     record {
-      same = rw (c.in-Ok.ensures.items, later_nodes_push, later_others_push, c.children-nodes.ensures.children, c.children-others.ensures.children) (sym entered ∙ c.loop-node.invariant.same);
-      even = ap length c.children-nodes.ensures.children ∙ children_even eq same node other (sym c.if-not-is_like.ensures.like) ∙ sym (ap length c.children-others.ensures.children);
+      same = rw (c.in-Ok.ensures.items, later_nodes_push, later_others_push, c.children-nodes.ensures, c.children-others.ensures) (sym entered ∙ c.loop-node.invariant.same);
+      even = ap length c.children-nodes.ensures ∙ children_even eq same node other (sym c.if-not-is_like.ensures.like) ∙ sym (ap length c.children-others.ensures);
       pairs = rw c.in-Ok.ensures.items (All-push IsEven c.loop-node.left.items after c.loop-node.invariant.pairs (rests_even c.loop-node.nodes.now c.loop-node.others.now c.in-Some-Some.rest.now c.in-Some-Some.other_rest.now c.in-Some-Some.ensures.cases.1 c.in-Some-Some.ensures'.cases.1 c.loop-node.invariant.even));
     }
 
@@ -64,7 +64,7 @@ loop-node-smaller-else-not-equal_by_calls g c =
 pub loop-node-preserved-else-not-equal_by_calls : goal.loop-node-preserved-else-not-equal_by_calls
 loop-node-preserved-else-not-equal_by_calls g c =
     let skipped = nodes_eq_skip g.LexemeT.PartialEq.eq g.StorageT.PartialEq.eq true (later_nodes c.loop-node.left.items) (later_others c.loop-node.left.items)
-    c.in-Some-Some.ensures.cases.0 c.in-Some-Some.ensures'.cases.0 c.if-not-is_like.ensures.like c.children.ensures.children c.children-in-Err.ensures.children
+    c.in-Some-Some.ensures.cases.0 c.in-Some-Some.ensures'.cases.0 c.if-not-is_like.ensures.like c.children.ensures c.children-in-Err.ensures
     c.if-not-equal_by_calls.ensures in
     record {
       same = rw c.in-Err.ensures.items (sym skipped ∙ c.loop-node.invariant.same);

@@ -3,7 +3,8 @@ use Rattle.std.proofs.Debugs.{displays_from}
 use Rattle.std.proofs.lemmas.List.{nil_from_length}
 use Rattle.std.specs.Fmt.{◌++?◌, comma_space, debug_items}
 use Rattle.lrpar_parse_trees.specs.Shown.{shown, shown_end, shown_lexeme, shown_rule}
-use Rattle.lrpar_parse_trees.proofs.FitsLemmas.{below_nonterm, entered_falls, turned_falls}
+use Rattle.lrpar_parse_trees.proofs.FitsLemmas.{entered_falls, turned_falls}
+use Rattle.lrpar_parse_trees.proofs.WalkLemmas.{children_nonterm}
 use Rattle.lrpar_parse_trees.proofs.ShownLemmas.{continues_last, continues_then, continues_two, left_end, left_last, left_nonterm, left_shown, left_term}
 use Rattle.lrpar_parse_trees.proofs.node.shown.write_nodes.Goals as goal
 
@@ -29,7 +30,7 @@ loop-node-preserved-in-Term g c =
 pub loop-node-smaller-in-Nonterm : goal.loop-node-smaller-in-Nonterm
 loop-node-smaller-in-Nonterm g c =
     entered_falls c.loop-node.left.items c.push.new.self.items c.in-Some.rest c.in-Some.node.now c.loop-node.nodes.now c.deref-nodes.result.now c.in-Some.ensures.cases.0
-    c.in-Ok.ensures.items (c.deref-nodes.ensures.value ∙ sym (below_nonterm c.in-Some.node.now c.in-Nonterm.ridx c.in-Nonterm.below c.in-Nonterm.is))
+    c.in-Ok.ensures.items (c.deref-nodes.ensures.value ∙ sym (children_nonterm c.in-Some.node.now c.in-Nonterm.ridx c.in-Nonterm.below c.in-Nonterm.is))
 
 pub loop-node-preserved-in-Nonterm : goal.loop-node-preserved-in-Nonterm
 loop-node-preserved-in-Nonterm g c =

@@ -2,7 +2,7 @@ use Rattle.std.proofs.Common.{arith}
 use Rattle.lrpar_table_rows.specs.Table.{gotos_at}
 use Rattle.lrpar_table_check.proofs.ChainEntryLemmas.{gotos_len, stored_goto}
 use Rattle.lrpar_table_check.proofs.LongestLemmas.{if_some_of, last_alone, of_more, some_of}
-use Rattle.lrpar_table_check.proofs.chains.Chains.longest_at.Goals as goal
+use Rattle.lrpar_table_check.proofs.chains.Chains.find_longest_at.Goals as goal
 
 pub returns-clause-longest : goal.returns-clause-longest
 returns-clause-longest g c =

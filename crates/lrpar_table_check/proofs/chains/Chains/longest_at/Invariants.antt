@@ -1,7 +1,7 @@
 use Rattle.lrpar_table_rows.specs.Table.{gotos_at}
 use Rattle.lrpar_table_check.specs.Counts.{AreCounts}
 use Rattle.lrpar_table_check.proofs.LongestLemmas.{IsLongestOf}
-use Rattle.lrpar_table_check.proofs.chains.Chains.longest_at.Given as goal
+use Rattle.lrpar_table_check.proofs.chains.Chains.find_longest_at.Given as goal
 
 -- the greatest number of reductions of the chains so far, and the rows that are counted
 abbrev pub invariant-loop-place : goal.invariant-loop-place

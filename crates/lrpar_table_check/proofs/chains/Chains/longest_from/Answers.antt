@@ -4,8 +4,8 @@ use Rattle.lrpar_table_rows.specs.PlainRows.{plain_goto}
 use Rattle.lrpar_table_rows.specs.Table.{actions_at}
 use Rattle.lrpar_table_check.proofs.CountLemmas.{IsRowUntil, chain_action, chain_begins, chain_lengths, chain_longest, chain_more, chain_same, no_reduction, rows_at, stored_reduction}
 use Rattle.lrpar_table_check.proofs.LengthLemmas.{counted_length, counted_long}
-use Rattle.lrpar_table_check.proofs.chains.Chains.longest_from.Goals as goal
-use Rattle.lrpar_table_check.proofs.chains.Chains.longest_from.Goals.{in-Reduce+in_ok-made+in-Some, in_default}
+use Rattle.lrpar_table_check.proofs.chains.Chains.find_longest_from.Goals as goal
+use Rattle.lrpar_table_check.proofs.chains.Chains.find_longest_from.Goals.{in-Reduce+in_ok-made+in-Some, in_default}
 
 pub loop-place-init : goal.loop-place-init
 loop-place-init g c =

@@ -3,7 +3,7 @@ use Rattle.std.specs.Option.{option_to_list, unwrap_or}
 use Rattle.lrpar_table_rows.specs.PlainRows.{plain_goto}
 use Rattle.lrpar_table_rows.specs.Table.{actions_at}
 use Rattle.lrpar_table_check.proofs.CountLemmas.{IsRowUntil}
-use Rattle.lrpar_table_check.proofs.chains.Chains.longest_from.Given as goal
+use Rattle.lrpar_table_check.proofs.chains.Chains.find_longest_from.Given as goal
 
 -- the row, and the greatest number in it, at the tokens of the entries so far
 abbrev pub invariant-loop-place : goal.invariant-loop-place

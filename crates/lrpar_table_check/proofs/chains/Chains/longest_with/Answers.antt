@@ -1,5 +1,5 @@
 use Rattle.lrpar_table_check.proofs.LongestLemmas.{last_goto}
-use Rattle.lrpar_table_check.proofs.chains.Chains.longest_with.Goals as goal
+use Rattle.lrpar_table_check.proofs.chains.Chains.find_longest_with.Goals as goal
 
 pub returns-clause-longest : goal.returns-clause-longest
 returns-clause-longest g c =

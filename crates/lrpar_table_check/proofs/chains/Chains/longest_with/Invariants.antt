@@ -2,7 +2,7 @@ use Rattle.std.proofs.Common.{length}
 use Rattle.std.specs.List.{All}
 use Rattle.lrpar_table_check.specs.Counts.{AreCounts, IsGoto}
 use Rattle.lrpar_table_check.proofs.LongestLemmas.{IsReached}
-use Rattle.lrpar_table_check.proofs.chains.Chains.longest_with.Given as goal
+use Rattle.lrpar_table_check.proofs.chains.Chains.find_longest_with.Given as goal
 
 -- the greatest number so far, and what is left to be counted first
 abbrev pub invariant-loop-rule : goal.invariant-loop-rule

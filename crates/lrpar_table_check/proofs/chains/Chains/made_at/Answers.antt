@@ -8,8 +8,8 @@ use Rattle.lrpar_table_rows.specs.PlainRows.{plain_goto}
 use Rattle.lrpar_table_stacks.proofs.StepLemmas.{action_by_top}
 use Rattle.lrpar_table_check.proofs.ChainEntryLemmas.{start_top}
 use Rattle.lrpar_table_check.proofs.CountLemmas.{counted_by_row, row_counted}
-use Rattle.lrpar_table_check.proofs.chains.Chains.made_at.Goals as goal
-use Rattle.lrpar_table_check.proofs.chains.Chains.made_at.Goals.{in-Some, in-None}
+use Rattle.lrpar_table_check.proofs.chains.Chains.count_made_at.Goals as goal
+use Rattle.lrpar_table_check.proofs.chains.Chains.count_made_at.Goals.{in-Some, in-None}
 
 pub returns-then-token-len : goal.returns-then-token-len
 returns-then-token-len g c =

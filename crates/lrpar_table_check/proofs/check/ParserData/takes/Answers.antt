@@ -4,7 +4,7 @@ use Rattle.lrpar_table_rows.specs.PlainRows.{plain_action}
 use Rattle.lrpar_table_check.proofs.ExpectedLemmas.{accept_expected, fail_unexpected, reduce_unexpected, shift_expected}
 use Rattle.lrpar_table_stacks.proofs.OverSettleLemmas.{settled_over, short_of_memory_over}
 use Rattle.lrpar_table_stacks.proofs.SettleLemmas.{on_err_always}
-use Rattle.lrpar_table_check.proofs.check.ParserData.takes.Goals as goal
+use Rattle.lrpar_table_check.proofs.check.ParserData.try_token.Goals as goal
 
 pub returns-in_err-settle_on-clause-short_of_memory : goal.returns-in_err-settle_on-clause-short_of_memory
 returns-in_err-settle_on-clause-short_of_memory g c =

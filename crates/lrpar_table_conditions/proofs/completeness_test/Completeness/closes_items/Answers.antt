@@ -8,8 +8,8 @@ use Rattle.lrpar_table_conditions.specs.Itemwise.{AreStartsOf, ClosesAmong, Have
 use Rattle.lrpar_table_conditions.proofs.ItemwiseLemmas.{closes_by_starts, starts_len}
 use Rattle.lrpar_table_conditions.proofs.completeness_test.Completeness.closes_items.Goals as goal
 
-pub take_starts-requires-clause-starts : goal.take_starts-requires-clause-starts
-take_starts-requires-clause-starts g c =
+pub clear_starts-requires-clause-starts : goal.clear_starts-requires-clause-starts
+clear_starts-requires-clause-starts g c =
     let index = g.StorageT.StorageIndex.index in
     let grm = c.args.self.now.grm.now in
     let old = c.args.sets.now.starts in
@@ -24,19 +24,19 @@ pub returns-clause-ready : goal.returns-clause-ready
 returns-clause-ready g c =
     let grm = c.args.self.now.grm.now in
     let old = c.closes_each-closed.new.sets.starts in
-    let new = c.take_starts.new.starts in
+    let new = c.clear_starts.new.starts in
     let room = c.closes_each-closed.ensures.room in
     let full : old.len ≡ length old.items = old.ok.0 in
-    let after : length new ≡ length old.items = starts_len grm new c.take_starts.ensures.room ∙ sym (starts_len grm old.items room.starts) in
+    let after : length new ≡ length old.items = starts_len grm new c.clear_starts.ensures.room ∙ sym (starts_len grm old.items room.starts) in
     let back = lent_back old.items new old.len (sym full) (after ∙ sym full) in
     record {
       room = record {
         after = room.after;
         front = room.front;
         begun = room.begun;
-        starts = subst (λ (sets : List TokenSet). HaveStarts grm (rows_of sets)) (sym back) c.take_starts.ensures.room;
+        starts = subst (λ (sets : List TokenSet). HaveStarts grm (rows_of sets)) (sym back) c.clear_starts.ensures.room;
       };
-      none = subst (λ (sets : List TokenSet). HoldNothing (rows_of sets)) (sym back) c.take_starts.ensures.none;
+      none = subst (λ (sets : List TokenSet). HoldNothing (rows_of sets)) (sym back) c.clear_starts.ensures.none;
     }
 
 pub returns-clause-test : goal.returns-clause-test

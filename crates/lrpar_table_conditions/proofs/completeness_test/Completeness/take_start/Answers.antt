@@ -1,6 +1,6 @@
 use Rattle.std.proofs.Common.{◌∙◌, ◌<◌, length, rules}
 use Rattle.lrpar_table_conditions.proofs.ItemwiseLemmas.{start_taken, start_wide, start_of_core, starts_room}
-use Rattle.lrpar_table_conditions.proofs.completeness_test.Completeness.take_start.Goals as goal
+use Rattle.lrpar_table_conditions.proofs.completeness_test.Completeness.clear_start.Goals as goal
 
 pub bounds-starts-prod : goal.bounds-starts-prod
 bounds-starts-prod g c =

@@ -2,7 +2,7 @@ use Rattle.std.proofs.Common.{arith}
 use Rattle.lrpar_table_first.specs.FirstRows.{rows_of}
 use Rattle.lrpar_table_conditions.proofs.CoreLemmas.{core_read}
 use Rattle.lrpar_table_conditions.proofs.ItemwiseLemmas.{fewer_left, none_left}
-use Rattle.lrpar_table_conditions.proofs.completeness_test.Completeness.take_starts.Goals as goal
+use Rattle.lrpar_table_conditions.proofs.completeness_test.Completeness.clear_starts.Goals as goal
 
 pub loop-pidx-init : goal.loop-pidx-init
 loop-pidx-init g c = (c.requires.room, λ q t h. (h, λ n d below. absurd (omega (arith, below))))

@@ -13,8 +13,8 @@ expand-requires-clause-kernel g c =
     subst (λ cores. IsKernel c.args.grm.now (map (core_set index) cores)) (sym c.deref.ensures.value)
     (kernel_read index c.args.grm.now c.args.self.now.states.items c.args.number c.index.result.now c.requires.number c.index.ensures c.requires.merging.kernels)
 
-pub place_all-requires-clause-kernels : goal.place_all-requires-clause-kernels
-place_all-requires-clause-kernels g c =
+pub merge_kernels-requires-clause-kernels : goal.merge_kernels-requires-clause-kernels
+merge_kernels-requires-clause-kernels g c =
     let index = g.StorageT.StorageIndex.index in
     let grm = c.args.grm.now in
     let successors = c.at-successors.result.now in
@@ -22,8 +22,8 @@ place_all-requires-clause-kernels g c =
     subst (λ rows. AreKernelsOrEmpty grm (kernel_rows index rows)) (sym c.deref-2.ensures.value)
     (next_kernels grm (map (core_set index) successors.items.items) Nonterminal (kernel_rows index successors.rules.items) all.cores all.next.rules)
 
-pub place_all-requires-2-clause-kernels : goal.place_all-requires-2-clause-kernels
-place_all-requires-2-clause-kernels g c =
+pub merge_kernels-requires-2-clause-kernels : goal.merge_kernels-requires-2-clause-kernels
+merge_kernels-requires-2-clause-kernels g c =
     let index = g.StorageT.StorageIndex.index in
     let grm = c.args.grm.now in
     let successors = c.at-successors.result.now in
@@ -31,8 +31,8 @@ place_all-requires-2-clause-kernels g c =
     subst (λ rows. AreKernelsOrEmpty grm (kernel_rows index rows)) (sym c.deref-3.ensures.value)
     (next_kernels grm (map (core_set index) successors.items.items) Terminal (kernel_rows index successors.tokens.items) all.cores all.next.tokens)
 
-pub place_all-requires-clause-merging : goal.place_all-requires-clause-merging
-place_all-requires-clause-merging g c =
+pub merge_kernels-requires-clause-merging : goal.merge_kernels-requires-clause-merging
+merge_kernels-requires-clause-merging g c =
     let index = g.StorageT.StorageIndex.index in
     let grm = c.args.grm.now in
     let before = c.args.self.now in
@@ -46,7 +46,7 @@ returns-then-number-len-clause-merging g c =
     let index = g.StorageT.StorageIndex.index in
     let limit = g.StorageT.StorageIndex.limit in
     let grm = c.args.grm.now in
-    let before = c.place_all-2.new.self in
+    let before = c.merge_kernels-2.new.self in
     let number = c.args.number in
     let are = c.in_ok-tokens.ensures.merging in
     let low : number < length before.states.items = omega (arith, c.if-number-len.true, c.len.ensures) in

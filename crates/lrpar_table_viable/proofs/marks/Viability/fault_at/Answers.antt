@@ -3,7 +3,7 @@ use Rattle.std.proofs.lemmas.Bool.{eq-eqb, eqb-true, false≢true}
 use Rattle.lrpar_table_viable.specs.Marks.{IsUnjustifiedAt}
 use Rattle.lrpar_table_viable.proofs.CoreLemmas.{no_core, some_core}
 use Rattle.lrpar_table_viable.proofs.MarkLemmas.{unjustified_at}
-use Rattle.lrpar_table_viable.proofs.marks.Viability.fault_at.Goals as goal
+use Rattle.lrpar_table_viable.proofs.marks.Viability.find_fault_at.Goals as goal
 
 pub returns-then-is_empty-clause-fault : goal.returns-then-is_empty-clause-fault
 returns-then-is_empty-clause-fault g c = (

@@ -2,7 +2,7 @@ use Rattle.std.proofs.Common.{◌≡◌, ◌<◌, ℕ, below_more, subst}
 use Rattle.lrpar_table_rows.specs.Table.{states_len}
 use Rattle.lrpar_table_viable.specs.Viable.{IsViableAt}
 use Rattle.lrpar_table_viable.proofs.FaultLemmas.{fault_first, fault_refutes}
-use Rattle.lrpar_table_viable.proofs.marks.Viability.first_fault.Goals as goal
+use Rattle.lrpar_table_viable.proofs.marks.Viability.find_first_fault.Goals as goal
 
 pub loop-s-preserved : goal.loop-s-preserved
 loop-s-preserved g c =

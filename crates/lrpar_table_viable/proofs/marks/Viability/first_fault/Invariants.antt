@@ -1,7 +1,7 @@
 use Rattle.std.proofs.Common.{◌≡◌, ◌<◌, ℕ, length}
 use Rattle.lrpar_grammar.specs.Grammar.{rules_len}
 use Rattle.lrpar_table_viable.specs.Viable.{IsViableAt}
-use Rattle.lrpar_table_viable.proofs.marks.Viability.first_fault.Given as goal
+use Rattle.lrpar_table_viable.proofs.marks.Viability.find_first_fault.Given as goal
 
 -- the states so far are viable
 abbrev pub invariant-loop-s : goal.invariant-loop-s

@@ -3,7 +3,7 @@ use Rattle.std.specs.List.{range_with_len}
 use Rattle.std.proofs.lemmas.List.{map-append}
 use Rattle.lrpar_grammar_places.proofs.ListLemmas.{range_more}
 use Rattle.lrpar_grammar.specs.Spelled.{numbers_of}
-use Rattle.lrpar_grammar.proofs.grammar.value.YaccGrammar.listed_prods.Goals as goal
+use Rattle.lrpar_grammar.proofs.grammar.value.YaccGrammar.number_prods.Goals as goal
 
 pub loop-number-preserved : goal.loop-number-preserved
 loop-number-preserved g c =

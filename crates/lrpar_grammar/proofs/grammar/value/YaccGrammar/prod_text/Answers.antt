@@ -2,7 +2,7 @@ use Rattle.std.proofs.Common.{◌++◌, ◌∷◌, ap, lit<, map, string_bytes, 
 use Rattle.std.specs.List.{All, flat_map}
 use Rattle.std.proofs.lemmas.List.{take_all}
 use Rattle.lrpar_grammar_places.proofs.ListLemmas.{All-map-at}
-use Rattle.lrpar_grammar_reader.specs.Grammar.{IsListedSymbol, end_token, rule_name, rule_of, rules_len}
+use Rattle.lrpar_grammar_reader.specs.Grammar.{IsDeclaredSymbol, end_token, rule_name, rule_of, rules_len}
 use Rattle.lrpar_grammar_reader.specs.Symbols.{symbol_of}
 use Rattle.lrpar_grammar.specs.ProdText.{symbol_text}
 use Rattle.lrpar_grammar.proofs.ProdTextLemmas.{text_more}
@@ -14,10 +14,10 @@ push_symbol-requires g c =
     let index = g.StorageT.StorageIndex.index in
     let items = c.listed_symbols-symbol-items.result.now in
     let item = c.symbol-item.result in
-    let all : All (IsListedSymbol (rules_len grm) (end_token grm)) (map (symbol_of index) items) =
-    subst (All (IsListedSymbol (rules_len grm) (end_token grm))) (sym c.listed_symbols-symbol-items.ensures.symbols) c.listed_symbols-symbol-items.ensures.listed in
-    subst (λ s. IsListedSymbol (rules_len grm) (end_token grm) (symbol_of index s)) (sym c.symbol-item.is)
-    (All-map-at (IsListedSymbol (rules_len grm) (end_token grm)) (symbol_of index) items all c.loop-symbol.symbol-index item c.loop-symbol-test.true)
+    let all : All (IsDeclaredSymbol (rules_len grm) (end_token grm)) (map (symbol_of index) items) =
+    subst (All (IsDeclaredSymbol (rules_len grm) (end_token grm))) (sym c.listed_symbols-symbol-items.ensures.symbols) c.listed_symbols-symbol-items.ensures.listed in
+    subst (λ s. IsDeclaredSymbol (rules_len grm) (end_token grm) (symbol_of index s)) (sym c.symbol-item.is)
+    (All-map-at (IsDeclaredSymbol (rules_len grm) (end_token grm)) (symbol_of index) items all c.loop-symbol.symbol-index item c.loop-symbol-test.true)
 
 pub loop-symbol-preserved : goal.loop-symbol-preserved
 loop-symbol-preserved g c =

@@ -1,0 +1,63 @@
+//! A formatter of settings: one a line, with one space at each side of `=`; or the errors of the text, if it has any.
+use crate::language::{Failed, Language, language_of, push_errors};
+use lrpar::{Lexeme, Lexer, RTParserBuilder};
+use lrpar_lexer::RuleLexer;
+use lrpar_report::{Look, Reporter};
+use std::alloc::Global;
+
+const GRAMMAR: &str =
+    "%% File: | File Setting; Setting: 'NAME' '=' Value ';'; Value: 'NUMBER' | 'TEXT';";
+
+const LEXER: &str = r#"
+    [a-z_]+ 'NAME'
+    = '='
+    ; ';'
+    [0-9]+ 'NUMBER'
+    "[^"]*" 'TEXT'
+    [ \t\r\n]+ ;"#;
+
+/// The settings of the text, one a line; or its errors.
+pub(crate) fn run(alloc: Global, text: &str) -> Result<String, Failed> {
+    let settings = language_of(alloc, GRAMMAR, LEXER)?;
+    let mut out = String::new(alloc);
+    push_formatted(&mut out, alloc, &settings, text)?;
+    Ok(out)
+}
+
+// Adds the settings of the text, or its errors.
+fn push_formatted(
+    out: &mut String,
+    alloc: Global,
+    settings: &Language,
+    text: &str,
+) -> Result<(), Failed> {
+    let lexer = RuleLexer::new(alloc, &settings.rules, text)?;
+    let errors = RTParserBuilder::new(&settings.data).parse_noaction(alloc, &lexer)?;
+    if errors.is_empty() {
+        push_settings(out, alloc, &lexer, text)
+    } else {
+        let reporter = Reporter::new(alloc, text, "input", Look::Plain)?;
+        Ok(push_errors(out, alloc, settings, &reporter, text, &errors)?)
+    }
+}
+
+// Adds the settings of a text that has no error.
+fn push_settings(
+    out: &mut String,
+    alloc: Global,
+    lexer: &RuleLexer<'_, '_>,
+    text: &str,
+) -> Result<(), Failed> {
+    for lexeme in lexer.iter(alloc)? {
+        let Ok(lexeme) = lexeme else {
+            continue;
+        };
+        let span = lexeme.span();
+        match text.get(span.start()..span.end()).unwrap_or("") {
+            "=" => out.push_str(" = ")?,
+            ";" => out.push_str(";\n")?,
+            word => out.push_str(word)?,
+        }
+    }
+    Ok(())
+}

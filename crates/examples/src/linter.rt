@@ -1,0 +1,122 @@
+//! A linter of JSON: reports of the errors of a text, with repairs, and of keys that are twice in an object; and how deep the text nests.
+use crate::language::{Failed, Language, language_of, push_errors};
+use lrpar::repair::CpctPlus;
+use lrpar::span::TextRange;
+use lrpar::{Lexeme, Lexer, RTParserBuilder};
+use lrpar_lexer::RuleLexer;
+use lrpar_report::{Look, Report, Reporter};
+use std::alloc::{AllocError, Global};
+use std::collections::BTreeMap;
+
+const GRAMMAR: &str = "%% Value: Object | Array | 'STRING' | 'NUMBER' | 'WORD';
+    Object: '{' '}' | '{' Members '}';
+    Members: Member | Members ',' Member;
+    Member: 'STRING' ':' Value;
+    Array: '[' ']' | '[' Values ']';
+    Values: Value | Values ',' Value;";
+
+const LEXER: &str = r#"
+    "([^"\\]|\\.)*" 'STRING'
+    -?[0-9]+(\.[0-9]+)?([eE][-+]?[0-9]+)? 'NUMBER'
+    true|false|null 'WORD'
+    \{ '{'
+    \} '}'
+    \[ '['
+    \] ']'
+    , ','
+    : ':'
+    [ \t\r\n]+ ;"#;
+
+/// The reports about the text, on its errors and on what its lexemes show.
+pub(crate) fn run(alloc: Global, text: &str) -> Result<String, Failed> {
+    let json = language_of(alloc, GRAMMAR, LEXER)?;
+    let mut out = String::new(alloc);
+    push_reports(&mut out, alloc, &json, text)?;
+    Ok(out)
+}
+
+// Adds the reports about the text.
+fn push_reports(
+    out: &mut String,
+    alloc: Global,
+    json: &Language,
+    text: &str,
+) -> Result<(), Failed> {
+    let lexer = RuleLexer::new(alloc, &json.rules, text)?;
+    let parser = RTParserBuilder::new(&json.data).recoverer(CpctPlus::new(10_000));
+    let errors = parser.parse_noaction(alloc, &lexer)?;
+    let reporter = Reporter::new(alloc, text, "input", Look::Plain)?;
+    push_errors(out, alloc, json, &reporter, text, &errors)?;
+    push_lints(out, alloc, &lexer, &reporter, text)?;
+    Ok(())
+}
+
+// Adds a warning for each key that its object already has, and a line for how deep the lexemes nest.
+fn push_lints<'a>(
+    out: &mut String,
+    alloc: Global,
+    lexer: &RuleLexer<'_, 'a>,
+    reporter: &Reporter<'_>,
+    text: &'a str,
+) -> Result<(), AllocError> {
+    // The keys so far of each object and array that is open, with their places.
+    let mut open = Vec::new(alloc);
+    let mut deepest = 0usize;
+    let mut last = TextRange::new(0, 0);
+    for lexeme in lexer.iter(alloc)? {
+        let Ok(lexeme) = lexeme else {
+            continue;
+        };
+        let span = lexeme.span();
+        match text.get(span.start()..span.end()).unwrap_or("") {
+            "{" | "[" => open.push(BTreeMap::new(alloc))?,
+            "}" | "]" => {
+                let _ = open.pop();
+            }
+            ":" => {
+                let key = text.get(last.start()..last.end()).unwrap_or("");
+                push_key(out, alloc, reporter, &mut open, key, last)?;
+            }
+            _ => {}
+        }
+        deepest = deepest.max(open.len());
+        last = TextRange::from(span);
+    }
+    writeln!(out, "depth {deepest}")?;
+    Ok(())
+}
+
+// Keeps a key in the innermost object. Adds a warning if the object already has it.
+fn push_key<'a>(
+    out: &mut String,
+    alloc: Global,
+    reporter: &Reporter<'_>,
+    open: &mut Vec<BTreeMap<&'a str, TextRange>>,
+    key: &'a str,
+    range: TextRange,
+) -> Result<(), AllocError> {
+    let Some(mut keys) = open.pop() else {
+        return Ok(());
+    };
+    if let Some(first) = keys.insert(key, range)? {
+        push_repeated(out, alloc, reporter, key, range, first)?;
+    }
+    open.push(keys)?;
+    Ok(())
+}
+
+// Adds the warning of a key that its object already has, at another place.
+fn push_repeated(
+    out: &mut String,
+    alloc: Global,
+    reporter: &Reporter<'_>,
+    key: &str,
+    range: TextRange,
+    first: TextRange,
+) -> Result<(), AllocError> {
+    let message = format!(in alloc; "this object already has the key {key}")?;
+    let report = Report::warning(alloc, message.as_str())?
+        .label(range.span(), "the second one")?
+        .label(first.span(), "the first one")?;
+    reporter.push(out, alloc, &report)
+}

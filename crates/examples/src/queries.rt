@@ -1,0 +1,65 @@
+//! A linter of queries: the errors of a file, with repairs, and what may be wrong with its statements.
+mod language;
+mod lints;
+mod tree;
+mod values;
+
+use crate::language::{Failed, Language, language_of, push_errors};
+use crate::queries::language::{GRAMMAR, LEXER};
+use crate::queries::lints::lints;
+use crate::queries::tree::Query;
+use crate::queries::values::{EXPR_PRODS, QUERY_PRODS, Queries, Value};
+use lrpar::repair::CpctPlus;
+use lrpar::{LexParseError, RTParserBuilder};
+use lrpar_lexer::{RuleLexer, TokenTypes};
+use lrpar_report::{Look, Reporter};
+use std::alloc::{AllocError, Global};
+
+/// The syntax tree of a file, if it has one, and its errors.
+type Parsed<'text> = (Option<Value<'text>>, Vec<LexParseError<u32, TokenTypes>>);
+
+/// The reports about the file.
+pub(crate) fn run(alloc: Global, text: &str) -> Result<String, Failed> {
+    let queries = language_of(alloc, GRAMMAR, LEXER)?;
+    linted(alloc, &queries, text)
+}
+
+// The reports about a file: its errors, and what may be wrong with the statements of the file as repaired.
+fn linted(alloc: Global, queries: &Language, text: &str) -> Result<String, Failed> {
+    let (file, errors) = parse(alloc, queries, text)?;
+    let reporter = Reporter::new(alloc, text, "input", Look::Plain)?;
+    let mut out = String::new(alloc);
+    push_errors(&mut out, alloc, queries, &reporter, text, &errors)?;
+    if let Some(Value::File(queries)) = &file {
+        push_lints(&mut out, alloc, &reporter, queries)?;
+    }
+    Ok(out)
+}
+
+// The syntax tree of a file as repaired, if it has one, and its errors.
+fn parse<'text>(
+    alloc: Global,
+    queries: &Language,
+    text: &'text str,
+) -> Result<Parsed<'text>, Failed> {
+    let grm = queries.data.grm();
+    let spelled = grm.prods_spelled_in_parts(alloc, &[&QUERY_PRODS, &EXPR_PRODS])?;
+    let unmatched = grm.token_idx("UNMATCHED").ok_or(Failed::Symbols)?;
+    let lexer = RuleLexer::new(alloc, &queries.rules, text)?.with_unmatched(unmatched);
+    let parser = RTParserBuilder::new(&queries.data).recoverer(CpctPlus::new(10_000));
+    let values = Queries { spelled: &spelled };
+    parser.parse_values(alloc, &lexer, &values)
+}
+
+// Adds a warning for each thing that may be wrong with the statements.
+fn push_lints(
+    out: &mut String,
+    alloc: Global,
+    reporter: &Reporter<'_>,
+    file: &[Query<'_>],
+) -> Result<(), AllocError> {
+    for warning in &lints(alloc, file)? {
+        reporter.push(out, alloc, warning)?;
+    }
+    Ok(())
+}

@@ -1,9 +1,0 @@
-use Rattle.std.proofs.Common.{◌<◌, ◌+◌, ℕ, get_or}
-use Rattle.lrpar_grammar_reader.specs.Parts.{IsListedProd, prod_of}
-use Rattle.lrpar_grammar_reader.proofs.parts.GrammarParts.has_listed_symbols.Given as goal
-
--- the productions so far are listed
-abbrev pub invariant-loop-prod : goal.invariant-loop-prod
-invariant-loop-prod g l =
-    (k : ℕ) (d : _) → k < l.prod-index
-    → IsListedProd (l.rules + 1) l.tokens (prod_of g.StorageT.StorageIndex.index (get_or l.self.prods.items k d))

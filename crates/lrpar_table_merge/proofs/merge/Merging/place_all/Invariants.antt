@@ -1,6 +1,0 @@
-use Rattle.lrpar_table_merge.specs.Merging.{AreMerging}
-use Rattle.lrpar_table_merge.proofs.merge.Merging.place_all.Given as goal
-
--- each state has a kernel
-abbrev pub invariant-loop-kernel : goal.invariant-loop-kernel
-invariant-loop-kernel g l = AreMerging g.StorageT.StorageIndex.index l.grm l.max_states g.StorageT.StorageIndex.limit l.self
