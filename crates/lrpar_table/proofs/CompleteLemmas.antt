@@ -1,13 +1,12 @@
 -- A canonical table is complete if and only if no item set has two different actions before conflict resolution at one token. The
 -- item sets alone give C1 to C4. C5 says that at a complete item the table has the item's action. So if each set has one action
 -- at each token, C5 holds; and if C5 holds, each action of a set is that of the table.
-use Rattle.std.proofs.Common.{◌≡◌, ◌≢◌, ◌<◌, ◌≤◌, ◌+◌, ◌∙◌, refl, sym, ap, subst, arith, ℕ, List, [], ◌∷◌, Some, length, slice_get}
+use Rattle.std.proofs.Common.{◌≡◌, ◌≢◌, ◌<◌, ◌+◌, ◌∙◌, refl, sym, ap, subst, arith, ℕ, List, [], ◌∷◌, Some, length, slice_get}
 use Rattle.lrpar_grammar.specs.Grammar.{Grammar, GrammarSymbol, IsWellFormed, Nonterminal, Terminal, end_token, prod_len, start_prod, symbols_of, tokens_len}
 use Rattle.lrpar_table_rows.proofs.GraphLemmas.{state_in_range}
 use Rattle.lrpar_table_rows.specs.Graph.{Graph, HasItem, ItemOf, graph_len, item_at}
 use Rattle.lrpar_table_rows.specs.Safe.{IsItem}
 use Rattle.lrpar_table_rows.specs.Table.{Accepts, Fails, ReduceBy, ShiftTo, Table, TableAction, action_of, states_len}
-use Rattle.lrpar_table_build.specs.Built.{IsBuilt}
 use Rattle.lrpar_table_build.specs.BuilderLaws.{IsCanonicalTable, HaveOneAction, HasAction}
 use Rattle.lrpar_table_items.specs.Canonical.{AreSame, IsCanonical, LeadsTo, HasAfterDot, HasReduce, sets_of}
 use Rattle.lrpar_table_items.specs.ItemSets.{Added, Adds, IsReachedBy, Own}

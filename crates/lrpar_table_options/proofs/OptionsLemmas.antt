@@ -1,6 +1,6 @@
 -- A table that is built by options is viable. Without precedences it is that of the grammar alone, so it is complete if and only if it
 -- has no conflicts.
-use Rattle.std.proofs.Common.{◌≡◌, ◌≤◌, refl, subst, sym}
+use Rattle.std.proofs.Common.{◌≡◌, ◌≤◌, refl, subst, sym, ℕ}
 use Rattle.lrpar_grammar.specs.Grammar.{Grammar, IsWellFormed}
 use Rattle.lrpar_table_precedence.specs.Precedence.{PrecedenceLists, no_precedences}
 use Rattle.lrpar_table_rows.specs.Graph.{Graph, graph_len}
@@ -64,19 +64,21 @@ module _ (g : Grammar) (graph : Graph) (table : Table) where
           (minimised_alone options.minimiser options.precedences checked.well_formed none by);
     }
 
-    -- what is checked of what was built
-    pub parser_data_by : (d : Checked) → d ≡ parts → IsChecked d → IsParserDataBy options g d
-    parser_data_by d made checked =
-        subst (IsParserDataBy options g) (sym made) (data_of_parts (subst IsChecked made checked))
+    module _ (bound : ℕ) (cap_is : bound ≡ options.cap) where
+      -- what is checked of what was built
+      pub parser_data_by : (d : Checked) → d ≡ record { grammar = g; graph = graph; table = table; cap = bound } → IsChecked d
+          → IsParserDataBy options g d
+      parser_data_by d made checked =
+          let same : d ≡ parts = subst (λ (n : ℕ). d ≡ record { grammar = g; graph = graph; table = table; cap = n }) cap_is made in
+          subst (IsParserDataBy options g) (sym same) (data_of_parts (subst IsChecked same checked))
 
-    -- and what is refused of it
-    pub refused_by : IsWellFormed g → (refused : Unchecked) → GivesBack g graph table refused → IsChainFault g table options.cap refused.fault
-        → IsRefusedBy options g refused
-    refused_by well refused back fault =
-        let same_graph : refused.graph ≡ graph = back.1 in
-        let same_table : refused.table ≡ table = back.2 in
-        record {
-          grammar = back.0;
-          built = rw (same_graph, same_table) (table_by well);
-          fault = rw same_table fault;
-        }
+      -- and what is refused of it
+      pub refused_by : IsWellFormed g → (refused : Unchecked) → GivesBack g graph table refused → IsChainFault g table bound refused.fault
+          → IsRefusedBy options g refused
+      refused_by well refused back fault =
+          let of_options = subst (λ (n : ℕ). IsChainFault g table n refused.fault) cap_is fault in
+          record {
+            grammar = back.0;
+            built = rw (back.1, back.2) (table_by well);
+            fault = rw back.2 of_options;
+          }
