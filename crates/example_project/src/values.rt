@@ -64,11 +64,11 @@ impl<'a, 'rules, 'text> Values<Token<u32>, RuleLexer<'rules, 'text>> for Setting
                 let _equals = args.lexeme();
                 named_number(args.lexer(), name, args.value())
             }
-            Some(3) => Ok(Value::Number(digits(args)?)),
+            Some(3) => Ok(Value::Number(take_digits(args)?)),
             Some(4) => {
                 let left = args.value();
                 let _plus = args.lexeme();
-                sum(left, digits(args)?, args.span().start())
+                sum(left, take_digits(args)?, args.span().start())
             }
             _ => Err(Failed::Symbols),
         }
@@ -109,7 +109,7 @@ fn sum<'text>(left: Option<Value<'text>>, right: u64, at: usize) -> Result<Value
 }
 
 // The number of the next lexeme; 0 if a repair inserted it.
-fn digits(args: &mut Given<'_, '_, '_>) -> Result<u64, Failed> {
+fn take_digits(args: &mut Given<'_, '_, '_>) -> Result<u64, Failed> {
     let Some(lexeme) = args.lexeme() else {
         return Err(Failed::Symbols);
     };

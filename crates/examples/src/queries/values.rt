@@ -89,31 +89,31 @@ impl<'a, 'rules, 'text> Values<Token<u32>, RuleLexer<'rules, 'text>> for Queries
         args: &mut Given<'_, 'rules, 'text>,
     ) -> Result<Value<'text>, Failed> {
         match self.spelled.of_number(production) {
-            Some((0, place)) => query(alloc, place, args),
-            Some((_, place)) => expr(alloc, place, args),
+            Some((0, place)) => make_query(alloc, place, args),
+            Some((_, place)) => make_expr(alloc, place, args),
             None => Err(Failed::Symbols),
         }
     }
 }
 
 // The value of a production of files, queries, stages and lists.
-fn query<'text>(alloc: Global, place: usize, args: &mut Given<'_, '_, 'text>) -> Made<'text> {
+fn make_query<'text>(alloc: Global, place: usize, args: &mut Given<'_, '_, 'text>) -> Made<'text> {
     match place {
         0 => Ok(Value::File(Vec::new(alloc))),
         1 => more_queries(args.value(), args.value()),
         2 => {
-            let (_let, name, _equals) = (args.lexeme(), named(args)?, args.lexeme());
+            let (_let, name, _equals) = (args.lexeme(), take_name(args)?, args.lexeme());
             named_query(name, args.value())
         }
         4 => {
             let _from = args.lexeme();
-            let (name, from, stages) = (None, named(args)?, Vec::new(alloc));
+            let (name, from, stages) = (None, take_name(args)?, Vec::new(alloc));
             Ok(Value::Query(Query { name, from, stages }))
         }
         5 => more_stages(args.value(), args.value()),
         8 => {
             let _take = args.lexeme();
-            Ok(Value::Stage(Stage::Take(named(args)?)))
+            Ok(Value::Stage(Stage::Take(take_name(args)?)))
         }
         9 => more_exprs(Some(Value::Exprs(Vec::new(alloc))), args.value()),
         10 => {
@@ -171,15 +171,15 @@ fn more_exprs<'text>(exprs: Part<'text>, expr: Part<'text>) -> Made<'text> {
 }
 
 // The value of a production of expressions.
-fn expr<'text>(alloc: Global, place: usize, args: &mut Given<'_, '_, 'text>) -> Made<'text> {
+fn make_expr<'text>(alloc: Global, place: usize, args: &mut Given<'_, '_, 'text>) -> Made<'text> {
     match place {
-        0..=7 => binary(alloc, OPERATORS[place], args),
-        8 => Ok(Value::Expr(Expr::Atom(Atom::Column, named(args)?.text))),
-        9 => Ok(Value::Expr(Expr::Atom(Atom::Number, named(args)?.text))),
-        10 => Ok(Value::Expr(Expr::Atom(Atom::Text, named(args)?.text))),
+        0..=7 => make_binary(alloc, OPERATORS[place], args),
+        8 => Ok(Value::Expr(Expr::Atom(Atom::Column, take_name(args)?.text))),
+        9 => Ok(Value::Expr(Expr::Atom(Atom::Number, take_name(args)?.text))),
+        10 => Ok(Value::Expr(Expr::Atom(Atom::Text, take_name(args)?.text))),
         11 => Ok(Value::Expr(Expr::Null)),
         12 => {
-            let name = named(args)?;
+            let name = take_name(args)?;
             let _bracket = args.lexeme();
             call(name, args.value())
         }
@@ -191,7 +191,11 @@ fn expr<'text>(alloc: Global, place: usize, args: &mut Given<'_, '_, 'text>) -> 
     }
 }
 
-fn binary<'text>(alloc: Global, sign: Operator, args: &mut Given<'_, '_, 'text>) -> Made<'text> {
+fn make_binary<'text>(
+    alloc: Global,
+    sign: Operator,
+    args: &mut Given<'_, '_, 'text>,
+) -> Made<'text> {
     let left = operand(alloc, args.value())?;
     let _operator = args.lexeme();
     let right = operand(alloc, args.value())?;
@@ -213,7 +217,7 @@ fn call<'text>(name: Name<'text>, exprs: Part<'text>) -> Made<'text> {
 }
 
 // The next lexeme, as a part of the text.
-fn named<'text>(args: &mut Given<'_, '_, 'text>) -> Result<Name<'text>, Failed> {
+fn take_name<'text>(args: &mut Given<'_, '_, 'text>) -> Result<Name<'text>, Failed> {
     let lexeme = args.lexeme().ok_or(Failed::Symbols)?;
     Ok(Name {
         text: args.lexer().text(&lexeme),
