@@ -3,17 +3,17 @@ use Rattle.std.proofs.Common.{◌≡◌, ◌<◌, ◌∙◌, sym, ap, subst, ari
 use Rattle.std.specs.List.{All, AllByRecursion}
 use Rattle.std.proofs.lemmas.Bool.{cases_lt}
 use Rattle.lrpar_grammar_places.proofs.ListLemmas.{all_both}
-use Rattle.lrpar_grammar.specs.Grammar.{Grammar, GrammarSymbol, IsListedSymbol, IsWellFormed, Nonterminal, Terminal, end_token, prods_len, rules_len, start_prod, symbols_of, tokens_len}
+use Rattle.lrpar_grammar.specs.Grammar.{Grammar, GrammarSymbol, IsDeclaredSymbol, IsWellFormed, Nonterminal, Terminal, end_token, prods_len, rules_len, start_prod, symbols_of, tokens_len}
 use Rattle.lrpar_grammar.specs.Tree.{Forest, Tree, Branch, Cons, Leaf, Nil, forest_leaves, leaves}
 use Rattle.lrpar_table_sentences.specs.Texts.{AreTreesOf, IsTreeOf}
 use Rattle.lrpar_conflict_examples.specs.Fits.{AreTokensOf, IsSymbolOf}
 
 -- a listed symbol is one of the grammar
-listed : (g : Grammar) (s : GrammarSymbol) → IsListedSymbol (rules_len g) (end_token g) s → IsSymbolOf g s
+listed : (g : Grammar) (s : GrammarSymbol) → IsDeclaredSymbol (rules_len g) (end_token g) s → IsSymbolOf g s
 listed g (Nonterminal r) is = is.1
 listed g (Terminal t) is = omega (arith, is)
 
-all_listed : (g : Grammar) (symbols : List GrammarSymbol) → All (IsListedSymbol (rules_len g) (end_token g)) symbols → AllByRecursion (IsSymbolOf g) symbols
+all_listed : (g : Grammar) (symbols : List GrammarSymbol) → All (IsDeclaredSymbol (rules_len g) (end_token g)) symbols → AllByRecursion (IsSymbolOf g) symbols
 all_listed g [] all = tt
 all_listed g (s ∷ symbols) all = (listed g s (all 0 s (omega arith)), all_listed g symbols (λ k d h. all (suc k) d (omega (arith, h))))
 

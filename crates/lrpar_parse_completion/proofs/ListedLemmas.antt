@@ -3,7 +3,7 @@
 use Rattle.std.proofs.Common.{◌<◌, sym, subst, ℕ, List, [], ◌∷◌, All, drop, get_or}
 use Rattle.std.proofs.lemmas.List.Elements.{All-append, All-cons, All-drop, All-from_get_or, All-head, All-nil, All-tail}
 use Rattle.std.proofs.lemmas.Option.{slice_get-get_or}
-use Rattle.lrpar_grammar.specs.Grammar.{Grammar, GrammarSymbol, IsListedSymbol, IsWellFormed, Nonterminal, Terminal, end_token, rule_of, rules_len, symbols_of}
+use Rattle.lrpar_grammar.specs.Grammar.{Grammar, GrammarSymbol, IsDeclaredSymbol, IsWellFormed, Nonterminal, Terminal, end_token, rule_of, rules_len, symbols_of}
 use Rattle.lrpar_grammar.specs.Tree.{Tree, Forest, Leaf, Branch, Nil, Cons, leaves, forest_leaves}
 use Rattle.lrpar_table_rows.specs.Table.{Table}
 use Rattle.lrpar_table_build.proofs.ReachedLemmas.{symbol_listed}
@@ -12,7 +12,7 @@ use Rattle.lrpar_parse_completion.specs.Completing.{IsCompletion, IsTail, AtStar
 
 module _ (g : Grammar) (well : IsWellFormed g) where
   abbrev IsListed : GrammarSymbol → Type 0
-  IsListed s = IsListedSymbol (rules_len g) (end_token g) s
+  IsListed s = IsDeclaredSymbol (rules_len g) (end_token g) s
 
   abbrev IsBelowEnd : ℕ → Type 0
   IsBelowEnd t = t < end_token g

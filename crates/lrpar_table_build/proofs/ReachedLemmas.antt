@@ -4,7 +4,7 @@ use Rattle.std.proofs.Common.{◌≡◌, ◌≢◌, ◌<◌, ◌+◌, ◌⊎◌,
 use Rattle.std.specs.Option.{option_map_or}
 use Rattle.std.proofs.lemmas.Bool.{cases_lt}
 use Rattle.std.proofs.lemmas.Option.{get_or_from_slice_get, slice_get_cases, slice_get_within}
-use Rattle.lrpar_grammar.specs.Grammar.{Grammar, GrammarSymbol, IsListedSymbol, IsWellFormed, Nonterminal, Terminal, end_token, prods_len, rule_of, rules_len, start_prod, symbols_of, tokens_len}
+use Rattle.lrpar_grammar.specs.Grammar.{Grammar, GrammarSymbol, IsDeclaredSymbol, IsWellFormed, Nonterminal, Terminal, end_token, prods_len, rule_of, rules_len, start_prod, symbols_of, tokens_len}
 use Rattle.lrpar_table_rows.specs.Graph.{ItemOf, item_at}
 use Rattle.lrpar_table_rows.specs.Safe.{IsItem}
 use Rattle.lrpar_table_first.specs.First.{IsFirst, Empty, Rule, Token}
@@ -65,10 +65,10 @@ module _ (g : Grammar) (well : IsWellFormed g) where
   start_known = known_by_symbol (start_prod g) 0 (Nonterminal g.start) (ap (λ (w : List GrammarSymbol). slice_get w 0) well.last_symbols)
 
   -- a symbol of a production is a listed rule or a token other than the end token
-  pub symbol_listed : (p k : ℕ) (s : GrammarSymbol) → slice_get (symbols_of g p) k ≡ Some s → IsListedSymbol (rules_len g) (end_token g) s
+  pub symbol_listed : (p k : ℕ) (s : GrammarSymbol) → slice_get (symbols_of g p) k ≡ Some s → IsDeclaredSymbol (rules_len g) (end_token g) s
   symbol_listed p k s at =
       let known = known_by_symbol p k s at in
-      let P = IsListedSymbol (rules_len g) (end_token g) in
+      let P = IsDeclaredSymbol (rules_len g) (end_token g) in
       let within = slice_get_within (symbols_of g p) k s at in
       elim (cases_lt p (start_prod g)) as (λ _. P s) [
         | inl listed ↦ subst P (get_or_from_slice_get (symbols_of g p) k s s at) (well.symbols p listed k s within)

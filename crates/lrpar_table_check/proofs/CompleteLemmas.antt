@@ -19,7 +19,7 @@ use Rattle.std.proofs.lemmas.Bool.{cases_lt}
 use Rattle.std.proofs.lemmas.List.{append-nil, append_assoc}
 use Rattle.std.proofs.lemmas.List.Elements.{All-cons, All-drop, All-head, All-nil}
 use Rattle.std.proofs.lemmas.Option.{slice_get_within}
-use Rattle.lrpar_grammar.specs.Grammar.{Grammar, GrammarSymbol, IsListedSymbol, IsWellFormed, Nonterminal, Terminal, end_token, prod_len, prods_len, rule_of, rules_len, start_prod, symbols_of}
+use Rattle.lrpar_grammar.specs.Grammar.{Grammar, GrammarSymbol, IsDeclaredSymbol, IsWellFormed, Nonterminal, Terminal, end_token, prod_len, prods_len, rule_of, rules_len, start_prod, symbols_of}
 use Rattle.lrpar_grammar.specs.Tree.{Tree, Forest, Leaf, Branch, Nil, Cons, leaves, forest_leaves, productions, forest_productions, Fits, ForestFits}
 use Rattle.lrpar_table_first.specs.First.{IsFirst, Empty}
 use Rattle.lrpar_table_rows.specs.Graph.{Graph, HasItem}
@@ -37,10 +37,10 @@ use Rattle.lrpar_table_stacks.proofs.RunLemmas.{token_at_end}
 use Rattle.lrpar_table_stacks.proofs.StepLemmas.{action_by_top, goto_by_top}
 
 -- the symbols of each production are listed ones
-listed_symbols : (g : Grammar) → IsWellFormed g → (p : ℕ) → p < prods_len g → All (IsListedSymbol (rules_len g) (end_token g)) (symbols_of g p)
+listed_symbols : (g : Grammar) → IsWellFormed g → (p : ℕ) → p < prods_len g → All (IsDeclaredSymbol (rules_len g) (end_token g)) (symbols_of g p)
 listed_symbols g formed p known =
-    let P : GrammarSymbol → Type 0 = IsListedSymbol (rules_len g) (end_token g) in
-    elim (cases_lt p (start_prod g)) as (λ _. All (IsListedSymbol (rules_len g) (end_token g)) (symbols_of g p)) [
+    let P : GrammarSymbol → Type 0 = IsDeclaredSymbol (rules_len g) (end_token g) in
+    elim (cases_lt p (start_prod g)) as (λ _. All (IsDeclaredSymbol (rules_len g) (end_token g)) (symbols_of g p)) [
       | inl listed ↦ formed.symbols p listed
       | inr last ↦
           let is : start_prod g ≡ p = omega (arith, known, last) in
@@ -51,7 +51,7 @@ listed_symbols g formed p known =
 -- so a rule after a dot isn't the added one
 rule_listed : (g : Grammar) → IsWellFormed g → (p k r : ℕ) (w : List GrammarSymbol) → p < prods_len g → drop k (symbols_of g p) ≡ Nonterminal r ∷ w → 0 < r
 rule_listed g formed p k r w known further =
-    let P : GrammarSymbol → Type 0 = IsListedSymbol (rules_len g) (end_token g) in
+    let P : GrammarSymbol → Type 0 = IsDeclaredSymbol (rules_len g) (end_token g) in
     let all = subst (All P) further (All-drop P k (symbols_of g p) (listed_symbols g formed p known)) in
     (All-head P (Nonterminal r) w all).0
 

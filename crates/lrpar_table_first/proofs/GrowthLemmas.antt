@@ -4,7 +4,7 @@ use Rattle.std.proofs.lemmas.Bool.{and_from, and_parts, cases_eq, cases_lt, eqb-
 use Rattle.std.proofs.lemmas.List.{append-nil, drop_all, get_or-map, get_or-set_other, get_or-set_same, get_or_past, length-map, length-set, map-set, set-get_or, take_all}
 use Rattle.std.proofs.lemmas.List.Elements.{All-get_or, All-head, All-set, All-tail}
 use Rattle.std.proofs.lemmas.List.Sums.{sum_by-set}
-use Rattle.lrpar_grammar.specs.Grammar.{Grammar, GrammarSymbol, IsListedSymbol, IsWellFormed, Nonterminal, Terminal, end_token, prods_len, rule_of, rules_len, start_prod, symbols_of}
+use Rattle.lrpar_grammar.specs.Grammar.{Grammar, GrammarSymbol, IsDeclaredSymbol, IsWellFormed, Nonterminal, Terminal, end_token, prods_len, rule_of, rules_len, start_prod, symbols_of}
 use Rattle.lrpar_table_first.specs.First.{IsFirst, Rule}
 use Rattle.lrpar_table_first.specs.FirstRows.{AreFirsts, AreSound, HaveRoom, IsClosedAt, begins, dummy_lookahead, row_at, rows_of, total_missing}
 use Rattle.lrpar_grammar.specs.Tokens.{has, missing}
@@ -12,13 +12,13 @@ use Rattle.lrpar_grammar.specs.declared.token_set.TokenSet.{TokenSet}
 use Rattle.lrpar_table_first.proofs.FirstLemmas.{AreBelow, begins_cases, closed_begins, sound_begins}
 
 -- all tokens of listed symbols are at most the last one
-listed_below : (rules tokens : ℕ) (w : List GrammarSymbol) → All (IsListedSymbol rules tokens) w → AreBelow (tokens + 1) w
+listed_below : (rules tokens : ℕ) (w : List GrammarSymbol) → All (IsDeclaredSymbol rules tokens) w → AreBelow (tokens + 1) w
 listed_below rules tokens [] all = tt
 listed_below rules tokens (Nonterminal r ∷ w) all =
-    listed_below rules tokens w (All-tail (IsListedSymbol rules tokens) (Nonterminal r) w all)
+    listed_below rules tokens w (All-tail (IsDeclaredSymbol rules tokens) (Nonterminal r) w all)
 listed_below rules tokens (Terminal t ∷ w) all =
-    let low = All-head (IsListedSymbol rules tokens) (Terminal t) w all in
-    (omega (arith, low), listed_below rules tokens w (All-tail (IsListedSymbol rules tokens) (Terminal t) w all))
+    let low = All-head (IsDeclaredSymbol rules tokens) (Terminal t) w all in
+    (omega (arith, low), listed_below rules tokens w (All-tail (IsDeclaredSymbol rules tokens) (Terminal t) w all))
 
 -- no production has the dummy lookahead among its symbols
 pub prods_below : (g : Grammar) → IsWellFormed g → (p : ℕ) → p < prods_len g → AreBelow (dummy_lookahead g) (symbols_of g p)

@@ -5,7 +5,7 @@ use Rattle.std.proofs.lemmas.List.{drop-map, length-drop, length-map, take_all}
 use Rattle.std.proofs.lemmas.List.Elements.{All-cons, All-drop, All-head, All-nil, All-tail, All-weaker}
 use Rattle.std.specs.List.{IsFirstAndRest}
 use Rattle.lrpar_grammar_places.specs.declared.span.Symbol.{Symbol}
-use Rattle.lrpar_grammar.specs.Grammar.{Grammar, GrammarSymbol, IsListedSymbol, IsWellFormed, Nonterminal, Terminal, end_token, prods_len, rules_len, start_prod, symbols_of, tokens_len}
+use Rattle.lrpar_grammar.specs.Grammar.{Grammar, GrammarSymbol, IsDeclaredSymbol, IsWellFormed, Nonterminal, Terminal, end_token, prods_len, rules_len, start_prod, symbols_of, tokens_len}
 use Rattle.lrpar_grammar.specs.Symbols.{symbol_of}
 use Rattle.lrpar_table_first.specs.FirstRows.{IsSymbolBelow}
 
@@ -37,16 +37,16 @@ nothing_after index symbols all k is none r w begins =
 pub token_after : (k t : ℕ) (all rest : List GrammarSymbol) → drop k all ≡ Terminal t ∷ rest → (r : ℕ) (w : List GrammarSymbol) → drop k all ≡ Nonterminal r ∷ w → ⊥
 token_after k t all rest begins r w begins' = let both = sym begins ∙ begins' in absurd cc
 
-symbol_weaker : (rules tokens : ℕ) (s : GrammarSymbol) → IsListedSymbol rules tokens s → IsSymbolBelow rules (tokens + 1) s
+symbol_weaker : (rules tokens : ℕ) (s : GrammarSymbol) → IsDeclaredSymbol rules tokens s → IsSymbolBelow rules (tokens + 1) s
 symbol_weaker rules tokens (Nonterminal r) h = h.1
 symbol_weaker rules tokens (Terminal t) h = omega (arith, h)
 
 -- each symbol of a production is a rule of the grammar, or a token below the dummy lookahead
 pub prod_symbols : (g : Grammar) → IsWellFormed g → (p : ℕ) → p < prods_len g → All (IsSymbolBelow (rules_len g) (tokens_len g)) (symbols_of g p)
 prod_symbols g well p known =
-    let weaker : (s : GrammarSymbol) → IsListedSymbol (rules_len g) (end_token g) s → IsSymbolBelow (rules_len g) (tokens_len g) s = symbol_weaker (rules_len g) (end_token g) in
+    let weaker : (s : GrammarSymbol) → IsDeclaredSymbol (rules_len g) (end_token g) s → IsSymbolBelow (rules_len g) (tokens_len g) s = symbol_weaker (rules_len g) (end_token g) in
     elim (cases_lt p (start_prod g)) [
-      | inl listed ↦ All-weaker (IsListedSymbol (rules_len g) (end_token g)) (IsSymbolBelow (rules_len g) (tokens_len g)) weaker (symbols_of g p) (well.symbols p listed)
+      | inl listed ↦ All-weaker (IsDeclaredSymbol (rules_len g) (end_token g)) (IsSymbolBelow (rules_len g) (tokens_len g)) weaker (symbols_of g p) (well.symbols p listed)
       | inr last ↦
           let is : start_prod g ≡ p = omega (arith, known, last) in
           subst (λ n. All (IsSymbolBelow (rules_len g) (tokens_len g)) (symbols_of g n)) is

@@ -4,14 +4,14 @@ use Rattle.std.specs.Option.{option_map_or}
 use Rattle.std.proofs.lemmas.Bool.{cases_order}
 use Rattle.std.proofs.lemmas.List.Elements.{All-cons, All-drop, All-head, All-nil, All-weaker}
 use Rattle.std.proofs.lemmas.Option.{slice_get_past}
-use Rattle.lrpar_grammar.specs.Grammar.{Grammar, GrammarSymbol, IsListedSymbol, IsWellFormed, Nonterminal, Terminal, end_token, rules_len, start_prod, symbols_of}
+use Rattle.lrpar_grammar.specs.Grammar.{Grammar, GrammarSymbol, IsDeclaredSymbol, IsWellFormed, Nonterminal, Terminal, end_token, rules_len, start_prod, symbols_of}
 
 -- the symbol isn't the start rule `^`
 abbrev IsNotAdded : GrammarSymbol → Type 0
 IsNotAdded (Nonterminal r) = 0 < r
 IsNotAdded (Terminal t) = Unit {0}
 
-listed_not_added : (rules tokens : ℕ) (symbol : GrammarSymbol) → IsListedSymbol rules tokens symbol → IsNotAdded symbol
+listed_not_added : (rules tokens : ℕ) (symbol : GrammarSymbol) → IsDeclaredSymbol rules tokens symbol → IsNotAdded symbol
 listed_not_added rules tokens (Nonterminal r) listed = listed.0
 listed_not_added rules tokens (Terminal t) listed = tt
 
@@ -26,7 +26,7 @@ module _ (g : Grammar) (well : IsWellFormed g) where
         | inr apart ↦
             elim apart [
               | inl low ↦
-                  All-weaker (IsListedSymbol (rules_len g) (end_token g)) IsNotAdded (listed_not_added (rules_len g) (end_token g)) (symbols_of g p)
+                  All-weaker (IsDeclaredSymbol (rules_len g) (end_token g)) IsNotAdded (listed_not_added (rules_len g) (end_token g)) (symbols_of g p)
                   (well.symbols p low)
               | inr past ↦
                   let none : symbols_of g p ≡ [] = ap (λ x. option_map_or (λ y. y.symbols) x []) (slice_get_past g.prods p (omega (arith, past))) in

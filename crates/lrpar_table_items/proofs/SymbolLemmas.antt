@@ -4,12 +4,12 @@ use Rattle.std.proofs.lemmas.Bool.{cases_order}
 use Rattle.std.proofs.lemmas.List.Elements.{All-cons, All-get_or, All-nil, All-weaker}
 use Rattle.std.proofs.lemmas.Option.{get_or_from_slice_get, slice_get_past, slice_get_within}
 use Rattle.std.specs.Option.{option_map, option_map_or}
-use Rattle.lrpar_grammar.specs.Grammar.{Grammar, GrammarSymbol, IsListedSymbol, IsWellFormed, Nonterminal, Terminal, end_token, rules_len, start_prod, symbols_of, tokens_len}
+use Rattle.lrpar_grammar.specs.Grammar.{Grammar, GrammarSymbol, IsDeclaredSymbol, IsWellFormed, Nonterminal, Terminal, end_token, rules_len, start_prod, symbols_of, tokens_len}
 use Rattle.lrpar_table_first.specs.FirstRows.{IsSymbolBelow}
 
 module _ (g : Grammar) (well : IsWellFormed g) where
   -- a symbol of a production is one of the grammar's
-  listed_in : (rules tokens : ℕ) (symbol : GrammarSymbol) → IsListedSymbol rules tokens symbol → IsSymbolBelow rules (tokens + 1) symbol
+  listed_in : (rules tokens : ℕ) (symbol : GrammarSymbol) → IsDeclaredSymbol rules tokens symbol → IsSymbolBelow rules (tokens + 1) symbol
   listed_in rules tokens (Nonterminal r) listed = listed.1
   listed_in rules tokens (Terminal t) listed = omega (arith, listed)
 
@@ -23,7 +23,7 @@ module _ (g : Grammar) (well : IsWellFormed g) where
         | inr apart ↦
             elim apart [
               | inl low ↦
-                  All-weaker (IsListedSymbol (rules_len g) (end_token g)) Below (listed_in (rules_len g) (end_token g)) (symbols_of g p) (well.symbols p low)
+                  All-weaker (IsDeclaredSymbol (rules_len g) (end_token g)) Below (listed_in (rules_len g) (end_token g)) (symbols_of g p) (well.symbols p low)
               | inr past ↦
                   let none : symbols_of g p ≡ [] = ap (λ x. option_map_or (λ y. y.symbols) x []) (slice_get_past g.prods p (omega (arith, past))) in
                   subst (All Below) (sym none) (All-nil Below)
