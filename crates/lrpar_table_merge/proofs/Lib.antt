@@ -30,3 +30,7 @@ pub mod ClearLemmas
 pub mod RoundLemmas
 pub mod MisfitLemmas
 pub mod ExpandedLemmas
+pub mod BoundLemmas
+pub mod OriginLemmas
+pub mod ListedLemmas
+pub mod WorkLemmas

@@ -1,5 +1,5 @@
 -- What is built with a choice is safe; and why it isn't built.
-use Rattle.std.proofs.Common.{ℕ}
+use Rattle.std.proofs.Common.{ℕ, inl, inr}
 use Rattle.lrpar_grammar.specs.Grammar.{Grammar, IsWellFormed}
 use Rattle.lrpar_table_precedence.specs.Precedence.{PrecedenceLists}
 use Rattle.lrpar_table_rows.specs.Graph.{Graph}
@@ -27,9 +27,9 @@ module _ (g : Grammar) (well : IsWellFormed g) where
   }
 
   -- so what refuses the canonical table is a reason to refuse a merged one
-  pub canonical_refusal : (most limit : ℕ) (fault : BuildFault) → IsBuildRefusal g most limit fault → IsMergingRefusal g fault
-  canonical_refusal most limit TooManyStates h = tt
-  canonical_refusal most limit StorageTooSmall h = tt
+  pub canonical_refusal : (most limit : ℕ) (fault : BuildFault) → IsBuildRefusal g most limit fault → IsMergingRefusal g most limit fault
+  canonical_refusal most limit TooManyStates h = inr h
+  canonical_refusal most limit StorageTooSmall h = inr h
   canonical_refusal most limit (AcceptReduceConflict n) h = canonical_conflict n h
   canonical_refusal most limit Memory h = tt
 
@@ -40,14 +40,15 @@ module _ (g : Grammar) (well : IsWellFormed g) where
   minimised_safe Pager lists graph table merged =
       merged_tables_by_precedences_are_safe g lists graph table merged.steps well merged.merged merged.resolution
 
-pub merged_refusal_of : (g : Grammar) (fault : BuildFault) → IsTableRefusal g fault → IsMergingRefusal g fault
-merged_refusal_of g TooManyStates h = tt
-merged_refusal_of g StorageTooSmall h = tt
-merged_refusal_of g (AcceptReduceConflict n) h = h
-merged_refusal_of g Memory h = tt
+module _ (g : Grammar) (most limit : ℕ) where
+  pub merged_refusal_of : (fault : BuildFault) → IsTableRefusal g fault → IsMergingRefusal g most limit fault
+  merged_refusal_of TooManyStates h = absurd h
+  merged_refusal_of StorageTooSmall h = absurd h
+  merged_refusal_of (AcceptReduceConflict n) h = h
+  merged_refusal_of Memory h = tt
 
-pub merge_fault_refusal : (g : Grammar) (fault : BuildFault) → IsMergeFault fault → IsMergingRefusal g fault
-merge_fault_refusal g TooManyStates h = tt
-merge_fault_refusal g StorageTooSmall h = tt
-merge_fault_refusal g (AcceptReduceConflict n) h = absurd h
-merge_fault_refusal g Memory h = tt
+  pub merge_fault_refusal : (fault : BuildFault) → IsMergeFault g most limit fault → IsMergingRefusal g most limit fault
+  merge_fault_refusal TooManyStates h = inl h
+  merge_fault_refusal StorageTooSmall h = inl h
+  merge_fault_refusal (AcceptReduceConflict n) h = absurd h
+  merge_fault_refusal Memory h = tt

@@ -15,7 +15,7 @@ use Rattle.lrpar_table_merge.specs.Held.{GoesBy, IsHeld, Starts, TransitionsOf, 
 use Rattle.lrpar_table_merge.specs.MergedStates.{all_transitions}
 use Rattle.lrpar_table_merge.specs.PassedOn.{AreBeginnings, IsPassedTo, all_missing}
 use Rattle.lrpar_table_merge.specs.Passing.{HasPassedOn, IsUnderWay}
-use Rattle.lrpar_table_merge.specs.Propagated.{AreAdded, ArePropagated, DoesWait, HasGrown, IsPassedOn, HaveBegun, IsPassedFrom, IsRoundTo, LeadOn, PassesOn}
+use Rattle.lrpar_table_merge.specs.Propagated.{AreAdded, ArePropagated, DoesWait, HasGrown, EndsWaiting, HaveBegun, IsPassedFrom, IsRoundTo, LeadOn, PassesOn}
 use Rattle.lrpar_table_merge.specs.StoredKernels.{AreKernelsIfFilled}
 use Rattle.lrpar_table_merge.specs.declared.held.Transitions.{Transitions}
 use Rattle.lrpar_table_merge.proofs.HeldLemmas.{advanced_held, all_held, closure_held}
@@ -82,10 +82,10 @@ module _ (g : Grammar) (goes : ℕ → GrammarSymbol → ℕ → Type 0) (state 
   }
 
 -- whether anything grew, as a state was passed on that waited
-pub settled : (state : ℕ) (before after : List (List CoreSet)) (waited waits : List Bool) (grown : Bool) → state < length waited
-    → HasGrown before (set waited state false) after waits grown → IsPassedOn state before waited after waits grown
-settled state before after waited waits true low grows = (grows.0, tt)
-settled state before after waited waits false low grows =
+pub ends : (state : ℕ) (before after : List (List CoreSet)) (waited waits : List Bool) (grown : Bool) → state < length waited
+    → HasGrown before (set waited state false) after waits grown → EndsWaiting state before waited after waits grown
+ends state before after waited waits true low grows = (grows.0, tt)
+ends state before after waited waits false low grows =
     let is = grows.1.1 in (
       tt,
       (
@@ -114,12 +114,12 @@ passed_on index g all state old new waited waits grown low so_far from added fil
         alike = added.alike;
         propagated = propagated_more g (GoesBy (all_transitions all)) state before after waited waits so_far from added filled;
       };
-      settled = settled state before after waited waits grown low growth;
+      ends = ends state before after waited waits grown low growth;
     }
 
 -- a round over one more state
 pub round_more : (first before after : List (List CoreSet)) (waited waits : List Bool) (n : ℕ) (was more : Bool) → IsRoundTo first before waited n was
-    → IsPassedOn n before waited after waits more → IsRoundTo first after waits (n + 1) (was || more)
+    → EndsWaiting n before waited after waits more → IsRoundTo first after waits (n + 1) (was || more)
 round_more first before after waited waits n true true one two = let less = one.0 in let fewer = two.0 in (omega (arith, less, fewer), tt)
 round_more first before after waited waits n true false one two = (subst (λ kernels. all_missing kernels < all_missing first) (sym two.1.0) one.0, tt)
 round_more first before after waited waits n false true one two = (subst (λ kernels. all_missing after < all_missing kernels) one.1.0 two.0, tt)

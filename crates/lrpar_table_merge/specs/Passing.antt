@@ -11,7 +11,7 @@ use Rattle.lrpar_table_merge.specs.Held.{GoesBy, IsHeld}
 use Rattle.lrpar_table_merge.specs.MergedStates.{all_transitions}
 use Rattle.lrpar_table_merge.specs.Misfits.{HasMisfitIn, HasNoStart, IsFaultOfHeld, IsStuck, IsStuckAt}
 use Rattle.lrpar_table_merge.specs.PassedOn.{IsMisfit, IsPassedTo, all_missing}
-use Rattle.lrpar_table_merge.specs.Propagated.{AreAdded, AreNoneOrKernels, ArePassedAlong, ArePropagated, HasGrown, IsPassedOn, HaveBegun, IsNoneOrKernel, IsPassedAlong, IsRoundTo, LeadOn}
+use Rattle.lrpar_table_merge.specs.Propagated.{AreAdded, AreNoneOrKernels, ArePassedAlong, ArePropagated, HasGrown, EndsWaiting, HaveBegun, IsNoneOrKernel, IsPassedAlong, IsRoundTo, LeadOn}
 use Rattle.lrpar_table_merge.specs.StoredKernels.{AreKernelsIfFilled, IsKernelOf, StayAlike}
 use Rattle.lrpar_table_merge.specs.declared.held.HeldFault.{HeldFault}
 use Rattle.lrpar_table_merge.specs.declared.held.HeldFault.TheVariants.{Misfit}
@@ -104,7 +104,7 @@ module _ {S : Type 0} (index : S → ℕ) where
   pub record HasPassedOn {A : Type 0} (g : Grammar) (all : List Transitions) (state : ℕ) (old : List (Vec (CoreItems S) A)) (waited : List Bool)
       (new : List (Vec (CoreItems S) A)) (waits : List Bool) (grown : Bool) : Type 0 where
     pub goes_on : HasGoneOn g all old new waits
-    pub settled : IsPassedOn state (kernel_rows index old) waited (kernel_rows index new) waits grown
+    pub ends : EndsWaiting state (kernel_rows index old) waited (kernel_rows index new) waits grown
 
   -- whether kernels have grown in a round: then they lack fewer tokens than before; otherwise they are as before, and no state waits
   abbrev pub EndsRound : {A : Type 0} → List (Vec (CoreItems S) A) → List (Vec (CoreItems S) A) → List Bool → Bool → Type 0

@@ -48,8 +48,8 @@ HasGrown before waited after waits grown =
 
 -- whether kernels have grown as a state was passed on: then they lack fewer tokens than before; otherwise they are as before, and the state
 -- doesn't wait, nor does any that didn't
-abbrev pub IsPassedOn : ℕ → List (List CoreSet) → List Bool → List (List CoreSet) → List Bool → Bool → Type 0
-IsPassedOn state before waited after waits grown =
+abbrev pub EndsWaiting : ℕ → List (List CoreSet) → List Bool → List (List CoreSet) → List Bool → Bool → Type 0
+EndsWaiting state before waited after waits grown =
     OnTrue grown (all_missing after < all_missing before)
     × OnFalse grown ((after ≡ before) × (has waits state ≡ false) × ((s : ℕ) → has waited s ≡ false → has waits s ≡ false))
 

@@ -9,7 +9,7 @@ use Rattle.lrpar_table_items.specs.Cores.{IsAmong, IsCoreOf, core_set}
 use Rattle.lrpar_table_items.specs.Next.{kernel_at, kernel_rows}
 use Rattle.lrpar_table_items.specs.declared.cores.CoreItems.{CoreItems}
 use Rattle.lrpar_table_merge.specs.Compatible.{ArePairCompatible, AreWeaklyCompatible, HaveSameCores, lookahead_rows, lr0_core}
-use Rattle.lrpar_table_merge.specs.Merging.{AreCoreRows, AreKernelsOrEmpty}
+use Rattle.lrpar_table_merge.specs.Merging.{AreCoreRows, AreKernelsOrEmpty, AreMadeOrEmpty, IsMade, first_prod}
 use Rattle.lrpar_table_merge.specs.PassedOn.{AreBeginnings, IsBeginning}
 use Rattle.lrpar_table_merge.specs.Propagated.{AreAlike}
 use Rattle.lrpar_table_merge.specs.United.{AreUnited, rooms_of}
@@ -63,6 +63,14 @@ module _ {S : Type 0} (index : S → ℕ) where
   abbrev pub IsKernelOf : Grammar → List (CoreItems S) → Type 0
   IsKernelOf g kernel = IsKernel g (map (core_set index) kernel)
 
+  -- merging can make the cores
+  abbrev pub IsMadeOf : Grammar → List (CoreItems S) → Type 0
+  IsMadeOf g kernel = IsMade g (map (core_set index) kernel)
+
+  -- the first core is one of this production
+  abbrev pub BeginsWith : List (CoreItems S) → ℕ → Type 0
+  BeginsWith kernel prod = first_prod (map (core_set index) kernel) ≡ prod
+
   -- a kernel of a grammar is still a kernel of that grammar
   abbrev pub StaysKernel : List (CoreItems S) → List (CoreItems S) → Type 0
   StaysKernel old new = (g : Grammar) → IsKernelOf g old → IsKernelOf g new
@@ -115,3 +123,7 @@ module _ {S : Type 0} (index : S → ℕ) where
   -- each of the lists is a kernel, if it has any core
   abbrev pub AreKernelsOf : {A : Type 0} → Grammar → List (Vec (CoreItems S) A) → Type 0
   AreKernelsOf g kernels = AreKernelsOrEmpty g (kernel_rows index kernels)
+
+  -- merging can make each of the lists, if it has any core
+  abbrev pub AreMadeOf : {A : Type 0} → Grammar → List (Vec (CoreItems S) A) → Type 0
+  AreMadeOf g kernels = AreMadeOrEmpty g (kernel_rows index kernels)

@@ -1,5 +1,5 @@
 -- States of merged item sets as the code stores them, and those of a merging. `index` is the number that a storage number represents.
-use Rattle.std.specs.Prelude.{◌≡◌, ℕ, List, All, Option, None, Vec, map, slice_index_or}
+use Rattle.std.specs.Prelude.{◌≡◌, ◌<◌, ℕ, List, All, Option, None, Vec, length, map, slice_index_or}
 use Rattle.std.specs.Option.{option_map}
 use Rattle.lrpar_grammar_places.specs.declared.span.RIdx.{RIdx}
 use Rattle.lrpar_grammar_places.specs.declared.span.StIdx.{StIdx}
@@ -18,7 +18,7 @@ use Rattle.lrpar_table_merge.specs.Compatible.{AreWeaklyCompatible}
 use Rattle.lrpar_table_merge.specs.Held.{transitions_at}
 use Rattle.lrpar_table_merge.specs.MergedStates.{AreMergedStates, all_transitions, transitions_of}
 use Rattle.lrpar_table_merge.specs.MergedSteps.{AreGivenBy, AreGivenSteps, FitsNext, IsGivenState}
-use Rattle.lrpar_table_merge.specs.Merging.{kernels_of}
+use Rattle.lrpar_table_merge.specs.Merging.{NoneIsCompatible, NoneOfIsCompatible, kernels_of}
 use Rattle.lrpar_table_merge.specs.StoredKernels.{HaveCores}
 use Rattle.lrpar_table_merge.specs.declared.held.HeldFault.{HeldFault}
 use Rattle.lrpar_table_merge.specs.declared.held.HeldFault.TheVariants.{Misfit}
@@ -72,6 +72,19 @@ module _ {S : Type 0} (index : S → ℕ) where
   abbrev pub IsCompatibleWith : Merging S → List (CoreItems S) → ℕ → Type 0
   IsCompatibleWith merging kernel number =
       AreWeaklyCompatible (kernel_at (kernels_of index merging.states.items) number) (map (core_set index) kernel)
+
+  -- there is a state with the number, and its kernel is weakly compatible with this one
+  abbrev pub HasCompatibleAt : Merging S → List (CoreItems S) → ℕ → Type 0
+  HasCompatibleAt merging kernel number = (number < length merging.states.items) × IsCompatibleWith merging kernel number
+
+  -- no state's kernel is weakly compatible with this one
+  abbrev pub HasNoCompatible : Merging S → List (CoreItems S) → Type 0
+  HasNoCompatible merging kernel = NoneIsCompatible (kernels_of index merging.states.items) (map (core_set index) kernel)
+
+  -- the kernel of none of the states with these numbers is
+  abbrev pub HasNoCompatibleOf : Merging S → List ℕ → List (CoreItems S) → Type 0
+  HasNoCompatibleOf merging numbers kernel =
+      NoneOfIsCompatible (kernels_of index merging.states.items) numbers (map (core_set index) kernel)
 
   -- if each state has a kernel of a grammar, each of the lists has cores of that grammar
   abbrev pub HaveCoresOf : {A : Type 0} → List (MergedState S) → List (Vec (CoreItems S) A) → Type 0

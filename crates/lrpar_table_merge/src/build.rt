@@ -41,9 +41,10 @@ pub enum Minimiser {
 /// whatever the grammar. Without precedences it is complete exactly if it has no conflicts. If it has none, the canonical table has
 /// none. A reduce/reduce conflict may come from the merging alone, if the grammar isn't LR(1).
 ///
-/// The faults are those of `from_yacc_with`. With `Minimiser::Pager`, no contract says which grammars have too many states: that depends
-/// on the order in which sets are merged. It takes time proportional to the number of merged states, times how often lookaheads are
-/// added to one, times the closure of an item set. After an `Err` nothing is left.
+/// The faults are those of `from_yacc_with`. With `Minimiser::Pager`, `TooManyStates` means that merging can make more than `max_states`
+/// different kernels, from that of the start item by gotos and by unions, or that there are more canonical item sets. Whether it makes
+/// them depends on the order in which sets are merged. It takes time proportional to the number of merged states, times how often
+/// lookaheads are added to one, times the closure of an item set. After an `Err` nothing is left.
 pub fn from_yacc_by<StorageT: StorageIndex>(
     alloc: Global,
     grm: &YaccGrammar<StorageT>,
@@ -55,7 +56,8 @@ pub fn from_yacc_by<StorageT: StorageIndex>(
     ensures built { IfOk result (AreMinimisedBy minimiser grm.now precedences.now) }
     ensures safe { IfOk result (AreSafe grm.now) }
     ensures room { IfOk result (HaveAtMost max_states) }
-    // As for `from_yacc`; `AcceptReduceConflict`: a merged set calls for accept and a reduction.
+    // As for `from_yacc`; `AcceptReduceConflict`: a merged set calls for accept and a reduction; with `Minimiser::Pager`, too many states
+    // may be kernels that merging can make.
     ensures refused { IfErr result (IsRefusalBy minimiser grm.now max_states StorageT.limit) }
 {
     match minimiser {
@@ -75,7 +77,7 @@ fn merged_table<StorageT: StorageIndex>(
     ensures built { IfOk result (AreMergedBy grm.now precedences.now) }
     ensures room { IfOk result (HaveAtMost max_states) }
     ensures well_formed { IsWellFormed grm.now }
-    ensures refused { IfErr result (IsMergingRefusal grm.now) }
+    ensures refused { IfErr result (IsMergingRefusal grm.now max_states StorageT.limit) }
 {
     match states_of(alloc, grm, max_states)? {
         Some(states) => table_of_merged(alloc, grm, precedences, states),
@@ -93,12 +95,12 @@ fn states_of<StorageT: StorageIndex>(
     ensures room { IfOk result (λ states. IfSome states (λ states. length states.items ≤ max_states)) }
     ensures fits { IfOk result (λ states. IfSome states (λ states. length states.items ≤ StorageT.limit)) }
     ensures well_formed { IsWellFormed grm.now }
-    ensures fault { IfErr result IsMergeFault }
+    ensures fault { IfErr result (IsMergeFault grm.now max_states StorageT.limit) }
 {
     let _lemma = grm.start_prod();
     let mut expansions = Expansions::new(alloc, grm)?;
     let (mut kernels, all) = merge(alloc, grm, &mut expansions, max_states)?;
-    match states_of_kernels(alloc, grm, &mut expansions, &all, &mut kernels) {
+    match propagated_states(alloc, grm, &mut expansions, &all, &mut kernels) {
         Ok(states) => Ok(Some(states)),
         Err(HeldFault::Misfit) => Ok(None),
         Err(HeldFault::Memory) => Err(BuildFault::Memory),
@@ -106,7 +108,7 @@ fn states_of<StorageT: StorageIndex>(
 }
 
 // The states of the kernels, whose lookaheads are worked out anew from the start.
-fn states_of_kernels<StorageT: StorageIndex>(
+fn propagated_states<StorageT: StorageIndex>(
     alloc: Global,
     grm: &YaccGrammar<StorageT>,
     expansions: &mut Expansions<StorageT>,

@@ -15,10 +15,18 @@ use std::alloc::{AllocError, Global};
 use std::collections::BTreeMap;
 
 /// A kernel, its closure, and the kernels to which it goes.
-#[derive(Drop)]
-pub struct Expansion<StorageT> {
+pub struct Expansion<StorageT: StorageIndex> {
     pub kernel: Vec<CoreItems<StorageT>>,
     pub successors: Successors<StorageT>,
+}
+
+// With its own `Drop`, a function that drops one proves one call.
+impl<StorageT: StorageIndex> Drop for Expansion<StorageT> {
+    fn drop(self) {
+        let Expansion { kernel, successors } = self;
+        drop(kernel);
+        drop(successors);
+    }
 }
 
 /// The item sets so far, the place of each by its kernel, and what closures need.
@@ -28,7 +36,6 @@ pub struct Expansions<StorageT: StorageIndex> {
     pub places: BTreeMap<Vec<CoreItems<StorageT>>, usize>,
 }
 
-// With its own `Drop`, a function that drops one proves one call.
 impl<StorageT: StorageIndex> Drop for Expansions<StorageT> {
     fn drop(self) {
         let Expansions { sets, all, places } = self;

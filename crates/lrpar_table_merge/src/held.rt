@@ -37,10 +37,18 @@ impl<T: Drop> From<AllocFailed<T>> for HeldFault {
 }
 
 /// The transitions of a state: the next state by each rule and by each token, if there is one.
-#[derive(Drop)]
 pub struct Transitions {
     pub rules: Vec<Option<usize>>,
     pub tokens: Vec<Option<usize>>,
+}
+
+// With its own `Drop`, a function that drops one proves one call.
+impl Drop for Transitions {
+    fn drop(self) {
+        let Transitions { rules, tokens } = self;
+        drop(rules);
+        drop(tokens);
+    }
 }
 
 /// Adds the lookaheads of a kernel to those of the kernel of this state. Returns whether any of them was new. If there is no such state, or

@@ -1,13 +1,14 @@
 //! The merging of item sets whose kernels are weakly compatible.
 //!
 //! D. Pager, 'A practical general method for constructing LR(k) parsers', Acta Informatica 7, 1977.
-ghost use Rattle.std.specs.Prelude.{◌≡◌, ◌<◌, ◌≤◌, ℕ, IfErr, IfOk, IfSome, OnOk, length};
+ghost use Rattle.std.specs.Prelude.{◌≡◌, ◌<◌, ◌≤◌, ◌↔◌, ℕ, IfErr, IfNone, IfOk, IfSome, IsTrue, OnOk, length};
+ghost use Rattle.std.specs.Bool.{OnFalse};
 ghost use Rattle.lrpar_grammar.specs.Grammar.{IsWellFormed};
 ghost use Rattle.lrpar_table_merge.specs.Expansions.{AreKept};
 ghost use Rattle.lrpar_table_merge.specs.Minimised.{IsMergeFault};
-ghost use Rattle.lrpar_table_merge.specs.Merging.{AreMerging};
-ghost use Rattle.lrpar_table_merge.specs.StoredKernels.{AreKernelsOf, AreSameCores, HaveCores, HaveSameRooms, IsKernelOf, StaysKernel};
-ghost use Rattle.lrpar_table_merge.specs.StoredStates.{HaveCoresOf, IsCompatibleWith};
+ghost use Rattle.lrpar_table_merge.specs.Merging.{AreMerging, EndsPass, EndsTurn, NoneWaits, work_left, work_of};
+ghost use Rattle.lrpar_table_merge.specs.StoredKernels.{AreEqualCores, AreKernelsOf, AreMadeOf, AreSameCores, BeginsWith, HaveCores, HaveSameRooms, IsKernelOf, IsMadeOf, StaysKernel, UniteKernels};
+ghost use Rattle.lrpar_table_merge.specs.StoredStates.{HasCompatibleAt, HasNoCompatible, HasNoCompatibleOf, HaveCoresOf, IsCompatibleWith};
 
 use crate::compatible::are_weakly_compatible;
 use crate::expansions::Expansions;
@@ -21,18 +22,37 @@ use lrpar_table_items::states::start_kernel;
 use std::alloc::{AllocError, Global};
 
 /// A state while item sets are merged: its kernel, where it goes, and whether it has to be worked on.
-#[derive(Drop)]
-pub struct MergedState<StorageT> {
+pub struct MergedState<StorageT: StorageIndex> {
     pub kernel: Vec<CoreItems<StorageT>>,
     pub transitions: Transitions,
     pub waits: bool,
 }
 
+// With its own `Drop`, a function that drops one proves one call.
+impl<StorageT: StorageIndex> Drop for MergedState<StorageT> {
+    fn drop(self) {
+        let MergedState {
+            kernel,
+            transitions,
+            waits: _waits,
+        } = self;
+        drop(kernel);
+        drop(transitions);
+    }
+}
+
 /// The states so far; and for each production the states whose kernels begin with a core of it, ascending.
-#[derive(Drop)]
-pub struct Merging<StorageT> {
+pub struct Merging<StorageT: StorageIndex> {
     pub states: Vec<MergedState<StorageT>>,
     pub by_prod: Vec<Vec<usize>>,
+}
+
+impl<StorageT: StorageIndex> Drop for Merging<StorageT> {
+    fn drop(self) {
+        let Merging { states, by_prod } = self;
+        drop(states);
+        drop(by_prod);
+    }
 }
 
 /// The kernels of merged states and their transitions, at most `max_states` of them. A kernel goes into the first state that is weakly
@@ -51,14 +71,16 @@ pub(crate) fn merge<StorageT: StorageIndex>(
     ensures cores { IfOk result (λ merged. HaveCores StorageT.index grm.now merged.0.items) }
     ensures room { IfOk result (λ merged. length merged.0.items ≤ max_states) }
     ensures fits { IfOk result (λ merged. length merged.0.items ≤ StorageT.limit) }
-    ensures fault { IfErr result IsMergeFault }
+    ensures fault { IfErr result (IsMergeFault grm.now max_states StorageT.limit) }
 {
     let mut merging = Merging::new(alloc, grm)?;
     let start = start_kernel(alloc, grm)?;
     let _start = merging.merge_kernel(alloc, grm, max_states, &start)?;
-    merging.work_until_done(alloc, grm, expansions, max_states)?;
-    let reached = reached(alloc, &merging.states)?;
-    Ok(finished(alloc, &merging.states, &reached)?)
+    merging.merge_until_stable(alloc, grm, expansions, max_states)?;
+    let marks = reached(alloc, &merging.states)?;
+    let kernels = marked_kernels(alloc, &merging.states, &marks)?;
+    let all = marked_transitions(alloc, &merging.states, &marks)?;
+    Ok((kernels, all))
 }
 
 impl<StorageT: StorageIndex> Merging<StorageT> {
@@ -66,18 +88,14 @@ impl<StorageT: StorageIndex> Merging<StorageT> {
     fn new(alloc: Global, grm: &YaccGrammar<StorageT>) -> Result<Self, AllocError>
         ensures { IfOk result (λ merging. (most limit : ℕ) → AreMerging StorageT.index grm.now most limit merging) }
     {
-        let mut by_prod = Vec::with_capacity(alloc, grm.prods_len())?;
-        for _ in 0..grm.prods_len() {
-            by_prod.push(Vec::new(alloc))?;
-        }
-        Ok(Merging {
-            states: Vec::new(alloc),
-            by_prod,
-        })
+        let by_prod = empty_lists(alloc, grm.prods_len())?;
+        let states = Vec::new(alloc);
+        Ok(Merging { states, by_prod })
     }
 
-    // Works on states until none waits.
-    fn work_until_done(
+    // Works on states until none waits. A state waits again only if lookaheads were added to its kernel, so each time that one is worked on,
+    // less work is left: once for a state, and twice for each lookahead that its kernel can still get.
+    fn merge_until_stable(
         &mut self,
         alloc: Global,
         grm: &YaccGrammar<StorageT>,
@@ -89,14 +107,10 @@ impl<StorageT: StorageIndex> Merging<StorageT> {
         requires merging { AreMerging StorageT.index grm.now max_states StorageT.limit self.old }
         ensures kept { AreKept StorageT.index grm.now expansions.new }
         ensures merging { OnOk result (AreMerging StorageT.index grm.now max_states StorageT.limit self.new) }
-        ensures fault { IfErr result IsMergeFault }
+        ensures stable { OnOk result (NoneWaits self.new.states.items) }
+        ensures fault { IfErr result (IsMergeFault grm.now max_states StorageT.limit) }
     {
-        // Each round but the last adds a state or lookaheads, so the last one comes long before the bound.
-        for _ in 0..usize::MAX {
-            if !self.work_on_all(alloc, grm, expansions, max_states)? {
-                return Ok(());
-            }
-        }
+        'rounds: while self.work_on_all(alloc, grm, expansions, max_states)? {}
         Ok(())
     }
 
@@ -113,22 +127,20 @@ impl<StorageT: StorageIndex> Merging<StorageT> {
         requires merging { AreMerging StorageT.index grm.now max_states StorageT.limit self.old }
         ensures kept { AreKept StorageT.index grm.now expansions.new }
         ensures merging { OnOk result (AreMerging StorageT.index grm.now max_states StorageT.limit self.new) }
-        ensures fault { IfErr result IsMergeFault }
+        ensures waited { IfOk result (EndsPass StorageT.index grm.now max_states self.old.states.items self.new.states.items) }
+        ensures fault { IfErr result (IsMergeFault grm.now max_states StorageT.limit) }
     {
         let mut waited = false;
-        for number in 0..max_states {
-            if number >= self.states.len() {
-                break;
-            }
-            if self.states[number].waits {
-                waited = true;
-                self.work_on(alloc, grm, expansions, max_states, number)?;
-            }
+        let mut number = 0;
+        'states: while number < self.states.len() {
+            let worked = self.work_on(alloc, grm, expansions, max_states, number)?;
+            waited = waited || worked;
+            number += 1;
         }
         Ok(waited)
     }
 
-    // Places the kernels to which the state goes.
+    // Works on the state, if it waits. Returns whether it did.
     fn work_on(
         &mut self,
         alloc: Global,
@@ -136,24 +148,82 @@ impl<StorageT: StorageIndex> Merging<StorageT> {
         expansions: &mut Expansions<StorageT>,
         max_states: usize,
         number: usize,
-    ) -> Result<(), BuildFault>
+    ) -> Result<bool, BuildFault>
         requires well_formed { IsWellFormed grm.now }
         requires kept { AreKept StorageT.index grm.now expansions.old }
         requires number { number < length self.old.states.items }
         requires merging { AreMerging StorageT.index grm.now max_states StorageT.limit self.old }
         ensures kept { AreKept StorageT.index grm.now expansions.new }
         ensures merging { OnOk result (AreMerging StorageT.index grm.now max_states StorageT.limit self.new) }
-        ensures fault { IfErr result IsMergeFault }
+        ensures turn { IfOk result (EndsTurn StorageT.index grm.now max_states number self.old.states.items self.new.states.items) }
+        ensures fault { IfErr result (IsMergeFault grm.now max_states StorageT.limit) }
+    {
+        if !self.stop_waiting(grm, max_states, number) {
+            return Ok(false);
+        }
+        let transitions = self.place_successors(alloc, grm, expansions, max_states, number)?;
+        self.set_transitions(grm, max_states, number, transitions);
+        Ok(true)
+    }
+
+    // Whether the state waits. It doesn't any more.
+    fn stop_waiting(
+        &mut self,
+        grm: &YaccGrammar<StorageT>,
+        max_states: usize,
+        number: usize,
+    ) -> bool
+        requires number { number < length self.old.states.items }
+        requires merging { AreMerging StorageT.index grm.now max_states StorageT.limit self.old }
+        ensures merging { AreMerging StorageT.index grm.now max_states StorageT.limit self.new }
+        ensures turn { EndsTurn StorageT.index grm.now max_states number self.old.states.items self.new.states.items result }
+        ensures len { length self.new.states.items ≡ length self.old.states.items }
+    {
+        let waited = self.states[number].waits;
+        self.states[number].waits = false;
+        waited
+    }
+
+    // Places the kernels to which the state goes. Returns where it goes.
+    fn place_successors(
+        &mut self,
+        alloc: Global,
+        grm: &YaccGrammar<StorageT>,
+        expansions: &mut Expansions<StorageT>,
+        max_states: usize,
+        number: usize,
+    ) -> Result<Transitions, BuildFault>
+        requires well_formed { IsWellFormed grm.now }
+        requires kept { AreKept StorageT.index grm.now expansions.old }
+        requires number { number < length self.old.states.items }
+        requires merging { AreMerging StorageT.index grm.now max_states StorageT.limit self.old }
+        ensures kept { AreKept StorageT.index grm.now expansions.new }
+        ensures merging { OnOk result (AreMerging StorageT.index grm.now max_states StorageT.limit self.new) }
+        ensures work { OnOk result (work_left StorageT.index grm.now max_states self.new.states.items ≤ work_left StorageT.index grm.now max_states self.old.states.items) }
+        ensures fault { IfErr result (IsMergeFault grm.now max_states StorageT.limit) }
     {
         let place = expansions.expand(alloc, grm, &self.states[number].kernel)?;
         let successors = expansions.at(place);
-        self.states[number].waits = false;
         let rules = self.merge_kernels(alloc, grm, max_states, &successors.rules)?;
         let tokens = self.merge_kernels(alloc, grm, max_states, &successors.tokens)?;
+        Ok(Transitions { rules, tokens })
+    }
+
+    // Sets the transitions of the state.
+    fn set_transitions(
+        &mut self,
+        grm: &YaccGrammar<StorageT>,
+        max_states: usize,
+        number: usize,
+        transitions: Transitions,
+    )
+        requires merging { AreMerging StorageT.index grm.now max_states StorageT.limit self.old }
+        ensures merging { AreMerging StorageT.index grm.now max_states StorageT.limit self.new }
+        ensures work { work_left StorageT.index grm.now max_states self.new.states.items ≤ work_left StorageT.index grm.now max_states self.old.states.items }
+    {
         if number < self.states.len() {
-            self.states[number].transitions = Transitions { rules, tokens };
+            self.states[number].transitions = transitions;
         }
-        Ok(())
     }
 
     // The states of the kernels; those of kernels without cores are none.
@@ -166,8 +236,10 @@ impl<StorageT: StorageIndex> Merging<StorageT> {
     ) -> Result<Vec<Option<usize>>, BuildFault>
         requires merging { AreMerging StorageT.index grm.now max_states StorageT.limit self.old }
         requires kernels { AreKernelsOf StorageT.index grm.now kernels.now }
+        requires made { AreMadeOf StorageT.index grm.now kernels.now }
         ensures merging { OnOk result (AreMerging StorageT.index grm.now max_states StorageT.limit self.new) }
-        ensures fault { IfErr result IsMergeFault }
+        ensures work { OnOk result (work_left StorageT.index grm.now max_states self.new.states.items ≤ work_left StorageT.index grm.now max_states self.old.states.items) }
+        ensures fault { IfErr result (IsMergeFault grm.now max_states StorageT.limit) }
     {
         let mut row = Vec::with_capacity(alloc, kernels.len())?;
         for kernel in kernels {
@@ -191,8 +263,10 @@ impl<StorageT: StorageIndex> Merging<StorageT> {
     ) -> Result<usize, BuildFault>
         requires merging { AreMerging StorageT.index grm.now max_states StorageT.limit self.old }
         requires kernel { IsKernelOf StorageT.index grm.now kernel.now }
+        requires made { IsMadeOf StorageT.index grm.now kernel.now }
         ensures merging { OnOk result (AreMerging StorageT.index grm.now max_states StorageT.limit self.new) }
-        ensures fault { IfErr result IsMergeFault }
+        ensures work { OnOk result (work_left StorageT.index grm.now max_states self.new.states.items ≤ work_left StorageT.index grm.now max_states self.old.states.items) }
+        ensures fault { IfErr result (IsMergeFault grm.now max_states StorageT.limit) }
     {
         let first = usize::from(kernel[0].prod);
         match self.find(&self.by_prod[first], kernel) {
@@ -208,15 +282,25 @@ impl<StorageT: StorageIndex> Merging<StorageT> {
     fn find(&self, numbers: &[usize], kernel: &[CoreItems<StorageT>]) -> Option<usize>
         ensures low { IfSome result (λ number. number < length self.now.states.items) }
         ensures compatible { IfSome result (IsCompatibleWith StorageT.index self.now kernel.now) }
+        ensures none { IfNone result (HasNoCompatibleOf StorageT.index self.now numbers.now kernel.now) }
     {
-        for number in numbers {
-            if *number < self.states.len()
-                && are_weakly_compatible(&self.states[*number].kernel, kernel)
-            {
-                return Some(*number);
+        for place in 0..numbers.len() {
+            let number = numbers[place];
+            if self.is_compatible(number, kernel) {
+                return Some(number);
             }
         }
         None
+    }
+
+    // Whether there is a state with this number whose kernel is weakly compatible with this one.
+    fn is_compatible(&self, number: usize, kernel: &[CoreItems<StorageT>]) -> bool
+        ensures { IsTrue result ↔ HasCompatibleAt StorageT.index self.now kernel.now number }
+    {
+        if number >= self.states.len() {
+            return false;
+        }
+        are_weakly_compatible(&self.states[number].kernel, kernel)
     }
 
     // A new state with this kernel, which begins with a core of the production.
@@ -229,10 +313,14 @@ impl<StorageT: StorageIndex> Merging<StorageT> {
         kernel: &[CoreItems<StorageT>],
     ) -> Result<usize, BuildFault>
         requires prod { prod < length self.old.by_prod.items }
+        requires begins { BeginsWith StorageT.index kernel.now prod }
         requires merging { AreMerging StorageT.index grm.now max_states StorageT.limit self.old }
         requires kernel { IsKernelOf StorageT.index grm.now kernel.now }
+        requires made { IsMadeOf StorageT.index grm.now kernel.now }
+        requires fresh { HasNoCompatible StorageT.index self.old kernel.now }
         ensures merging { OnOk result (AreMerging StorageT.index grm.now max_states StorageT.limit self.new) }
-        ensures fault { IfErr result IsMergeFault }
+        ensures work { OnOk result (work_left StorageT.index grm.now max_states self.new.states.items ≤ work_left StorageT.index grm.now max_states self.old.states.items) }
+        ensures fault { IfErr result (IsMergeFault grm.now max_states StorageT.limit) }
     {
         let number = self.states.len();
         if number >= max_states {
@@ -255,11 +343,25 @@ impl<StorageT: StorageIndex> Merging<StorageT> {
     }
 }
 
+// So many empty lists.
+fn empty_lists(alloc: Global, len: usize) -> Result<Vec<Vec<usize>>, AllocError>
+    ensures { IfOk result (λ lists. length lists.items ≡ len) }
+{
+    let mut lists = Vec::with_capacity(alloc, len)?;
+    for _ in 0..len {
+        lists.push(Vec::new(alloc))?;
+    }
+    Ok(lists)
+}
+
 // Adds the lookaheads of the kernel to those of the state's kernel. If any of them was new, the state waits.
 fn grow<StorageT: StorageIndex>(state: &mut MergedState<StorageT>, kernel: &[CoreItems<StorageT>])
     requires same { AreSameCores StorageT.index state.old.kernel.items kernel.now }
     requires room { HaveSameRooms StorageT.index state.old.kernel.items kernel.now }
-    ensures { StaysKernel StorageT.index state.old.kernel.items state.new.kernel.items }
+    ensures kernel { StaysKernel StorageT.index state.old.kernel.items state.new.kernel.items }
+    ensures united { UniteKernels StorageT.index state.old.kernel.items kernel.now state.new.kernel.items }
+    ensures work { work_of StorageT.index state.new ≤ work_of StorageT.index state.old }
+    ensures waits { OnFalse state.new.waits (AreEqualCores StorageT.index state.new.kernel.items state.old.kernel.items) }
 {
     if unite(&mut state.kernel, kernel) {
         state.waits = true;
@@ -318,30 +420,44 @@ fn mark_row(row: &[Option<usize>], marks: &mut Vec<bool>) -> bool
     marked
 }
 
-// The kernels and the transitions of the states with a mark, which are numbered anew.
-fn finished<StorageT: StorageIndex>(
+// The kernels of the states with a mark.
+fn marked_kernels<StorageT: StorageIndex>(
     alloc: Global,
     states: &[MergedState<StorageT>],
     marks: &[bool],
-) -> Result<(Vec<Vec<CoreItems<StorageT>>>, Vec<Transitions>), AllocError>
+) -> Result<Vec<Vec<CoreItems<StorageT>>>, AllocError>
     requires { length marks.now ≡ length states.now }
-    ensures cores { IfOk result (λ merged. HaveCoresOf StorageT.index states.now merged.0.items) }
-    ensures len { IfOk result (λ merged. length merged.0.items ≤ length states.now) }
+    ensures cores { IfOk result (λ kernels. HaveCoresOf StorageT.index states.now kernels.items) }
+    ensures len { IfOk result (λ kernels. length kernels.items ≤ length states.now) }
 {
-    let numbers = numbers_of(alloc, marks)?;
     let mut kernels = Vec::new(alloc);
-    let mut all = Vec::new(alloc);
     for number in 0..states.len() {
         if marks[number] {
             let state = &states[number];
             let kernel = copied(alloc, &state.kernel)?;
             kernels.push(kernel)?;
-            let rules = renumbered(alloc, &state.transitions.rules, &numbers)?;
-            let tokens = renumbered(alloc, &state.transitions.tokens, &numbers)?;
-            all.push(Transitions { rules, tokens })?;
         }
     }
-    Ok((kernels, all))
+    Ok(kernels)
+}
+
+// The transitions of the states with a mark, which are numbered anew.
+fn marked_transitions<StorageT: StorageIndex>(
+    alloc: Global,
+    states: &[MergedState<StorageT>],
+    marks: &[bool],
+) -> Result<Vec<Transitions>, AllocError>
+    requires { length marks.now ≡ length states.now }
+{
+    let numbers = numbers_of(alloc, marks)?;
+    let mut all = Vec::new(alloc);
+    for number in 0..states.len() {
+        if marks[number] {
+            let transitions = renumbered(alloc, &states[number].transitions, &numbers)?;
+            all.push(transitions)?;
+        }
+    }
+    Ok(all)
 }
 
 // For each mark, how many there are before it.
@@ -357,8 +473,19 @@ fn numbers_of(alloc: Global, marks: &[bool]) -> Result<Vec<usize>, AllocError> {
     Ok(numbers)
 }
 
-// The row with the new numbers of its states.
+// The transitions with the new numbers of the states.
 fn renumbered(
+    alloc: Global,
+    transitions: &Transitions,
+    numbers: &[usize],
+) -> Result<Transitions, AllocError> {
+    let rules = renumbered_row(alloc, &transitions.rules, numbers)?;
+    let tokens = renumbered_row(alloc, &transitions.tokens, numbers)?;
+    Ok(Transitions { rules, tokens })
+}
+
+// The row with the new numbers of its states.
+fn renumbered_row(
     alloc: Global,
     row: &[Option<usize>],
     numbers: &[usize],

@@ -17,5 +17,5 @@ pub returns-in-None-clause-refused : goal.returns-in-None-clause-refused
 returns-in-None-clause-refused g c =
     let grm = c.args.grm.now in
     let limit = g.StorageT.StorageIndex.limit in
-    IfErr-weaker c.from_yacc_with.result (IsBuildRefusal grm c.args.max_states limit) (IsMergingRefusal grm)
+    IfErr-weaker c.from_yacc_with.result (IsBuildRefusal grm c.args.max_states limit) (IsMergingRefusal grm c.args.max_states limit)
     (canonical_refusal grm c.in_ok-states.ensures.well_formed c.args.max_states limit) c.from_yacc_with.ensures.refused

@@ -33,7 +33,7 @@ loop-state-preserved g c =
       propagated = one.goes_on.propagated;
       round =
           subst (IsRoundTo first after waits (state + 1)) grown
-          (round_more first before after c.loop-state.waits waits state c.loop-state.grown c.in_ok-more.more so_far.round one.settled);
+          (round_more first before after c.loop-state.waits waits state c.loop-state.grown c.in_ok-more.more so_far.round one.ends);
     }
 
 pub returns-clause-propagated : goal.returns-clause-propagated

@@ -17,7 +17,7 @@ use Rattle.lrpar_table_merge.proofs.propagate.pass_waiting.Goals as goal
 pub returns-then-not-waits-state-clause-passed : goal.returns-then-not-waits-state-clause-passed
 returns-then-not-waits-state-clause-passed g c = record {
   goes_on = record { alike = alike_itself (kernel_rows g.StorageT.StorageIndex.index c.args.kernels.now); propagated = c.requires.propagated };
-  settled = search rules;
+  ends = search rules;
 }
 
 pub returns-then-not-has_items-clause-passed : goal.returns-then-not-has_items-clause-passed

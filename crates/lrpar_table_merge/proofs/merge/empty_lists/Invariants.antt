@@ -1,6 +1,6 @@
 use Rattle.std.proofs.Common.{◌≡◌, length}
-use Rattle.lrpar_table_merge.proofs.merge.Merging.new.Given as goal
+use Rattle.lrpar_table_merge.proofs.merge.empty_lists.Given as goal
 
 -- there are as many lists as passes
 abbrev pub invariant-loop : goal.invariant-loop
-invariant-loop g l = length l.by_prod.items ≡ l.counter
+invariant-loop l = length l.lists.items ≡ l.counter

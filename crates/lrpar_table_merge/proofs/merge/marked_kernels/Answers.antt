@@ -5,8 +5,8 @@ use Rattle.lrpar_table_items.specs.Cores.{core_set}
 use Rattle.lrpar_table_items.specs.Next.{kernel_rows}
 use Rattle.lrpar_table_merge.specs.Merging.{AreCoreRows}
 use Rattle.lrpar_table_merge.proofs.MergingLemmas.{kernel_read, rows_push}
-use Rattle.lrpar_table_merge.proofs.merge.finished.Goals as goal
-use Rattle.lrpar_table_merge.proofs.merge.finished.Goals.{then-marks-number+in_ok-kernel+in_ok-push+in_ok-rules+in_ok-tokens+in_ok-push-2, else-marks-number}
+use Rattle.lrpar_table_merge.proofs.merge.marked_kernels.Goals as goal
+use Rattle.lrpar_table_merge.proofs.merge.marked_kernels.Goals.{then-marks-number+in_ok-kernel+in_ok-push, else-marks-number}
 
 pub loop-number-preserved : goal.loop-number-preserved
 loop-number-preserved g c =
@@ -17,7 +17,7 @@ loop-number-preserved g c =
     let low = c.loop-number-test.true in
     let before = so_far.1 in
     elim c.if-marks-number.branch [
-      | then-marks-number+in_ok-kernel+in_ok-push+in_ok-rules+in_ok-tokens+in_ok-push-2 w ↦
+      | then-marks-number+in_ok-kernel+in_ok-push w ↦
           let is = ap (λ v. v.items) w.kernels-is ∙ w.in_ok-push.ensures.items in
           let len = ap length is ∙ length_push c.loop-number.kernels.items w.in_ok-kernel.kernel in
           let same = w.in_ok-kernel.ensures ∙ ap (map (core_set index)) w.deref.ensures.value in (
