@@ -13,7 +13,7 @@ use Rattle.lrpar_table_items.specs.declared.cores.CoreItems.{CoreItems}
 use Rattle.lrpar_table_items.specs.Next.{AreNext, kernel_at, kernel_rows, next_kernel}
 use Rattle.lrpar_table_items.proofs.NextLemmas.{next_begun, next_cores}
 use Rattle.lrpar_table_merge.specs.Compatible.{HaveSameCores, lr0_core}
-use Rattle.lrpar_table_merge.specs.Merging.{AreCoreRows, AreKernelsOrEmpty, AreListed, AreMadeOrEmpty, AreMerging, Goes, HaveOrigins, IsMade, MergesMore, NoneIsCompatible, Unites, first_prod, kernels_of, listed_for}
+use Rattle.lrpar_table_merge.specs.Merging.{AreCoreRows, AreKernelsOrEmpty, AreRegistered, AreMadeOrEmpty, AreMerging, Goes, HaveOrigins, IsMade, MergesMore, NoneIsCompatible, Unites, first_prod, kernels_of, numbers_for}
 use Rattle.lrpar_table_merge.specs.United.{AreUnited, rooms_of}
 use Rattle.lrpar_table_merge.specs.declared.merge.MergedState.{MergedState}
 use Rattle.lrpar_table_merge.specs.declared.merge.Merging.{Merging}
@@ -124,7 +124,7 @@ module _ {S : Type 0} (index : S → ℕ) where
         kernels = subst (λ states. All (IsKernel g) (kernels_of index states)) (sym none) (λ k d low. absurd (omega (arith, low)));
         made = subst (λ states. All (IsMade g) (kernels_of index states)) (sym none) (λ k d low. absurd (omega (arith, low)));
         origins = subst (λ states. HaveOrigins g (kernels_of index states)) (sym none) (no_origins g);
-        listed = subst (λ states. AreListed merging.by_prod.items (kernels_of index states)) (sym none) (λ s low. absurd (omega (arith, low)));
+        listed = subst (λ states. AreRegistered merging.by_prod.items (kernels_of index states)) (sym none) (λ s low. absurd (omega (arith, low)));
         room = omega (arith, len);
         fits = omega (arith, len);
         prods = prods;
@@ -146,7 +146,7 @@ module _ {S : Type 0} (index : S → ℕ) where
           kernels = subst (All (IsKernel g)) (sym same) are.kernels;
           made = subst (All (IsMade g)) (sym same) are.made;
           origins = subst (HaveOrigins g) (sym same) are.origins;
-          listed = subst (λ kernels. AreListed after.by_prod.items kernels) (sym same) (subst (λ l. AreListed l (kernels_of index before.states.items)) (sym lists) are.listed);
+          listed = subst (λ kernels. AreRegistered after.by_prod.items kernels) (sym same) (subst (λ l. AreRegistered l (kernels_of index before.states.items)) (sym lists) are.listed);
           room = omega (arith, len, room);
           fits = omega (arith, len, fits);
           prods = ap length lists ∙ are.prods;
@@ -174,8 +174,8 @@ module _ {S : Type 0} (index : S → ℕ) where
               (Unites (kernel_at kernels s) next (kernel_of state) (All-get_or (IsMade g) kernels s [] within are.made) made both unites) are.made);
           origins = subst (HaveOrigins g) (sym all) (origins_set g kernels are.origins s next (kernel_of state) within unites);
           listed =
-              subst (λ rows. AreListed after.by_prod.items rows) (sym all)
-              (subst (λ l. AreListed l (set kernels s (kernel_of state))) (sym lists)
+              subst (λ rows. AreRegistered after.by_prod.items rows) (sym all)
+              (subst (λ l. AreRegistered l (set kernels s (kernel_of state))) (sym lists)
               (listed_set before.by_prod.items kernels are.listed s (kernel_of state) within unites.same));
           room = omega (arith, len, room);
           fits = omega (arith, len, fits);
@@ -185,7 +185,7 @@ module _ {S : Type 0} (index : S → ℕ) where
     -- a state is added for a kernel with which no other one is weakly compatible
     pub merging_push : (state : MergedState S) (p number : ℕ) (list : Vec ℕ Global) → after.states.items ≡ before.states.items ++ state ∷ []
         → p < length before.by_prod.items → after.by_prod.items ≡ set before.by_prod.items p list → number ≡ length before.states.items
-        → list.items ≡ listed_for before.by_prod.items p ++ number ∷ [] → first_prod (kernel_of state) ≡ p → IsKernel g (kernel_of state)
+        → list.items ≡ numbers_for before.by_prod.items p ++ number ∷ [] → first_prod (kernel_of state) ≡ p → IsKernel g (kernel_of state)
         → IsMade g (kernel_of state) → NoneIsCompatible (kernels_of index before.states.items) (kernel_of state)
         → length before.states.items < max → length before.states.items < limit → AreMerging index g max limit after
     merging_push state p number list is low lists at items begins kernel made fresh room fits =
@@ -196,7 +196,7 @@ module _ {S : Type 0} (index : S → ℕ) where
           made = subst (All (IsMade g)) (sym all) (All-push (IsMade g) kernels (kernel_of state) are.made made);
           origins = subst (HaveOrigins g) (sym all) (origins_push g kernels are.origins (kernel_of state) kernel made fresh);
           listed =
-              subst (λ rows. AreListed after.by_prod.items rows) (sym all)
+              subst (λ rows. AreRegistered after.by_prod.items rows) (sym all)
               (listed_push before.by_prod.items kernels are.listed after.by_prod.items (kernel_of state) p number list low lists (at ∙ sym count) items begins);
           room = omega (arith, len, room);
           fits = omega (arith, len, fits);

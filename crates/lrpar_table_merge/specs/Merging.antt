@@ -55,12 +55,12 @@ first_prod [] = 0
 first_prod (core ∷ cores) = core.prod
 
 -- the numbers that are listed for production p; out of range, none
-abbrev pub listed_for : {A : Type 0} → List (Vec ℕ A) → ℕ → List ℕ
-listed_for lists p = slice_index_or (map (λ list. list.items) lists) p []
+abbrev pub numbers_for : {A : Type 0} → List (Vec ℕ A) → ℕ → List ℕ
+numbers_for lists p = slice_index_or (map (λ list. list.items) lists) p []
 
 -- each state is listed for the production of its kernel's first core
-abbrev pub AreListed : {A : Type 0} → List (Vec ℕ A) → List (List CoreSet) → Type 0
-AreListed lists kernels = (s : ℕ) → s < length kernels → Contains (listed_for lists (first_prod (kernel_at kernels s))) s
+abbrev pub AreRegistered : {A : Type 0} → List (Vec ℕ A) → List (List CoreSet) → Type 0
+AreRegistered lists kernels = (s : ℕ) → s < length kernels → Contains (numbers_for lists (first_prod (kernel_at kernels s))) s
 
 -- none of the kernels is weakly compatible with this one
 abbrev pub NoneIsCompatible : List (List CoreSet) → List CoreSet → Type 0
@@ -77,7 +77,7 @@ pub record AreMerging {S : Type 0} (index : S → ℕ) (g : Grammar) (max limit 
   pub kernels : All (IsKernel g) (kernels_of index merging.states.items)
   pub made : All (IsMade g) (kernels_of index merging.states.items)
   pub origins : HaveOrigins g (kernels_of index merging.states.items)
-  pub listed : AreListed merging.by_prod.items (kernels_of index merging.states.items)
+  pub listed : AreRegistered merging.by_prod.items (kernels_of index merging.states.items)
   pub room : length merging.states.items ≤ max
   pub fits : length merging.states.items ≤ limit
   pub prods : length merging.by_prod.items ≡ prods_len g

@@ -100,7 +100,7 @@ fn states_of<StorageT: StorageIndex>(
     let _lemma = grm.start_prod();
     let mut expansions = Expansions::new(alloc, grm)?;
     let (mut kernels, all) = merge(alloc, grm, &mut expansions, max_states)?;
-    match propagated_states(alloc, grm, &mut expansions, &all, &mut kernels) {
+    match propagate_states(alloc, grm, &mut expansions, &all, &mut kernels) {
         Ok(states) => Ok(Some(states)),
         Err(HeldFault::Misfit) => Ok(None),
         Err(HeldFault::Memory) => Err(BuildFault::Memory),
@@ -108,7 +108,7 @@ fn states_of<StorageT: StorageIndex>(
 }
 
 // The states of the kernels, whose lookaheads are worked out anew from the start.
-fn propagated_states<StorageT: StorageIndex>(
+fn propagate_states<StorageT: StorageIndex>(
     alloc: Global,
     grm: &YaccGrammar<StorageT>,
     expansions: &mut Expansions<StorageT>,

@@ -161,7 +161,7 @@ impl<StorageT: StorageIndex> Merging<StorageT> {
         if !self.stop_waiting(grm, max_states, number) {
             return Ok(false);
         }
-        let transitions = self.place_successors(alloc, grm, expansions, max_states, number)?;
+        let transitions = self.merge_successors(alloc, grm, expansions, max_states, number)?;
         self.set_transitions(grm, max_states, number, transitions);
         Ok(true)
     }
@@ -185,7 +185,7 @@ impl<StorageT: StorageIndex> Merging<StorageT> {
     }
 
     // Places the kernels to which the state goes. Returns where it goes.
-    fn place_successors(
+    fn merge_successors(
         &mut self,
         alloc: Global,
         grm: &YaccGrammar<StorageT>,

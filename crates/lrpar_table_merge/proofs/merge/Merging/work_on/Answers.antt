@@ -5,8 +5,8 @@ use Rattle.lrpar_table_merge.proofs.merge.Merging.work_on.Goals as goal
 pub returns-then-not-stop_waiting-clause-turn : goal.returns-then-not-stop_waiting-clause-turn
 returns-then-not-stop_waiting-clause-turn g c = (tt, OnFalse_at c.if-not-stop_waiting.true c.stop_waiting.ensures.turn.1)
 
-pub place_successors-requires-clause-number : goal.place_successors-requires-clause-number
-place_successors-requires-clause-number g c = omega (arith, c.requires.number, c.stop_waiting.ensures.len)
+pub merge_successors-requires-clause-number : goal.merge_successors-requires-clause-number
+merge_successors-requires-clause-number g c = omega (arith, c.requires.number, c.stop_waiting.ensures.len)
 
 pub returns-clause-turn : goal.returns-clause-turn
 returns-clause-turn g c = (

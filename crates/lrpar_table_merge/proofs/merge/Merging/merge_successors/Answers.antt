@@ -5,7 +5,7 @@ use Rattle.lrpar_table_items.specs.Cores.{core_set}
 use Rattle.lrpar_table_items.specs.Next.{kernel_rows}
 use Rattle.lrpar_table_merge.specs.Merging.{AreKernelsOrEmpty, AreMadeOrEmpty, IsMade}
 use Rattle.lrpar_table_merge.proofs.MergingLemmas.{kernel_read, made_read, next_kernels, next_made}
-use Rattle.lrpar_table_merge.proofs.merge.Merging.place_successors.Goals as goal
+use Rattle.lrpar_table_merge.proofs.merge.Merging.merge_successors.Goals as goal
 
 pub expand-requires-clause-kernel : goal.expand-requires-clause-kernel
 expand-requires-clause-kernel g c =
