@@ -12,12 +12,12 @@ use Rattle.lrpar_conflict_derivations.proofs.completion.complete_in_state.Goals 
 pub prod_to_rule-rule-requires : goal.prod_to_rule-rule-requires
 prod_to_rule-rule-requires g c =
     let index = g.StorageT.StorageIndex.index in
-    (core_known c.args.grm.now c.start_prod-start.ensures.well_formed c.args.graph.now c.requires.parts.canonical (index c.args.state.0) (index c.args.prod.0) 0
+    (core_known c.args.grm.now c.start_prod-lemma.ensures.well_formed c.args.graph.now c.requires.parts.canonical (index c.args.state.0) (index c.args.prod.0) 0
     c.requires.state (c.requires.item.0, c.requires.item.1)).0
 
 pub links_to-requires-clause-asked : goal.links_to-requires-clause-asked
 links_to-requires-clause-asked g c = record {
-  well_formed = c.start_prod-start.ensures.well_formed;
+  well_formed = c.start_prod-lemma.ensures.well_formed;
   firsts = c.requires.parts.firsts;
   canonical = c.requires.parts.canonical;
   state = c.requires.state;
@@ -27,7 +27,7 @@ links_to-requires-clause-asked g c = record {
 pub complete_by_links-requires-clause-prod : goal.complete_by_links-requires-clause-prod
 complete_by_links-requires-clause-prod g c =
     let index = g.StorageT.StorageIndex.index in
-    (core_known c.args.grm.now c.start_prod-start.ensures.well_formed c.args.graph.now c.requires.parts.canonical (index c.args.state.0) (index c.args.prod.0) 0
+    (core_known c.args.grm.now c.start_prod-lemma.ensures.well_formed c.args.graph.now c.requires.parts.canonical (index c.args.state.0) (index c.args.prod.0) 0
     c.requires.state (c.requires.item.0, c.requires.item.1)).0
 
 pub complete_by_links-requires-clause-links : goal.complete_by_links-requires-clause-links
@@ -37,7 +37,7 @@ complete_by_links-requires-clause-links g c =
     let s = index c.args.state.0 in
     let reached = c.requires.parts.canonical.reached s c.requires.state in
     subst (λ xs. AreUpLinks grm (index c.args.token.0) (links_of index xs)) (sym c.deref.ensures.value)
-    (up_links grm c.start_prod-start.ensures.well_formed (sets_of c.args.graph.now s) reached.0 reached.1 (index c.args.token.0)
+    (up_links grm c.start_prod-lemma.ensures.well_formed (sets_of c.args.graph.now s) reached.0 reached.1 (index c.args.token.0)
     (links_of index c.in_ok-links.links.items) c.in_ok-links.ensures.links)
 
 pub complete_by_links-requires-clause-linked : goal.complete_by_links-requires-clause-linked

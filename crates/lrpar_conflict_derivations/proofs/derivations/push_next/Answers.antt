@@ -18,7 +18,7 @@ pub prod-requires : goal.prod-requires
 prod-requires g c =
     let index = g.StorageT.StorageIndex.index in
     let called = subst (λ next. IsCalledFor index c.args.grm.now c.args.graph.now c.args.state c.args.token next) c.in-Make.is c.requires.called in
-    complete_known c.args.grm.now c.start_prod-start.ensures.well_formed c.args.graph.now c.requires.canonical (index c.args.state.0) (index c.in-Make.prod.0)
+    complete_known c.args.grm.now c.start_prod-lemma.ensures.well_formed c.args.graph.now c.requires.canonical (index c.args.state.0) (index c.in-Make.prod.0)
     (index c.args.token.0) c.requires.state called.1
 
 pub returns-in-Make-clause-item : goal.returns-in-Make-clause-item
@@ -54,7 +54,7 @@ push_all_moves-requires-clause-some g c =
     let found = rw c.unwrap-core.ensures at c.core_before.ensures in
     let rest = rest_of (symbol_of index) (core.1 + 1) c.prod-in-Take.result.now (symbols_of grm p) c.prod-in-Take.ensures in
     subst (HaveTrees grm) (sym rest)
-    (core_rest grm c.start_prod-start.ensures.well_formed c.requires.each c.args.graph.now c.requires.canonical (index c.args.state.0) p core.1
+    (core_rest grm c.start_prod-lemma.ensures.well_formed c.requires.each c.args.graph.now c.requires.canonical (index c.args.state.0) p core.1
     (Terminal (index c.args.token.0)) c.requires.state found.0 found.1)
 
 pub returns-in_ok-push_all_moves-in-Take-clause-begun : goal.returns-in_ok-push_all_moves-in-Take-clause-begun

@@ -18,5 +18,5 @@ returns g c =
     let items = c.push_sentences.new.out.items in
     let moves : moves_in index items ≡ forest_moves pushed.0 = pushed.2 ∙ ap (λ xs. moves_in index xs ++ forest_moves pushed.0) c.new-moves.ensures.items in
     let fit = subst (λ (w : List GrammarSymbol). AreTreesOf grm w pushed.0) symbols pushed.1 in
-    front_by grm context.graph.now context.table.now c.start_prod-start.ensures.well_formed c.requires.built c.states_len-states.ensures.closed (index c.args.state.0) steps
+    front_by grm context.graph.now context.table.now c.start_prod-lemma.ensures.well_formed c.requires.built c.states_len-lemma.ensures.closed (index c.args.state.0) steps
     (c.lead.ensures c.if-not-lead.false) pushed.0 fit (moves_in index items) moves

@@ -37,5 +37,5 @@ returns g c =
     let n = c.loop-state.state in
     let all : n ≡ states_len table = omega (arith, c.loop-state-test.false, c.loop-state.auto.state-end, c.states_len-state-end.ensures.states) in
     subst (AreSteps p table) (ap (steps_below table rows) (sym all) ∙ sym c.loop-state.invariant.0)
-    (are_steps p table rows c.in_ok-taken.ensures c.states_len-state-end.ensures.closed c.tokens_len-tokens.ensures.end
+    (are_steps p table rows c.in_ok-taken.ensures c.states_len-state-end.ensures.closed c.tokens_len-lemma.ensures.end
     (λ s low. c.loop-state.invariant.1 s (omega (arith, all, low))))

@@ -21,7 +21,7 @@ nodes-init g c =
       subst (All (PieceFits index grm)) (sym none) (All-nil (PieceFits index grm)),
       omega arith,
       λ tree of_tree.
-          let begins = walk_begins index grm (moves_in index moves) tree c.start_prod-start.ensures.well_formed of_tree in
+          let begins = walk_begins index grm (moves_in index moves) tree c.start_prod-lemma.ensures.well_formed of_tree in
           subst (λ w. Walk index grm w (moves_in index (take (length moves) moves)) (backward_text index grm c.new-pieces.result.items) (tree_text grm tree)) (sym waits_one)
           (subst (λ ps. Walk index grm (waits.Tree ∷ []) (moves_in index (take (length moves) moves)) (backward_text index grm ps) (tree_text grm tree)) (sym none)
           (subst (λ ms. Walk index grm (waits.Tree ∷ []) (moves_in index ms) [] (tree_text grm tree)) (sym all) begins)),
@@ -65,7 +65,7 @@ meet-requires g c =
     let last = c.in-Some.ensures.items ∙ ap (λ w. c.pop.new.self.items ++ w ∷ []) c.in-Tree.is in
     let walk = c.nodes.invariant.2 c.requires.0 c.requires.1 in
     let some = walk_left index c.args.grm.now c.nodes.waiting.items c.pop.new.self.items c.args.moves.now c.nodes.left _ _ walk last in
-    (walk_next index c.args.grm.now c.start_prod-start.ensures.well_formed c.nodes.waiting.items c.pop.new.self.items c.args.moves.now c.nodes.left (c.nodes.left - 1)
+    (walk_next index c.args.grm.now c.start_prod-lemma.ensures.well_formed c.nodes.waiting.items c.pop.new.self.items c.args.moves.now c.nodes.left (c.nodes.left - 1)
     c.nodes.pieces.items _ c.index-moves-left.result walk last (omega (arith, some)) (omega (arith, some, c.nodes.invariant.1)) c.index-moves-left.is).0
 
 pub nodes-smaller : goal.nodes-smaller
@@ -85,7 +85,7 @@ nodes-preserved g c =
     let m = c.index-moves-left.result in
     let old = c.nodes.waiting.items in
     let waiting = c.pop.new.self.items in
-    let well = c.start_prod-start.ensures.well_formed in
+    let well = c.start_prod-lemma.ensures.well_formed in
     let last = c.in-Some.ensures.items ∙ ap (λ w. waiting ++ w ∷ []) c.in-Tree.is in
     let walk = c.nodes.invariant.2 c.requires.0 c.requires.1 in
     let some : 1 ≤ left = walk_left index grm old waiting moves left _ _ walk last in

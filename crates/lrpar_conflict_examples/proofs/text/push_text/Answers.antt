@@ -14,12 +14,12 @@ rest_of-requires g c =
 
 pub push_line-requires-clause-before : goal.push_line-requires-clause-before
 push_line-requires-clause-before g c =
-    before_known c.args.grm.now c.start_prod-start.ensures.well_formed (token_numbers g.StorageT.StorageIndex.index c.args.before.now)
+    before_known c.args.grm.now c.start_prod-lemma.ensures.well_formed (token_numbers g.StorageT.StorageIndex.index c.args.before.now)
     (moves_in g.StorageT.StorageIndex.index c.args.moves.now) c.requires
 
 pub push_line-requires-clause-rest : goal.push_line-requires-clause-rest
 push_line-requires-clause-rest g c =
-    after_known g.StorageT.StorageIndex.index c.args.grm.now c.start_prod-start.ensures.well_formed c.args.before.now c.deref.result.now c.rest_of.result.now
+    after_known g.StorageT.StorageIndex.index c.args.grm.now c.start_prod-lemma.ensures.well_formed c.args.before.now c.deref.result.now c.rest_of.result.now
     (moves_in g.StorageT.StorageIndex.index c.args.moves.now) c.requires (ap (token_numbers g.StorageT.StorageIndex.index) c.deref.ensures.value ∙ c.in_ok-text.ensures) c.rest_of.ensures
 
 pub returns : goal.returns

@@ -11,5 +11,5 @@ returns g c =
     let d = c.args.checked.now in
     let tokens = tokens_of index c.in_ok-tokens.tokens.items in
     let expected = subst (λ (st : List ℕ). AreExpected d.grammar d.table st tokens) (ap (states_of index) c.deref.ensures.value) c.in_ok-tokens.ensures.expected in
-    expected_after (token_by index g.LexemeT.Lexeme.parts) d c.args.lexemes.now c.stable-table.ensures.checked c.in_ok-place.place
+    expected_after (token_by index g.LexemeT.Lexeme.parts) d c.args.lexemes.now c.stable-lemma.ensures.checked c.in_ok-place.place
     (states_of index c.in_ok-place.stack.items) tokens c.in_ok-place.ensures.furthest expected

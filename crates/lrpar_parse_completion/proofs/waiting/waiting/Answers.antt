@@ -48,7 +48,7 @@ add_prods-requires-clause-rule g c =
     let own = IsOwnCore d.grammar d.graph d.table (index c.args.state.0) in
     let low : c.found.place < length c.found.found.links.items = omega (arith, c.found-test.true, c.len.ensures, c.found.found.links.ok.0) in
     let at = link_at index c.found.found.links.items c.found.place c.index-link.result.now low c.index-link.ensures in
-    rw c.grm-grm.ensures (link_rule_low d.grammar c.stable-table.ensures.checked.well_formed own (links_of index c.found.found.links.items) c.found.invariant.found.each c.found.place _ at)
+    rw c.grm-grm.ensures (link_rule_low d.grammar c.stable-lemma.ensures.checked.well_formed own (links_of index c.found.found.links.items) c.found.invariant.found.each c.found.place _ at)
 
 pub found-preserved : goal.found-preserved
 found-preserved g c =

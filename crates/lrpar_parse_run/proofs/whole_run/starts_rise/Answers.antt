@@ -15,7 +15,7 @@ returns-in-Some g c =
     let last = c.in-Some.last.now in
     let read : Some last ≡ slice_get lexemes (length lexemes - 1) = rw c.in-Some.is at c.last.ensures.value in
     let known_at : slice_get (map facts lexemes) (length (map facts lexemes) - 1) ≡ Some (facts last) = last_mapped facts lexemes (Some last) read in
-    let order = rw c.span.ensures.span at c.start-start.ensures.ordered in
+    let order = rw c.span.ensures.span at c.start-lemma.ensures.ordered in
     starts_rise c.args.grm.now (map facts lexemes) c.requires
     (λ x at. subst (λ (f : LexemeFacts). f.span.start ≤ f.span.end) (same_Some (facts last) x (sym known_at ∙ at)) order)
 

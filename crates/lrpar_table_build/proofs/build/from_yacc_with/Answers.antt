@@ -15,5 +15,5 @@ returns-clause-refused g c =
     let states = map (state_of index) c.in_ok-states.states.items in
     let len = length-map c.in_ok-states.states.items (state_of index) in
     IfErr-weaker c.tables.result (IsRefusalOf (length c.in_ok-states.states.items) (IsRefusedState grm states)) (IsBuildRefusal grm c.args.max_states limit)
-    (λ fault h. build_refusal grm c.start_prod-start.ensures.well_formed states c.in_ok-states.ensures.states c.args.max_states limit fault
+    (λ fault h. build_refusal grm c.start_prod-lemma.ensures.well_formed states c.in_ok-states.ensures.states c.args.max_states limit fault
     (subst (λ n. IsRefusalOf n (IsRefusedState grm states) fault) (sym len) h)) c.tables.ensures.refused

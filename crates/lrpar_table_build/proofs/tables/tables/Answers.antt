@@ -10,7 +10,7 @@ use Rattle.lrpar_table_build.proofs.tables.tables.Goals as goal
 pub graph_and_table-requires : goal.graph_and_table-requires
 graph_and_table-requires g c =
     let grm = c.args.grm.now in
-    let well = c.start_prod-start.ensures.well_formed in
+    let well = c.start_prod-lemma.ensures.well_formed in
     let states = map (state_of g.StorageT.StorageIndex.index) c.args.states.items in
     let some = some_state grm well states c.requires.states in record {
       rows = state_rows grm well states c.requires.states;
@@ -27,7 +27,7 @@ returns-clause-built g c =
     IfOk-weaker c.graph_and_table.result _ _
     (λ made are.
     subst (IsBuiltBy grm precedences made.0) (sym are.table)
-    (is_built precedences grm c.start_prod-start.ensures.well_formed states c.requires.states made.0 (are.len ∙ sym len) are.items
+    (is_built precedences grm c.start_prod-lemma.ensures.well_formed states c.requires.states made.0 (are.len ∙ sym len) are.items
     (λ s t below within. are.none s t (omega (arith, len, below)) within)))
     c.graph_and_table.ensures.made
 

@@ -16,7 +16,7 @@ returns g c =
     let back = lent_back old new c.passes.sets.len (sym full) (after ∙ sym before ∙ sym full) in
     let sound = c.grow_all.ensures.sound (rw c.deref_mut.ensures.value c.passes.invariant.1) in
     let closed = OnFalse_at c.passes-test.false c.grow_all.ensures.closed in
-    subst (λ sets. AreFirsts grm (rows_of sets)) (sym back) (exact_sets grm c.start_prod-start.ensures.well_formed (rows_of new) c.grow_all.ensures.room.0 sound closed)
+    subst (λ sets. AreFirsts grm (rows_of sets)) (sym back) (exact_sets grm c.start_prod-lemma.ensures.well_formed (rows_of new) c.grow_all.ensures.room.0 sound closed)
 
 pub returns-in_err-sets : goal.returns-in_err-sets
 returns-in_err-sets g c = no_value c.from_residual.result _ _ c.from_residual.ensures.1

@@ -20,7 +20,7 @@ returns-clause-merged g c =
     let len = length-map c.args.states.items (state_of g.StorageT.StorageIndex.index) in
     ok_four c.state_tables.result _ _ _ _ (AreMergedBy grm precedences)
     (λ made long items is none.
-    states_merged_by grm c.start_prod-start.ensures.well_formed states c.requires.states precedences made.0 made.1 (long ∙ sym len) items is
+    states_merged_by grm c.start_prod-lemma.ensures.well_formed states c.requires.states precedences made.0 made.1 (long ∙ sym len) items is
     (λ s t below within. none s t (omega (arith, len, below)) within))
     c.state_tables.ensures.len c.state_tables.ensures.items c.state_tables.ensures.table c.state_tables.ensures.none
 
@@ -30,5 +30,5 @@ returns-clause-refused g c =
     let states = map (state_of g.StorageT.StorageIndex.index) c.args.states.items in
     let len = length-map c.args.states.items (state_of g.StorageT.StorageIndex.index) in
     IfErr-weaker c.state_tables.result (IsRefusalOf (length c.args.states.items) (IsRefusedState grm states)) (IsTableRefusal grm)
-    (λ fault h. merged_refusal grm c.start_prod-start.ensures.well_formed states c.requires.states fault
+    (λ fault h. merged_refusal grm c.start_prod-lemma.ensures.well_formed states c.requires.states fault
     (subst (λ n. IsRefusalOf n (IsRefusedState grm states) fault) (sym len) h)) c.state_tables.ensures.refused

@@ -17,6 +17,6 @@ returns g c =
     ok_both c.find_accesses_by_edges.result (λ accesses. AreRightAccesses table (2 ^ 64 - 1) choices (accesses_of index accesses.items))
     (λ accesses. NoStepIsOpen (2 ^ 64 - 1) (accesses_of index accesses.items) edges) (λ accesses. AreAccessStrings grm graph table (2 ^ 64 - 1) (accesses_of index accesses.items))
     (λ accesses right done.
-    are_accesses grm graph table c.start_prod-start.ensures.well_formed c.requires.built c.states_len-states.ensures.closed (2 ^ 64 - 1) choices c.requires.shortest edges are
+    are_accesses grm graph table c.start_prod-lemma.ensures.well_formed c.requires.built c.states_len-lemma.ensures.closed (2 ^ 64 - 1) choices c.requires.shortest edges are
     (accesses_of index accesses.items) right done)
     c.find_accesses_by_edges.ensures.right c.find_accesses_by_edges.ensures.done

@@ -21,7 +21,7 @@ keep_least-requires g c =
     let lent = ap (λ xs. length xs) c.deref_mut.ensures.value in
     let long = length-map items (option_map (access_of index)) in
     let count = c.levels.invariant.states in
-    edges_within index c.args.stable.now c.args.shortest.now c.args.edges.now (length c.deref_mut.result.now) c.states_len-states.ensures.closed c.requires.edges
+    edges_within index c.args.stable.now c.args.shortest.now c.args.edges.now (length c.deref_mut.result.now) c.states_len-lemma.ensures.closed c.requires.edges
     (omega (arith, lent, long, count))
 
 pub levels-smaller : goal.levels-smaller

@@ -16,7 +16,7 @@ mark-requires g c =
     let p = index c.args.pidx.0 in
     let k = c.loop-symbol.symbol-index in
     let at = symbol_at index c.prod-symbol-items.result.now (symbols_of grm p) k c.symbol-item.result c.prod-symbol-items.ensures c.loop-symbol-test.true c.symbol-item.is in
-    symbol_low grm c.start_prod-start.ensures.well_formed p c.requires.prod k (symbol_of index c.symbol-item.result) at c.loop-symbol.marks c.loop-symbol.invariant.0
+    symbol_low grm c.start_prod-lemma.ensures.well_formed p c.requires.prod k (symbol_of index c.symbol-item.result) at c.loop-symbol.marks c.loop-symbol.invariant.0
 
 pub loop-symbol-preserved : goal.loop-symbol-preserved
 loop-symbol-preserved g c =
@@ -29,7 +29,7 @@ loop-symbol-preserved g c =
     let at = symbol_at index c.prod-symbol-items.result.now symbols k c.symbol-item.result c.prod-symbol-items.ensures c.loop-symbol-test.true c.symbol-item.is in
     let rule : IsTrue (is_marked c.args.marks.now (rule_of grm p)) =
     ap (is_marked c.args.marks.now) (sym (c.from.ensures ∙ c.prod_to_rule-rule.ensures.rule)) ∙ c.if-not-marks-from.false in
-    let reached = symbol_reached grm c.start_prod-start.ensures.well_formed p c.requires.prod k s at (c.requires.marks.reached (rule_of grm p) rule) in
+    let reached = symbol_reached grm c.start_prod-lemma.ensures.well_formed p c.requires.prod k s at (c.requires.marks.reached (rule_of grm p) rule) in
     let right = c.mark.ensures.marks grm c.loop-symbol.invariant.0 reached in
     let done = MarkedAt symbols in
     let here = OnFalse_from c.mark.result _ (λ h. marked_at symbols c.mark.new.marks k s at (OnFalse_at h c.mark.ensures.closed)) in

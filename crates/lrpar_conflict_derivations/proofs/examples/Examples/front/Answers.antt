@@ -8,8 +8,8 @@ use Rattle.lrpar_conflict_derivations.proofs.examples.Examples.front.Goals as go
 pub push_all_moves-requires-clause-some : goal.push_all_moves-requires-clause-some
 push_all_moves-requires-clause-some g c =
     let index = g.StorageT.StorageIndex.index in
-    symbols_have_trees index c.args.grm.now c.args.sgraph.now c.args.stable.now 18446744073709551615 c.start_prod-start.ensures.well_formed c.requires.built
-    c.args.self.now c.requires.made (index c.args.state.0) c.requires.state c.states_len-states.ensures.closed c.self.inside.access
+    symbols_have_trees index c.args.grm.now c.args.sgraph.now c.args.stable.now 18446744073709551615 c.start_prod-lemma.ensures.well_formed c.requires.built
+    c.args.self.now c.requires.made (index c.args.state.0) c.requires.state c.states_len-lemma.ensures.closed c.self.inside.access
     (ap (λ (x : ExamplesOf). x.access) c.self.view_is) _ c.push_path.new.out.items c.new-steps.ensures.items
     (c.in_ok-push_path.ensures c.args.grm.now c.args.sgraph.now c.args.stable.now) (map (symbol_of index) c.deref-2.result.now)
     (ap (map (symbol_of index)) c.deref-2.ensures.value ∙ c.in_ok-symbols.ensures ∙ ap (λ xs. symbols_in (steps_of index xs)) c.deref.ensures.value)
@@ -17,12 +17,12 @@ push_all_moves-requires-clause-some g c =
 pub returns : goal.returns
 returns g c =
     let index = g.StorageT.StorageIndex.index in
-    let len = c.len-len.ensures in
-    let value = ap length c.as_slice-moves.ensures.value in
-    let more = c.as_slice-moves.ensures.len in
-    let fits = c.len-len.type_inv in
-    front_pushed index c.args.grm.now c.args.sgraph.now c.args.stable.now 18446744073709551615 c.start_prod-start.ensures.well_formed c.requires.built
-    c.args.self.now c.requires.made (index c.args.state.0) c.requires.state c.states_len-states.ensures.closed c.self.inside.access
+    let len = c.len-lemma.ensures in
+    let value = ap length c.as_slice-lemma.ensures.value in
+    let more = c.as_slice-lemma.ensures.len in
+    let fits = c.len-lemma.type_inv in
+    front_pushed index c.args.grm.now c.args.sgraph.now c.args.stable.now 18446744073709551615 c.start_prod-lemma.ensures.well_formed c.requires.built
+    c.args.self.now c.requires.made (index c.args.state.0) c.requires.state c.states_len-lemma.ensures.closed c.self.inside.access
     (ap (λ (x : ExamplesOf). x.access) c.self.view_is) _ c.push_path.new.out.items c.new-steps.ensures.items
     (c.in_ok-push_path.ensures c.args.grm.now c.args.sgraph.now c.args.stable.now) (map (symbol_of index) c.deref-2.result.now)
     (ap (map (symbol_of index)) c.deref-2.ensures.value ∙ c.in_ok-symbols.ensures ∙ ap (λ xs. symbols_in (steps_of index xs)) c.deref.ensures.value) _

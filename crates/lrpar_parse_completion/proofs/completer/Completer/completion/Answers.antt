@@ -27,7 +27,7 @@ returns-then-not-has_state g c =
     let some = eqb-false (length stack) 0 (sym c.is_empty.ensures ∙ c.if-is_empty.false) in
     let at = state_at index stack (length stack - 1) top (omega arith) c.index-stack-place.is in
     λ can is.
-    let yes = c.has_state.ensures.1 (state_known d c.stable-table.ensures.checked (states_of index stack) is (length stack - 1) (index top.0) at) in
+    let yes = c.has_state.ensures.1 (state_known d c.stable-lemma.ensures.checked (states_of index stack) is (length stack - 1) (index top.0) at) in
     absurd (cc)
 
 pub returns-then-not-branch : goal.returns-then-not-branch
@@ -45,8 +45,8 @@ returns-then-not-branch g c =
     let symbols : map (symbol_of index) c.prod.result.now ≡ symbols_of d.grammar p = rw c.grm-grm.ensures at c.prod.ensures in
     let rest = rest_of (symbol_of index) k c.prod.result.now (symbols_of d.grammar p) symbols in
     λ can is.
-    let walked = stack_walked d c.stable-table.ensures.checked st is (length stack - 1) s at in
-    let trees = core_trees d c.stable-table.ensures.checked can s p k (c.has_state.ensures.0 c.if-not-has_state.false) walked (c.kernel_core-dot.ensures.kernel can).core in
+    let walked = stack_walked d c.stable-lemma.ensures.checked st is (length stack - 1) s at in
+    let trees = core_trees d c.stable-lemma.ensures.checked can s p k (c.has_state.ensures.0 c.if-not-has_state.false) walked (c.kernel_core-dot.ensures.kernel can).core in
     let some = (rw c.grm-grm.ensures at c.in_ok-push_rest.ensures.some) (subst (HaveTrees d.grammar) (sym rest) trees) in
     absurd (cc)
 
@@ -73,7 +73,7 @@ items-init g c =
       known = c.kernel_core-dot.ensures.prod;
       dot = c.kernel_core-dot.ensures.dot;
       completing = λ can is.
-          completing_first d c.stable-table.ensures.checked st place (index top.0) p k new (omega (arith, many)) at (c.kernel_core-dot.ensures.kernel can) pushed;
+          completing_first d c.stable-lemma.ensures.checked st place (index top.0) p k new (omega (arith, many)) at (c.kernel_core-dot.ensures.kernel can) pushed;
     }
 
 pub returns-then-dot-eq0 : goal.returns-then-dot-eq0
@@ -98,7 +98,7 @@ returns-then-place-dot g c =
     let p = index l.prod.0 in
     let tokens = tokens_of index l.tokens.items in
     λ can is.
-    let deep = completing_deep d c.stable-table.ensures.checked st is l.place p l.dot tokens (l.invariant.completing can is) in
+    let deep = completing_deep d c.stable-lemma.ensures.checked st is l.place p l.dot tokens (l.invariant.completing can is) in
     absurd (omega (arith, deep, c.if-place-dot.true))
 
 pub returns-then-not-has_state-2 : goal.returns-then-not-has_state-2
@@ -109,7 +109,7 @@ returns-then-not-has_state-2 g c =
     let base = c.index-stack-place-in-items.result in
     let at = base_at index c.args.stack.now l.place l.dot base l.invariant.within c.index-stack-place-in-items.is in
     λ can is.
-    let known = state_known d c.stable-table.ensures.checked (states_of index c.args.stack.now) is (l.place - l.dot) (index base.0) at in
+    let known = state_known d c.stable-lemma.ensures.checked (states_of index c.args.stack.now) is (l.place - l.dot) (index base.0) at in
     let yes = c.has_state-in-items.ensures.1 known in
     absurd (cc)
 
@@ -124,8 +124,8 @@ returns-in_default g c =
     let at = base_at index c.args.stack.now l.place l.dot base l.invariant.within c.index-stack-place-in-items.is in
     let other : p ≢ start_prod d.grammar = λ is. c.items-test.true (c.from.ensures ∙ is ∙ sym (c.from-start.ensures ∙ rw c.grm.ensures at c.start_prod.ensures.number)) in
     λ can is.
-    let core = completing_base d c.stable-table.ensures.checked st is l.place p l.dot (tokens_of index l.tokens.items) (l.invariant.completing can is) (index base.0) at in
-    let walked = stack_walked d c.stable-table.ensures.checked st is (l.place - l.dot) (index base.0) at in
+    let core = completing_base d c.stable-lemma.ensures.checked st is l.place p l.dot (tokens_of index l.tokens.items) (l.invariant.completing can is) (index base.0) at in
+    let walked = stack_walked d c.stable-lemma.ensures.checked st is (l.place - l.dot) (index base.0) at in
     let none = (rw c.in_default.is at c.in_ok-next.ensures.some) (record { can = can; walked = walked; core = core; other = other }) in
     absurd (cc)
 
@@ -143,7 +143,7 @@ items-preserved g c =
       known = opened.known;
       dot = opened.dot;
       completing = λ can is.
-          completing_next d c.stable-table.ensures.checked (states_of index c.args.stack.now) is l.place (index l.prod.0) l.dot (tokens_of index l.tokens.items)
+          completing_next d c.stable-lemma.ensures.checked (states_of index c.args.stack.now) is l.place (index l.prod.0) l.dot (tokens_of index l.tokens.items)
           (l.invariant.completing can is) can (index base.0) (index c.in-Some.next.0) c.in-Some.at (tokens_of index c.find_opener.new.tokens.items) low at
           l.invariant.known opened;
     }
@@ -160,7 +160,7 @@ returns g c =
     let p = index l.prod.0 in
     let is_start : p ≡ start_prod d.grammar = sym c.from.ensures ∙ c.items-test.false ∙ c.from-start.ensures ∙ rw c.grm.ensures at c.start_prod.ensures.number in
     λ can is.
-    completing_done d c.stable-table.ensures.checked st is l.place p l.dot (tokens_of index l.tokens.items) (l.invariant.completing can is) is_start
+    completing_done d c.stable-lemma.ensures.checked st is l.place p l.dot (tokens_of index l.tokens.items) (l.invariant.completing can is) is_start
 
 pub offset_bounds-stack-place-in-items : goal.offset_bounds-stack-place-in-items
 offset_bounds-stack-place-in-items g c =

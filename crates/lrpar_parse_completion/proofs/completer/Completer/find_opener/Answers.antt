@@ -26,7 +26,7 @@ links-init g c =
       within = omega (arith, many);
       climbs = subst (λ (r : ℕ). Climbs grm d.graph d.table (rule_of grm p) r old old) (sym wanted) (climbs_none grm d.graph d.table (rule_of grm p) old);
       listed = λ must.
-          let has = opened_waits d c.stable-table.ensures.checked must.can s p links c.requires.state c.in_ok-links.ensures must.core must.other in
+          let has = opened_waits d c.stable-lemma.ensures.checked must.can s p links c.requires.state c.in_ok-links.ensures must.core must.other in
           subst (λ (xs : List LinkOf). Contains (rules_in xs) w) (sym (take_all c.len-place.result links (omega (arith, many))))
           (subst (Contains (rules_in links)) (sym wanted) has);
     }
@@ -53,7 +53,7 @@ returns-then-not-branch g c =
     record {
       opened = tt;
       some = λ must.
-          let trees = link_trees d c.stable-table.ensures.checked must.can (index c.args.state.0) (links_of index c.in_ok-links.links.items) c.requires.state
+          let trees = link_trees d c.stable-lemma.ensures.checked must.can (index c.args.state.0) (links_of index c.in_ok-links.links.items) c.requires.state
           must.walked c.in_ok-links.ensures (c.links.place - 1) (link_of index link) at in
           let some = (rw c.grm-grm.ensures at c.in_ok-push_after.ensures.some) trees in
           absurd (cc);
@@ -69,7 +69,7 @@ returns-then-is_kernel g c =
     let wanted : index link.rule.0 ≡ index l.wanted.0 = sym c.from.ensures ∙ c.if-from.false ∙ c.from-in-links.ensures in
     let pushed = (rw c.grm-grm.ensures at c.in_ok-push_after.ensures.pushed) (cc) in
     record {
-      opened = opens_here d c.stable-table.ensures.checked (index c.args.state.0) (rule_of d.grammar (index c.args.prod.0)) (index l.wanted.0)
+      opened = opens_here d c.stable-lemma.ensures.checked (index c.args.state.0) (rule_of d.grammar (index c.args.prod.0)) (index l.wanted.0)
           (links_of index c.in_ok-links.links.items) c.in_ok-links.ensures.each (l.place - 1) (link_of index link) at wanted
           (tokens_of index c.args.tokens.now.items) (tokens_of index l.tokens.items) (tokens_of index c.push_after.new.tokens.items)
           l.invariant.climbs pushed (c.is_kernel.ensures.0 c.if-is_kernel.true);
@@ -84,7 +84,7 @@ links-preserved g c =
     let link = c.index-link.result.now in
     let at = link_before index c.in_ok-links.links.items l.place link c.links-test.true l.invariant.within c.index-link.ensures in
     let wanted : index link.rule.0 ≡ index l.wanted.0 = sym c.from.ensures ∙ c.if-from.false ∙ c.from-in-links.ensures in
-    let past = climbs_past d c.stable-table.ensures.checked (index c.args.state.0) (rule_of d.grammar (index c.args.prod.0)) (index l.wanted.0)
+    let past = climbs_past d c.stable-lemma.ensures.checked (index c.args.state.0) (rule_of d.grammar (index c.args.prod.0)) (index l.wanted.0)
     (links_of index c.in_ok-links.links.items) c.in_ok-links.ensures.each (l.place - 1) (link_of index link) at wanted
     (tokens_of index c.args.tokens.now.items) (tokens_of index l.tokens.items) (tokens_of index c.push_after.new.tokens.items)
     l.invariant.climbs ((rw c.grm-grm.ensures at c.in_ok-push_after.ensures.pushed) (cc)) (λ begun. let yes = c.is_kernel.ensures.1 begun in absurd (cc)) in

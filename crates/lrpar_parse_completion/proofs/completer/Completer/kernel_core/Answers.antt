@@ -19,7 +19,7 @@ returns-then-is_empty g c =
       dot = omega arith;
       kernel = λ can.
           subst (λ (p : ℕ). IsKernelCore d.grammar d.graph s p 0) (sym number)
-          (start_core d c.stable-table.ensures.checked can s c.requires (begun_none index d.graph s cores all none));
+          (start_core d c.stable-lemma.ensures.checked can s c.requires (begun_none index d.graph s cores all none));
     }
 
 pub returns : goal.returns
@@ -32,5 +32,5 @@ returns g c =
     let all = rw c.sgraph.ensures at c.begun_cores-cores.ensures.all in
     let some = eqb-false (length cores) 0 (sym c.is_empty.ensures ∙ c.if-is_empty.false) in
     let has = begun_is index d.graph s cores 0 core all (omega arith) c.index-cores-0.is in
-    let shape = core_in_shape d.grammar d.graph d.table _ _ _ c.stable-table.ensures.checked.safe.shape has.0 in
+    let shape = core_in_shape d.grammar d.graph d.table _ _ _ c.stable-lemma.ensures.checked.safe.shape has.0 in
     record { prod = shape.0; dot = shape.1; kernel = λ can. record { core = has.0; begun = inl has.1 } }

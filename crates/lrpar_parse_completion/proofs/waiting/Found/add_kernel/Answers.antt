@@ -13,7 +13,7 @@ add-requires-clause-prod g c =
     let d = c.args.checked.now in
     let has = begun_is index d.graph (index c.args.state.0) c.begun_cores-prod-items.result.now c.loop-prod.prod-index c.loop-prod-item.result
     (rw c.sgraph.ensures at c.begun_cores-prod-items.ensures.all) c.loop-prod-test.true c.loop-prod-item.is in
-    rw c.grm-grm.ensures (core_in_shape d.grammar d.graph d.table _ _ _ c.stable-table.ensures.checked.safe.shape has.0).0
+    rw c.grm-grm.ensures (core_in_shape d.grammar d.graph d.table _ _ _ c.stable-lemma.ensures.checked.safe.shape has.0).0
 
 pub add-requires-clause-dot : goal.add-requires-clause-dot
 add-requires-clause-dot g c =
@@ -21,7 +21,7 @@ add-requires-clause-dot g c =
     let d = c.args.checked.now in
     let has = begun_is index d.graph (index c.args.state.0) c.begun_cores-prod-items.result.now c.loop-prod.prod-index c.loop-prod-item.result
     (rw c.sgraph.ensures at c.begun_cores-prod-items.ensures.all) c.loop-prod-test.true c.loop-prod-item.is in
-    rw c.grm-grm.ensures (core_in_shape d.grammar d.graph d.table _ _ _ c.stable-table.ensures.checked.safe.shape has.0).1
+    rw c.grm-grm.ensures (core_in_shape d.grammar d.graph d.table _ _ _ c.stable-lemma.ensures.checked.safe.shape has.0).1
 
 pub loop-prod-init : goal.loop-prod-init
 loop-prod-init g c =
@@ -50,7 +50,7 @@ loop-prod-preserved g c =
     let marks = l.self.marks.items in
     let marks_after = c.add.new.self.marks.items in
     let has = begun_is index d.graph s cores l.prod-index core (rw c.sgraph.ensures at c.begun_cores-prod-items.ensures.all) c.loop-prod-test.true c.loop-prod-item.is in
-    let known = (core_in_shape grm d.graph d.table s p core.1 c.stable-table.ensures.checked.safe.shape has.0).0 in
+    let known = (core_in_shape grm d.graph d.table s p core.1 c.stable-lemma.ensures.checked.safe.shape has.0).0 in
     let added = rw c.grm-grm.ensures at c.in_ok-add.ensures in
     record {
       counted = counted_more grm p core.1 links after marks marks_after added l.invariant.counted;

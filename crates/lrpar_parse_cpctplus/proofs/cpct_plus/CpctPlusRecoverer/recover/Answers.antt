@@ -33,7 +33,7 @@ returns g c =
       allowed = IfOk-weaker c.first_repairs.result _ _
           (λ repairs listed.
           linked_listed index g.LexemeT.Lexeme.parts c.new-search.result c.args.self.now c.args.point.now c.in-Some.found c.linked.result c.new-search.ensures.terms
-          c.new-search.ensures.point c.linked.ensures (rw c.in-Some.is at c.in_ok-found.ensures) (plain_sequences index repairs.items) c.shifts-shifts.ensures.stop
-          c.limit-limit.ensures.costs (rw (c.wanted.ensures.avoided, c.wanted.ensures.most, c.wanted.ensures.lists_all) at listed))
+          c.new-search.ensures.point c.linked.ensures (rw c.in-Some.is at c.in_ok-found.ensures) (plain_sequences index repairs.items) c.shifts-second_lemma.ensures.stop
+          c.limit-lemma.ensures.costs (rw (c.wanted.ensures.avoided, c.wanted.ensures.most, c.wanted.ensures.lists_all) at listed))
           c.first_repairs.ensures.first;
     }

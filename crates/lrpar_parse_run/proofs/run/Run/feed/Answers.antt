@@ -8,7 +8,7 @@ pub feed_lexeme-requires-clause-lexeme : goal.feed_lexeme-requires-clause-lexeme
 feed_lexeme-requires-clause-lexeme g c =
     let d = c.args.self.now.checked.now in
     let less = c.requires.feeds.token in
-    let all : d.table.tokens ≡ tokens_len d.grammar = c.stable-table.ensures.checked.safe.shape.tokens in
+    let all : d.table.tokens ≡ tokens_len d.grammar = c.stable-lemma.ensures.checked.safe.shape.tokens in
     record { token = omega (arith, less, all); inner = λ same. omega (arith, less, same) }
 
 pub unreachable-requires : goal.unreachable-requires

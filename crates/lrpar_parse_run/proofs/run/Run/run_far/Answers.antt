@@ -34,10 +34,10 @@ feed_lexeme-requires g c =
     let x = c.index-lexemes-at.result in
     let is = slice_get_read lexemes (length lexemes) l.at x refl c.loop-at-test.true c.index-lexemes-at.is in
     let good : (facts x).token < end_token d.grammar = good_token facts d.grammar lexemes l.at x c.requires.valid is in
-    let all : d.table.tokens ≡ tokens_len d.grammar = c.stable-table.ensures.checked.safe.shape.tokens in
+    let all : d.table.tokens ≡ tokens_len d.grammar = c.stable-lemma.ensures.checked.safe.shape.tokens in
     record {
       ready = run_is_ready l.invariant.there;
-      runs = c.stable-table.ensures.runs;
+      runs = c.stable-lemma.ensures.runs;
       lexeme = record { token = omega (arith, good, all); inner = λ same. omega (arith, good, same) };
     }
 
@@ -89,7 +89,7 @@ unreachable-requires g c =
     let action = rw end at c.in_ok-settle.ensures.action_is in
     elim c.in-Reduce.is [
       | inl (p, reduce) ↦ no_reduce index builds d _ _ c.settle.new.stack c.in_ok-settle.field-0 p settles action reduce
-      | inr (s, shift) ↦ no_shift index builds.suits d c.settle.new.stack c.in_ok-settle.field-0 s c.stable-table.ensures.runs c.in_ok-settle.ensures.run_stack action shift
+      | inr (s, shift) ↦ no_shift index builds.suits d c.settle.new.stack c.in_ok-settle.field-0 s c.stable-lemma.ensures.runs c.in_ok-settle.ensures.run_stack action shift
     ]
 
 pub settle-requires-clause-ready : goal.settle-requires-clause-ready

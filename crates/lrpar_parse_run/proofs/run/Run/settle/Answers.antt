@@ -10,7 +10,7 @@ settle_on-requires-clause-stack g c =
     let run_stack = c.requires.ready.run_stack in
     let stack : c.new-reducing.result.stack.now ≡ c.args.stack.now = ap (λ s. s.stack) c.new-reducing.ensures in
     rw stack
-    (path_is_stack d.table (rw c.stable-stable.ensures.table at c.tokens_len-tokens.ensures.end) (rw c.stable-stable.ensures.table at c.rules_len-rules.ensures.end)
+    (path_is_stack d.table (rw c.stable-stable.ensures.table at c.tokens_len-lemma.ensures.end) (rw c.stable-stable.ensures.table at c.rules_len-second_lemma.ensures.end)
     run_stack.symbols c.args.stack.now.states run_stack.path)
 
 pub returns : goal.returns

@@ -14,7 +14,7 @@ new-point-requires g c =
     let parts = g.LexerTypesT.LexemeT.Lexeme.parts in
     let self = c.args.self.now in
     let d = self.run.checked.now in
-    let made = stop_of (facts_by index parts) d self.shifts self.lexemes.now c.args.place c.args.stack.now.states c.stable-table.ensures.checked c.requires.shifts
+    let made = stop_of (facts_by index parts) d self.shifts self.lexemes.now c.args.place c.args.stack.now.states c.stable-lemma.ensures.checked c.requires.shifts
     c.requires.valid c.requires.stack c.requires.within c.requires.fails in
     record { stop = rw c.states-states.ensures made }
 

@@ -11,7 +11,7 @@ pub record_error-requires-clause-stop : goal.record_error-requires-clause-stop
 record_error-requires-clause-stop g c =
     let run_stack = c.requires.there.run_stack in
     let table = c.stable-stable.ensures.table in
-    let stack = path_is_stack c.args.self.now.run.checked.now.table (rw table at c.tokens_len-tokens.ensures.end) (rw table at c.rules_len-rules.ensures.end) run_stack.symbols c.args.stack.now.states run_stack.path in
+    let stack = path_is_stack c.args.self.now.run.checked.now.table (rw table at c.tokens_len-lemma.ensures.end) (rw table at c.rules_len-second_lemma.ensures.end) run_stack.symbols c.args.stack.now.states run_stack.path in
     record { valid = c.requires.there.valid; shifts = c.requires.shifts; stack = stack; fails = c.requires.fails; within = c.requires.there.within }
 
 pub returns-in_default : goal.returns-in_default

@@ -34,7 +34,7 @@ returns-in_ok-shift-in-Shift-clause-stack g c =
     let states = g.S.StateStack.states c.settle_on.new.stack in
     let shifts : top_action d.table t states ≡ ShiftTo (index c.in-Shift.next.0) =
     sym c.in_ok-action.ensures.action ∙ ap (plain_action index) c.in-Shift.is in
-    let run = run_of_checked d c.stable-table.ensures.checked c.stable-table.ensures.runs c.stable-table.ensures.bounds in
+    let run = run_of_checked d c.stable-lemma.ensures.checked c.stable-lemma.ensures.runs c.stable-lemma.ensures.bounds in
     let more = stack_shifted d.grammar d.table d.cap run t c.requires.token states (index c.in-Shift.next.0) c.settle_on.ensures.stack shifts in
     subst (λ (st : List ℕ). IsStack d.table st) (sym c.in_ok-shift-in-Shift.ensures.states) more
 

@@ -29,8 +29,8 @@ overflow_add-count g c =
     c.args.t c.requires.token c.args.stack.now c.reductions.stack c.take_step.new.states c.reductions.count _ _ c.requires.stack
     c.reductions.invariant.stack c.reductions.invariant.made (rw (c.grm-grm.ensures, c.stable-table.ensures.table) at c.in_ok-step.ensures.taken) c.in-Reduced.is in
     let height = length (g.S.StateStack.states c.args.stack.now) in
-    let small = subst (λ (n : ℕ). n < 2 ^ 16) c.cap-cap.ensures c.cap-cap.type_inv in
-    let short = subst (λ (n : ℕ). n < 2 ^ 64) c.height-height.ensures c.height-height.type_inv in
+    let small = subst (λ (n : ℕ). n < 2 ^ 16) c.cap-lemma.ensures c.cap-lemma.type_inv in
+    let short = subst (λ (n : ℕ). n < 2 ^ 64) c.height-second_lemma.ensures c.height-second_lemma.type_inv in
     let fits : c.reductions.count + 1 < 2 ^ 128 = most_fit c.args.self.now.cap height (most_reductions c.args.self.now.cap height) c.reductions.count small short refl more.below in
     search rules
 

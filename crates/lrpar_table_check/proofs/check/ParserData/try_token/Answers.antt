@@ -21,10 +21,10 @@ returns-in-Shift-clause-expected g c =
       λ _.
           elim c.in-Shift.is [
             | inl (next, shifts) ↦
-                shift_expected d.grammar d.table d.cap (index c.args.t.0) c.stable-table.ensures.runs (overlaid c.args.states.now) _ (overlaid c.settle_on.new.stack) by (index next.0)
+                shift_expected d.grammar d.table d.cap (index c.args.t.0) c.stable-lemma.ensures.runs (overlaid c.args.states.now) _ (overlaid c.settle_on.new.stack) by (index next.0)
                 (read ∙ ap (plain_action index) shifts)
             | inr accepts ↦
-                accept_expected d.grammar d.table d.cap (index c.args.t.0) c.stable-table.ensures.runs (overlaid c.args.states.now) _ (overlaid c.settle_on.new.stack) by
+                accept_expected d.grammar d.table d.cap (index c.args.t.0) c.stable-lemma.ensures.runs (overlaid c.args.states.now) _ (overlaid c.settle_on.new.stack) by
                 (read ∙ ap (plain_action index) accepts)
           ],
       λ _. refl,
@@ -45,10 +45,10 @@ returns-in-Reduce-clause-expected g c =
       λ expected.
           elim c.in-Reduce.is [
             | inl (p, reduces) ↦
-                absurd (reduce_unexpected d.grammar d.table d.cap (index c.args.t.0) c.stable-table.ensures.runs (overlaid c.args.states.now) _ (overlaid c.settle_on.new.stack) by (index p.0)
+                absurd (reduce_unexpected d.grammar d.table d.cap (index c.args.t.0) c.stable-lemma.ensures.runs (overlaid c.args.states.now) _ (overlaid c.settle_on.new.stack) by (index p.0)
                 (read ∙ ap (plain_action index) reduces) expected)
             | inr fails ↦
-                absurd (fail_unexpected d.grammar d.table d.cap (index c.args.t.0) c.stable-table.ensures.runs (overlaid c.args.states.now) _ (overlaid c.settle_on.new.stack) by
+                absurd (fail_unexpected d.grammar d.table d.cap (index c.args.t.0) c.stable-lemma.ensures.runs (overlaid c.args.states.now) _ (overlaid c.settle_on.new.stack) by
                 (read ∙ ap (plain_action index) fails) expected)
           ],
     )
