@@ -1,6 +1,6 @@
 -- A kernel has no core twice, so it has at most as many as the grammar has.
-use Rattle.std.proofs.Common.{◌≡◌, ◌<◌, ◌≤◌, ◌+◌, ◌*◌, ◌/◌, ◌%◌, ◌∙◌, sym, ap, subst, inl, inr, arith, ℕ, true, false, List, [], ◌∷◌, All, get_or, length, map, not, sum_by}
-use Rattle.std.specs.List.{AllByRecursion, Contains, IsDistinct, list_any}
+use Rattle.std.proofs.Common.{◌≡◌, ◌<◌, ◌≤◌, ◌+◌, ◌*◌, ◌/◌, ◌%◌, ◌∙◌, sym, ap, subst, inl, inr, arith, ℕ, false, List, [], ◌∷◌, All, get_or, length, map, not, sum_by}
+use Rattle.std.specs.List.{AllByRecursion, IsDistinct}
 use Rattle.std.proofs.Math.Dec.{eqb}
 use Rattle.std.proofs.Math.Nat.{add-mul, mul_comm, mul-le-mul_right, one-mul}
 use Rattle.std.specs.Option.{option_map_or}

@@ -1,5 +1,5 @@
 -- Each state is listed for the production of its kernel's first core, so a kernel is compared with all states that have its LR(0) cores.
-use Rattle.std.proofs.Common.{Vec, ◌≡◌, ◌<◌, ◌+◌, ◌∙◌, refl, sym, ap, subst, inl, inr, arith, ℕ, Bool, true, false, IsTrue, List, [], ◌∷◌, ◌++◌, get_or, length, map, set}
+use Rattle.std.proofs.Common.{Vec, ◌≡◌, ◌<◌, ◌+◌, ◌∙◌, refl, sym, ap, subst, inl, inr, arith, ℕ, Bool, false, IsTrue, List, [], ◌∷◌, ◌++◌, get_or, length, map, set}
 use Rattle.std.specs.List.{Contains}
 use Rattle.std.proofs.lemmas.Bool.{cases_eq, cases_lt, false≢true}
 use Rattle.std.proofs.lemmas.List.{get_or_append_left, get_or_default, get_or-map, get_or_push, get_or-set_other, get_or-set_same, length-map, length-set, length_push, map-set}

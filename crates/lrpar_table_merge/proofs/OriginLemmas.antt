@@ -1,6 +1,6 @@
 -- The kernels for which states were made. A kernel that is among those is weakly compatible with what has grown from it, so it makes no new
 -- state.
-use Rattle.std.proofs.Common.{◌≡◌, ◌<◌, ◌≤◌, ◌+◌, ◌&&◌, ◌⊎◌, ◌∙◌, refl, sym, ap, subst, inl, inr, arith, zero, suc, ℕ, Bool, true, false, IsTrue, List, [], ◌∷◌, ◌++◌, All, length, set}
+use Rattle.std.proofs.Common.{◌≡◌, ◌<◌, ◌≤◌, ◌+◌, ◌&&◌, ◌⊎◌, ◌∙◌, refl, sym, subst, inl, inr, arith, zero, suc, ℕ, Bool, false, IsTrue, List, [], ◌∷◌, ◌++◌, length, set}
 use Rattle.std.proofs.lemmas.Bool.{and_from, and_parts, cases_Bool, cases_eq, cases_lt, false≢true, or_left}
 use Rattle.std.proofs.lemmas.List.{get_or_append_left, get_or_push, get_or-set_other, get_or-set_same, length-set, length_push}
 use Rattle.std.proofs.lemmas.List.Elements.{All-push}

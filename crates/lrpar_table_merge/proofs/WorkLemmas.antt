@@ -1,15 +1,13 @@
 -- How often states can still be worked on.
-use Rattle.std.proofs.Common.{◌≡◌, ◌<◌, ◌≤◌, ◌+◌, ◌*◌, ◌-◌, ◌||◌, ◌⊎◌, ◌∙◌, refl, sym, ap, subst, inl, inr, arith, ℕ, Bool, true, false, IsTrue, List, [], ◌∷◌, ◌++◌, All, get_or, length, map, set, sum_by}
+use Rattle.std.proofs.Common.{◌≡◌, ◌<◌, ◌≤◌, ◌+◌, ◌*◌, ◌-◌, ◌||◌, ◌∙◌, refl, sym, ap, subst, inl, inr, arith, ℕ, Bool, true, false, List, [], ◌∷◌, ◌++◌, get_or, length, map, set, sum_by}
 use Rattle.std.specs.Bool.{OnFalse, OnTrue}
 use Rattle.std.proofs.Math.Nat.{add-mul, one-mul}
 use Rattle.std.proofs.lemmas.Bool.{OnFalse_at, OnFalse_from, cases_eq, cases_lt}
 use Rattle.std.proofs.lemmas.List.{get_or_default, get_or-set_other, get_or-set_same, length-set, length_push}
 use Rattle.std.proofs.lemmas.List.Sums.{sum_by-set, sum_by_push}
 use Rattle.lrpar_grammar.specs.Grammar.{Grammar}
-use Rattle.lrpar_table_first.specs.FirstRows.{total_missing}
 use Rattle.lrpar_table_items.specs.CoreOrder.{IsKernel}
 use Rattle.lrpar_table_items.specs.Cores.{core_set}
-use Rattle.lrpar_table_merge.specs.Compatible.{lookahead_rows}
 use Rattle.lrpar_table_merge.specs.Merging.{EndsTurn, NoneWaits, most_missing, waiting, work_left, work_of}
 use Rattle.lrpar_table_merge.specs.declared.merge.MergedState.{MergedState}
 use Rattle.lrpar_table_merge.proofs.BoundLemmas.{missing_within}

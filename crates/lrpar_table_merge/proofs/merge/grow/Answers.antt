@@ -1,4 +1,4 @@
-use Rattle.std.proofs.Common.{◌≡◌, ◌<◌, ◌≤◌, ◌+◌, ◌∙◌, sym, ap, subst, arith, map, length}
+use Rattle.std.proofs.Common.{◌∙◌, sym, ap, subst, arith, map}
 use Rattle.std.proofs.lemmas.Bool.{OnFalse_at, OnFalse_from, OnTrue_at}
 use Rattle.lrpar_table_first.specs.FirstRows.{total_missing}
 use Rattle.lrpar_table_items.specs.CoreOrder.{IsKernel}
@@ -6,7 +6,6 @@ use Rattle.lrpar_table_items.specs.Cores.{core_set}
 use Rattle.lrpar_table_merge.specs.Compatible.{lookahead_rows}
 use Rattle.lrpar_table_merge.specs.United.{AreUnited}
 use Rattle.lrpar_table_merge.proofs.MergingLemmas.{written_back}
-use Rattle.lrpar_table_merge.proofs.WorkLemmas.{waiting_least}
 use Rattle.lrpar_table_merge.proofs.merge.grow.Goals as goal
 
 pub returns-then-unite : goal.returns-then-unite

@@ -1,5 +1,4 @@
-use Rattle.std.proofs.Common.{◌<◌, arith, get_or, length, map}
-use Rattle.std.proofs.lemmas.Bool.{false≢true}
+use Rattle.std.proofs.Common.{arith, get_or, map}
 use Rattle.std.proofs.lemmas.List.{get_or_default}
 use Rattle.lrpar_table_items.specs.Cores.{core_set}
 use Rattle.lrpar_table_merge.specs.Merging.{kernels_of}

@@ -1,4 +1,4 @@
-use Rattle.std.proofs.Common.{◌<◌, ◌≤◌, refl, sym, subst, arith, length, map}
+use Rattle.std.proofs.Common.{sym, subst, arith, map}
 use Rattle.lrpar_grammar.specs.Grammar.{Nonterminal, Terminal}
 use Rattle.lrpar_table_items.specs.CoreOrder.{IsKernel}
 use Rattle.lrpar_table_items.specs.Cores.{core_set}

@@ -1,7 +1,6 @@
-use Rattle.std.proofs.Common.{◌≡◌, ◌<◌, ◌≤◌, ◌∙◌, inl, inr, ◌++◌, ◌∷◌, [], refl, sym, ap, subst, arith, length, not, map}
+use Rattle.std.proofs.Common.{◌≡◌, ◌<◌, ◌≤◌, ◌∙◌, inl, inr, ◌++◌, ◌∷◌, [], refl, sym, ap, subst, arith, length, not}
 use Rattle.std.proofs.lemmas.Bool.{cases_lt, false≢true}
 use Rattle.lrpar_table_items.specs.CoreOrder.{IsKernel}
-use Rattle.lrpar_table_items.specs.Cores.{core_set}
 use Rattle.lrpar_table_merge.specs.Merging.{IsMade, NoneIsCompatible, first_prod, kernels_of}
 use Rattle.lrpar_table_merge.proofs.ListedLemmas.{listed_read}
 use Rattle.lrpar_table_merge.proofs.MergingLemmas.{merging_push, too_many}

@@ -1,4 +1,4 @@
-use Rattle.std.proofs.Common.{◌≡◌, ◌<◌, ◌≤◌, ◌∙◌, refl, sym, ap, subst, arith, length, map}
+use Rattle.std.proofs.Common.{◌<◌, refl, ap, arith, length, map}
 use Rattle.lrpar_table_items.specs.Cores.{core_set}
 use Rattle.lrpar_table_merge.specs.Merging.{work_of}
 use Rattle.lrpar_table_merge.proofs.MergingLemmas.{merging_same}

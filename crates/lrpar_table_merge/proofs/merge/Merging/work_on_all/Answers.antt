@@ -1,5 +1,4 @@
-use Rattle.std.proofs.Common.{◌≡◌, ◌<◌, ◌≤◌, ◌+◌, ◌∙◌, inl, inr, arith, length}
-use Rattle.std.proofs.lemmas.Bool.{OnFalse_at}
+use Rattle.std.proofs.Common.{◌∙◌, inl, inr, arith}
 use Rattle.lrpar_table_merge.proofs.PropagateLemmas.{grown_result}
 use Rattle.lrpar_table_merge.proofs.WorkLemmas.{pass_ends, pass_more, pass_none}
 use Rattle.lrpar_table_merge.proofs.merge.Merging.work_on_all.Goals as goal
