@@ -45,7 +45,7 @@ error_same : {T E : Type 0} (result : Result T E) (P : E → Type 0) (e : E) →
 error_same (Ok x) P e is holds = tt
 error_same (Err f) P e is holds = subst P (sym is) holds
 
-module _ {T : Type 0} (limit : ℕ) (kind : YaccKind) (text : List ℕ) where
+module _ (limit : ℕ) (kind : YaccKind) (text : List ℕ) where
   -- a fault of what a grammar text doesn't have
   declared_fault : (e : YaccFault) → IsYaccFaultOf kind text e → IsFileFault limit kind text (of_declared e)
   declared_fault (RepeatedPrec span) is = is
@@ -54,7 +54,7 @@ module _ {T : Type 0} (limit : ℕ) (kind : YaccKind) (text : List ℕ) where
   declared_fault (BadNumber span) is = is
   declared_fault Memory is = tt
 
-  pub declared_refused : (result : Result T YaccFileFault) (e : YaccFault) → IsErrAnd result (λ f. f ≡ of_declared e) → IsYaccFaultOf kind text e
+  pub declared_refused : {T : Type 0} (result : Result T YaccFileFault) (e : YaccFault) → IsErrAnd result (λ f. f ≡ of_declared e) → IsYaccFaultOf kind text e
       → IfErr result (IsFileFault limit kind text)
   declared_refused result e is fault = error_same result (IsFileFault limit kind text) (of_declared e) is (declared_fault e fault)
 
@@ -72,7 +72,7 @@ module _ {T : Type 0} (limit : ℕ) (kind : YaccKind) (text : List ℕ) where
   text_fault sound StorageTooSmall is = record { sound = sound; fault_is = is }
   text_fault sound GrammarMemory is = tt
 
-  pub text_refused : (result : Result T YaccFileFault) (erased : List ℕ) (e : GrammarFault) → first_fault kind text ≡ None → erased ≡ erasure kind text
+  pub text_refused : {T : Type 0} (result : Result T YaccFileFault) (erased : List ℕ) (e : GrammarFault) → first_fault kind text ≡ None → erased ≡ erasure kind text
       → IsErrAnd result (λ f. f ≡ of_text e) → IsTextFault limit erased e → IfErr result (IsFileFault limit kind text)
   text_refused result erased e sound same is fault =
       error_same result (IsFileFault limit kind text) (of_text e) is (text_fault sound e (subst (λ s. IsTextFault limit s e) same fault))
