@@ -137,8 +137,9 @@ impl<'a> TableOptions<'a> {
     /// are propagated from the start item along the transitions of the table, and the conflicts are theirs. If there are none, the
     /// canonical table has none. A reduce/reduce conflict may come from the merging alone, if the grammar isn't LR(1).
     ///
-    /// The faults are those of `from_yacc`. With `Minimiser::Pager`, no contract says which grammars have too many states: that depends
-    /// on the order in which sets are merged. After an `Err` nothing is left.
+    /// The faults are those of `from_yacc`. With `Minimiser::Pager`, `TooManyStates` means that merging can make more than `max_states`
+    /// different kernels, or that there are more canonical item sets. Whether it makes them depends on the order in which sets are
+    /// merged. After an `Err` nothing is left.
     pub fn state_table<StorageT: StorageIndex>(
         &self,
         alloc: Global,
@@ -148,7 +149,8 @@ impl<'a> TableOptions<'a> {
         ensures built { IfOk result (AreMinimisedBy self.now.minimiser grm.now self.now.precedences) }
         ensures safe { IfOk result (AreSafe grm.now) }
         ensures room { IfOk result (HaveAtMost self.now.max_states) }
-        // As for `from_yacc`; `AcceptReduceConflict`: a merged set calls for accept and a reduction.
+        // As for `from_yacc`; with `Minimiser::Pager`, `AcceptReduceConflict`: a merged set calls for accept and a reduction, and
+        // too many states may be kernels that merging can make.
         ensures refused { IfErr result (IsRefusalBy self.now.minimiser grm.now self.now.max_states StorageT.limit) }
     {
         let none = Precedences::none(alloc);
