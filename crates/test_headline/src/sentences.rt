@@ -11,7 +11,7 @@ use lrpar_parse::RTParserBuilder;
 use lrpar_parse::parser::{Node, ParseFault};
 use lrpar_parse_lexemes::lex_api::{LexerTypes, NonStreamingLexer};
 use lrpar_table::check::{CompleteFault, ParserData};
-use lrpar_table_check::laws::complete_tables_take_sentences;
+use lrpar_table_check::laws::complete_tables_accept_sentences;
 use std::alloc::Global;
 
 /// Why nothing is known about the lexemes.
@@ -73,7 +73,7 @@ pub fn trees_are_one<StorageT: StorageIndex, LexemeT>(
 ) -> Result<(), CompleteFault>
     ensures { OnOk result ((token : LexemeT → ℕ) → HasOneTree token checked.now.grammar) }
 {
-    complete_tables_take_sentences::<LexemeT>();
+    complete_tables_accept_sentences::<LexemeT>();
     let _lemma = checked.stable();
     checked.check_complete(alloc)
 }
