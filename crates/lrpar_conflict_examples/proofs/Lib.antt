@@ -7,3 +7,6 @@ pub mod TakenLemmas
 pub mod LeftLemmas
 pub mod BeforeLemmas
 pub mod DealtLemmas
+pub mod PairLemmas
+pub mod SortedLemmas
+pub mod ReasonLemmas

@@ -2,7 +2,9 @@ pub mod Conflicts
 pub mod Fits
 pub mod ExamplesFit
 pub mod Met
+pub mod Pairs
 pub mod Merged
+pub mod NoExamples
 pub mod Words
 pub mod Texts
 pub mod Pieces

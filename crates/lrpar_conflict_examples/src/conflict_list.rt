@@ -92,7 +92,7 @@ pub(crate) fn examples_of<StorageT: StorageIndex>(
     Ok(examples)
 }
 
-// Searches a counterexample of each conflict, with what counterexamples need.
+// A counterexample of each of these conflicts, by what all of them share.
 fn each_example<StorageT: StorageIndex>(
     alloc: Global,
     grm: &YaccGrammar<StorageT>,

@@ -1,10 +1,10 @@
 //! Counterexamples of the conflicts of a table with merged item sets.
-ghost use Rattle.std.specs.Prelude.{IfOk, IfSome, IsPermutation, OnOk};
-ghost use Rattle.std.specs.Bool.{OnTrue};
-ghost use Rattle.lrpar_conflict_derivations.specs.Stored.{IsSameMove};
-ghost use Rattle.lrpar_conflict_examples.specs.Conflicts.{AreLike, table_conflicts, unmet_of};
+ghost use Rattle.std.specs.Prelude.{◌≡◌, IfErr, IfOk, IsPermutation, OnOk};
+ghost use Rattle.lrpar_table_sentences.specs.Moves.{move_of};
+ghost use Rattle.lrpar_conflict_examples.specs.Conflicts.{table_conflicts, unmet_of};
 ghost use Rattle.lrpar_conflict_examples.specs.ExamplesFit.{MergedFit};
-ghost use Rattle.lrpar_conflict_examples.specs.Merged.{AddsConflict, AddsExample, IsCanonicalOf, IsLike, KeepsExamples, conflicts_of};
+ghost use Rattle.lrpar_conflict_examples.specs.Merged.{AddsConflict, AddsExample, AreSortedBy, HasRoom, IsCanonicalOf, IsComparedTo, IsDealt, IsFirstOf, IsSetApart, KeepsExamples, SaysWhetherLies, are_alike, conflicts_of, same_move};
+ghost use Rattle.lrpar_conflict_examples.specs.NoExamples.{IsReason};
 
 use crate::conflict::ConflictExample;
 use crate::conflict_list::{example_of, table_conflicts};
@@ -36,21 +36,37 @@ pub enum NoExamples<StorageT: StorageIndex> {
 }
 
 impl<StorageT: StorageIndex> From<AllocError> for NoExamples<StorageT> {
+    ghost use Rattle.lrpar_conflict_examples.specs.declared.merged.NoExamples.TheVariants.{Memory};
+
+    ghost from_gives = { λ _ fault. fault ≡ Memory };
+
     fn from(_: AllocError) -> NoExamples<StorageT> {
         NoExamples::Memory
     }
 }
 
 impl<StorageT: StorageIndex> From<BuildFault> for NoExamples<StorageT> {
+    ghost use Rattle.lrpar_conflict_examples.specs.NoExamples.{of_build};
+
+    ghost from_gives = { λ e fault. fault ≡ of_build e };
+
     fn from(fault: BuildFault) -> NoExamples<StorageT> {
         match fault {
             BuildFault::Memory => NoExamples::Memory,
-            refusal => NoExamples::Unbuilt(refusal),
+            BuildFault::TooManyStates => NoExamples::Unbuilt(BuildFault::TooManyStates),
+            BuildFault::StorageTooSmall => NoExamples::Unbuilt(BuildFault::StorageTooSmall),
+            BuildFault::AcceptReduceConflict(set) => {
+                NoExamples::Unbuilt(BuildFault::AcceptReduceConflict(set))
+            }
         }
     }
 }
 
 impl<StorageT: StorageIndex> From<ExampleFault<StorageT>> for NoExamples<StorageT> {
+    ghost use Rattle.lrpar_conflict_examples.specs.NoExamples.{of_example};
+
+    ghost from_gives = { λ e fault. fault ≡ of_example e };
+
     fn from(fault: ExampleFault<StorageT>) -> NoExamples<StorageT> {
         match fault {
             ExampleFault::Unproductive(rule) => NoExamples::Unproductive(rule),
@@ -94,7 +110,7 @@ struct Canonical<StorageT: StorageIndex> {
     // For each of its states whether a parse can meet it.
     marks: Vec<bool>,
     // Its states and those of the table with merged item sets.
-    pairs: Pairs<StorageT>,
+    pairs: Pairs,
 }
 
 // A drop of its own: code that drops one then has one call to prove.
@@ -119,10 +135,11 @@ impl<StorageT: StorageIndex> Drop for Canonical<StorageT> {
 
 /// Counterexamples of the conflicts of a table of the grammar that was built with merged item sets and with these precedences.
 ///
-/// They are looked for in the canonical table, which is built without the precedences, with at most `max_states` states. A conflict has the
-/// counterexample of the first canonical conflict with the same token and the same two moves, if that is in a state that a parse can meet,
-/// and to which a path of shifts and gotos leads that leads to the conflict's state in `stable`. The other conflicts are listed apart. If
-/// there are no conflicts, nothing is built.
+/// They are looked for in the canonical table, which is built without the precedences, with at most `max_states` states. A canonical conflict
+/// lies in one of `stable` if it has the same token and the same two moves, if a parse can meet its state, and if a path of shifts and gotos
+/// leads to its state that leads to the other's state in `stable`. A conflict has the counterexample of the first canonical conflict that
+/// lies in it. The others are listed apart: as unmet if no path leads to their state, otherwise as conflicts of the merging. If there are no
+/// conflicts, nothing is built.
 ///
 /// `bound` is that of `conflict_examples`. `Unbuilt` says, as `from_yacc`, why there is no canonical table; `Unproductive` names, as in
 /// `Examples::new`, the first rule that the grammar reaches from its start and that derives no text; `Memory` says that an allocation
@@ -138,6 +155,11 @@ pub fn conflict_examples_by<StorageT: StorageIndex>(
     ensures fit { IfOk result (MergedFit grm.now) }
     // Each conflict of the table is in one of the three lists, as often as the table lists it, and they have no others.
     ensures all { IfOk result (λ found. IsPermutation (table_conflicts stable.now) (conflicts_of StorageT.index found)) }
+    // It is with an example if and only if a canonical conflict lies in it: that of the first one. It is unmet if and only if no path leads
+    // to its state.
+    ensures sorted { IfOk result (AreSortedBy StorageT.index grm.now precedences.now stable.now max_states bound) }
+    // A rule is unproductive, or the canonical table can't be built.
+    ensures refused { IfErr result (IsReason StorageT.index grm.now max_states StorageT.limit) }
 {
     let mut found = MergedConflicts {
         examples: Vec::new(alloc),
@@ -164,7 +186,10 @@ impl<StorageT: StorageIndex> Canonical<StorageT> {
         merged: &StateTable<StorageT>,
         max_states: usize,
     ) -> Result<Self, NoExamples<StorageT>>
-        ensures { IfOk result (IsCanonicalOf StorageT.index grm.now usize.MAX) }
+        ensures canonical { IfOk result (IsCanonicalOf StorageT.index grm.now usize.MAX) }
+        ensures room { IfOk result (HasRoom max_states) }
+        ensures compared { IfOk result (IsComparedTo precedences.now merged.now) }
+        ensures refused { IfErr result (IsReason StorageT.index grm.now max_states StorageT.limit) }
     {
         let (sgraph, stable) = from_yacc(alloc, grm, max_states)?;
         let shared = Examples::new(alloc, grm, &sgraph, &stable)?;
@@ -181,17 +206,23 @@ impl<StorageT: StorageIndex> Canonical<StorageT> {
         })
     }
 
-    // Whether a parse can meet this state, and a path leads to it that leads to the other one in the other table.
-    fn is_within(&self, state: StIdx<StorageT>, other: StIdx<StorageT>) -> bool {
-        is_met(&self.marks, state) && self.pairs.are_paired(state, other)
+    // Whether its conflict lies in that of the other table: at the same token, with the same moves, in a state that a parse can meet, and to
+    // which a path leads that leads to the other's state.
+    fn lies_in(&self, own: UnmetConflict<StorageT>, conflict: UnmetConflict<StorageT>) -> bool
+        ensures { SaysWhetherLies StorageT.index self.now conflict own result }
+    {
+        let (state, other) = (usize::from(own.state), usize::from(conflict.state));
+        are_alike(own, conflict)
+            && is_met(&self.marks, own.state)
+            && self.pairs.are_paired(state, other)
     }
 
-    // Its first conflict at the same token with the same moves, in a state that is within that of the other table.
-    fn like(&self, conflict: UnmetConflict<StorageT>) -> Option<UnmetConflict<StorageT>>
-        ensures { IfSome result (IsLike StorageT.index self.now.listed.items conflict) }
+    // Its first conflict that lies in that of the other table.
+    fn first_in(&self, conflict: UnmetConflict<StorageT>) -> Option<UnmetConflict<StorageT>>
+        ensures { IsFirstOf StorageT.index self.now conflict result }
     {
         for own in &self.listed {
-            if are_alike(*own, conflict) && self.is_within(own.state, conflict.state) {
+            if self.lies_in(*own, conflict) {
                 return Some(*own);
             }
         }
@@ -204,7 +235,7 @@ fn are_alike<StorageT: StorageIndex>(
     one: UnmetConflict<StorageT>,
     other: UnmetConflict<StorageT>,
 ) -> bool
-    ensures { OnTrue result (AreLike StorageT.index one other) }
+    ensures { result ≡ are_alike (unmet_of StorageT.index one) (unmet_of StorageT.index other) }
 {
     usize::from(one.token) == usize::from(other.token)
         && are_same(one.first, other.first)
@@ -213,12 +244,17 @@ fn are_alike<StorageT: StorageIndex>(
 
 // Whether two moves are the same.
 fn are_same<StorageT: StorageIndex>(one: Move<StorageT>, other: Move<StorageT>) -> bool
-    ensures { OnTrue result (IsSameMove StorageT.index one other) }
+    ensures { result ≡ same_move (move_of StorageT.index one) (move_of StorageT.index other) }
 {
-    match (one, other) {
-        (Move::Take(token), Move::Take(same)) => usize::from(token) == usize::from(same),
-        (Move::Make(prod), Move::Make(same)) => usize::from(prod) == usize::from(same),
-        _ => false,
+    match one {
+        Move::Take(own) => match other {
+            Move::Take(token) => usize::from(own) == usize::from(token),
+            Move::Make(_) => false,
+        },
+        Move::Make(own) => match other {
+            Move::Take(_) => false,
+            Move::Make(prod) => usize::from(own) == usize::from(prod),
+        },
     }
 }
 
@@ -235,8 +271,9 @@ fn push<StorageT: StorageIndex>(
     requires fit { MergedFit grm.now found.old }
     ensures fit { OnOk result (MergedFit grm.now found.new) }
     ensures all { OnOk result (AddsConflict StorageT.index (unmet_of StorageT.index conflict) found.old found.new) }
+    ensures dealt { OnOk result (IsDealt StorageT.index grm.now canonical.now bound conflict found.old found.new) }
 {
-    match canonical.like(conflict) {
+    match canonical.first_in(conflict) {
         Some(own) => {
             let (sgraph, stable) = (&canonical.sgraph, &canonical.stable);
             let shared = &canonical.shared;
@@ -267,8 +304,9 @@ fn push_apart<StorageT: StorageIndex>(
 ) -> Result<(), AllocError>
     ensures kept { OnOk result (KeepsExamples found.old found.new) }
     ensures all { OnOk result (AddsConflict StorageT.index (unmet_of StorageT.index conflict) found.old found.new) }
+    ensures apart { OnOk result (IsSetApart canonical.now conflict (StorageT.index conflict.state.0) found.old found.new) }
 {
-    if canonical.pairs.is_paired(conflict.state) {
+    if canonical.pairs.is_paired(usize::from(conflict.state)) {
         found.merged.push(conflict)?;
     } else {
         found.unmet.push(conflict)?;
