@@ -39,11 +39,11 @@ pub record IsCanonicalOf {S : Type 0} (index : S → ℕ) (g : Grammar) (largest
   pub ready : IsReady g canonical.sgraph canonical.stable largest canonical.shared
   pub listed : unmet_in index canonical.listed.items ≡ table_conflicts canonical.stable
 
--- it has at most so many states
+-- the canonical table has at most this number of states
 abbrev pub HasRoom : {S : Type 0} → ℕ → Canonical S → Type 0
 HasRoom most = λ canonical. graph_len canonical.sgraph ≤ most
 
--- its states that can be met, and its pairs with the states of the table with merged item sets
+-- the states of the canonical table that can be met, and their pairs with those of the table with merged item sets
 pub record IsComparedTo {S : Type 0} (precedences : PrecedenceLists) (merged : Table) (canonical : Canonical S) : Type 0 where
   pub met : AreMet precedences canonical.stable canonical.marks.items
   pub pairs : HasAllPairs canonical.stable merged canonical.pairs
@@ -63,14 +63,14 @@ are_alike one other = one.token == other.token && same_move one.first other.firs
 abbrev pub lies_in : List Bool → List (List ℕ) → ConflictOf → ConflictOf → Bool
 lies_in marks rows conflict own = are_alike own conflict && is_marked marks own.state && has_pair rows own.state conflict.state
 
--- the same of the code's canonical table
+-- whether the canonical conflict lies in the other one, by what the code keeps of the canonical table
 abbrev pub lies_by : {S : Type 0} → Canonical S → ConflictOf → ConflictOf → Bool
 lies_by canonical conflict own = lies_in canonical.marks.items (rows_in canonical.pairs) conflict own
 
 abbrev pub SaysWhetherLies : {S : Type 0} → (S → ℕ) → Canonical S → UnmetConflict S → UnmetConflict S → Bool → Type 0
 SaysWhetherLies index canonical conflict own result = result ≡ lies_by canonical (unmet_of index conflict) (unmet_of index own)
 
--- the first of its conflicts that lies in this one
+-- the first canonical conflict that lies in this one
 abbrev pub first_in : {S : Type 0} → (S → ℕ) → Canonical S → UnmetConflict S → Option ConflictOf
 first_in index canonical conflict = find (lies_by canonical (unmet_of index conflict)) (unmet_in index canonical.listed.items)
 

@@ -15,7 +15,7 @@ pub data IsPairStep (one other : Table) (s q next beside : ℕ) : Type 0 where
   BothShift : (t : ℕ) → action_of one s t ≡ ShiftTo next → action_of other q t ≡ ShiftTo beside → IsPairStep one other s q next beside
   BothGo : (r : ℕ) → goto_of one s r ≡ Some next → goto_of other q r ≡ Some beside → IsPairStep one other s q next beside
 
--- the same path leads to state s of one table and to state q of the other: the least set of pairs that has the two starts and, with a pair,
+-- states s of one table and q of the other to which one path leads: the least set of pairs that has the two starts and, with a pair,
 -- each one that a step of both tables leads to
 pub data ArePaired (one other : Table) : ℕ → ℕ → Type 0 where
   BothStart : ArePaired one other one.start other.start
@@ -30,7 +30,7 @@ pub record PairLists : Type 0 where
 abbrev pub has_pair : List (List ℕ) → ℕ → ℕ → Bool
 has_pair rows s q = list_any (λ x. x == q) (slice_index_or rows s [])
 
--- they have state q in some pair
+-- the rows have some pair with state q
 abbrev pub HasSomePair : List (List ℕ) → ℕ → Type 0
 HasSomePair rows q = (s : ℕ) × IsTrue (has_pair rows s q)
 
@@ -77,7 +77,7 @@ AddsPairs pairs old new =
 abbrev pub IsFollowed : Table → Table → List (ℕ × ℕ) → ℕ × ℕ → Type 0
 IsFollowed one other found pair = (next beside : ℕ) → IsPairStep one other pair.0 pair.1 next beside → Contains found (next, beside)
 
--- the same of the code
+-- what the code's pairs are in plain lists
 abbrev pub pairs_in : Pairs → PairLists
 pairs_in pairs = record { rows = map (λ row. row.items) pairs.rows.items; found = pairs.found.items }
 
@@ -97,7 +97,7 @@ AddsAll pairs old new = AddsPairs pairs (pairs_in old) (pairs_in new)
 abbrev pub AreBelow : ℕ → List (ℕ × ℕ) → Type 0
 AreBelow n pairs = All (λ pair. pair.0 < n) pairs
 
--- so many rows without anything in them
+-- this number of rows, all empty
 pub record AreEmptyRows (n : ℕ) (rows : List (List ℕ)) : Type 0 where
   pub len : length rows ≡ n
   pub none : (s : ℕ) → slice_index_or rows s [] ≡ []
@@ -114,14 +114,14 @@ abbrev pub goto_pair : ℕ → Option ℕ → List (ℕ × ℕ)
 goto_pair next (Some beside) = (next, beside) ∷ []
 goto_pair next None = []
 
--- those to which one step of both tables leads from states s and q
+-- the pairs to which one step of both tables leads from states s and q
 abbrev pub shift_pairs : Table → ℕ → List (ℕ × TableAction) → List (ℕ × ℕ)
 shift_pairs other q entries = flat_map (λ entry. shift_pair entry.1 (action_of other q entry.0)) entries
 
 abbrev pub goto_pairs : Table → ℕ → List (ℕ × ℕ) → List (ℕ × ℕ)
 goto_pairs other q entries = flat_map (λ entry. goto_pair entry.1 (goto_of other q entry.0)) entries
 
--- these are they
+-- the pairs are exactly those to which one step of both tables leads from states s and q
 abbrev pub AreNextPairs : {A : Type 0} → Table → Table → ℕ → ℕ → Vec (ℕ × ℕ) A → Type 0
 AreNextPairs one other s q = λ pairs. (next beside : ℕ) → Contains pairs.items (next, beside) ↔ IsPairStep one other s q next beside
 
