@@ -135,7 +135,7 @@ pub record AreSorted {S : Type 0} (index : S → ℕ) (g : Grammar) (graph : Gra
   pub unmet : AllByRecursion (IsUnmet tables) (unmet_in index found.unmet.items)
   pub merged : AllByRecursion (ComesOfMerging tables) (unmet_in index found.merged.items)
 
--- each conflict is in its list, by a canonical table of the grammar with at most so many states. If there are no conflicts, none is needed
+-- each conflict is in its list, by a canonical table of the grammar with at most `most` states. If there are no conflicts, none is needed
 pub data AreSortedBy {S : Type 0} (index : S → ℕ) (g : Grammar) (precedences : PrecedenceLists) (merged : Table) (most bound : ℕ) (found : MergedConflicts S) : Type 0 where
   WithoutConflicts : merged.conflicts ≡ None → AreSortedBy index g precedences merged most bound found
   ByCanonical : (graph : Graph) (canonical : Table) → IsBuilt g graph canonical → graph_len graph ≤ most
