@@ -122,13 +122,13 @@ fn push_by_list(
     call: Call,
 ) -> Result<(), AllocError> {
     let mut stack = Vec::from_slice(alloc, states)?;
-    push_answer(out, call(data, &mut stack, call)?);
+    push_answer(out, call_at(data, &mut stack, call)?);
     push_states(out, &stack);
     Ok(())
 }
 
 // What the call returns at the list.
-fn call(
+fn call_at(
     data: &ParserData<u32>,
     stack: &mut Vec<StIdx<u32>>,
     call: Call,
