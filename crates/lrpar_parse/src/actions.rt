@@ -132,7 +132,7 @@ fn pop_arguments<T: Drop>(
 ) -> Result<Vec<T>, AllocError>
     requires deep { count ≤ length entries.old.items }
     ensures kept { OnOk result (Pops count entries.old entries.new) }
-    ensures arguments { IfOk result (λ args. args.items ≡ pop_arguments (on_top count entries.old.items)) }
+    ensures arguments { IfOk result (λ args. args.items ≡ arguments_of (on_top count entries.old.items)) }
 {
     pop_mapped(alloc, count, entries, &|entry: Placed<T>| entry.argument)
 }
