@@ -1,12 +1,12 @@
 #!/usr/bin/env python3
 """Looks whether the repository keeps the rules of the house: house.py [CHECK ..]
 
-    comments    no comment of src or specs says 'the same by ..' in place of what is meant, and none of specs leans on the one above
+    comments    no comment of src or specs says 'the same by ..' in place of what is meant, and none of specs needs the one above
     verbs       what changes something, or has no result, is named by a verb
     words       a word of house/words.txt is used where it has its one meaning
-    subjects    the subject of a crate is told in crates.txt, and each page names the crates that there are
+    subjects    crates.txt alone says what a crate is about, and each page names the crates that there are
     documents   the pages are short, their links lead somewhere, and what they count is right
-    gate        the gate is told in CONTRIBUTING alone
+    gate        CONTRIBUTING alone describes the gate
 
 Without a name all checks are made. Prints one line for each finding, FILE:LINE: WHAT, and the status is then 1. The findings that stay
 are in house/exceptions.txt, each with a reason; an exception that no finding needs is a finding, too."""

@@ -1,4 +1,4 @@
-"""No comment of `src` or `specs` says 'the same by ..' in place of what is meant, and none of `specs` leans on the definition above it.
+"""No comment of `src` or `specs` says 'the same by ..' in place of what is meant, and none of `specs` needs the definition above it.
 
 Comments of `proofs` may do both: who reads them has the lemma above in sight."""
 
@@ -11,7 +11,7 @@ COMMENT = re.compile(r"^\s*(?://[/!]?|--) ?(.*)$")
 ALONE = re.compile(
     r"(?:^|[.!?] )(?:The|the) same(?:$|[,.:;]| (?:by|with|without|for|of|as|if|over|at|after|before|in|on|but|when|where|to|from|and)\b)"
 )
-# An auditor reads a definition as a row of a table, without the rows above: its comment doesn't lean on them.
+# An auditor reads a definition as a row of a table, without the rows above: its comment doesn't need them.
 POINTS_BACK = re.compile(r"(?:the same|its?|they|those|and|or|nor|such|so|if (?:it|they) d(?:o|id))\b", re.I)
 
 
@@ -35,4 +35,4 @@ def findings():
                     shown = text[match.start() :].lstrip(".!? ")[:60]
                     yield Finding(named(path), line, f"a comment says '{shown}', and not what is meant")
                 elif folder == "specs" and POINTS_BACK.match(text):
-                    yield Finding(named(path), line, f"a definition is told by '{text[:60]}'")
+                    yield Finding(named(path), line, f"the comment of a definition needs the one above: '{text[:60]}'")

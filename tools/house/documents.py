@@ -74,13 +74,13 @@ def costs():
     """Crates that the table of costs lacks, or has though there are none, and a row of sums that aren't the sums."""
     text = COSTS.read_text() if COSTS.exists() else ""
     rows = {match.group(1): (line_of(text, match.start()), [number(cell) for cell in match.groups()[1:]]) for match in COST.finditer(text)}
-    line, told = rows.pop(SUM, (1, []))
+    line, printed = rows.pop(SUM, (1, []))
     for crate in sorted(set(crates()) - rows.keys()):
         yield Finding(named(COSTS), line, f"the table of costs lacks `{crate}`")
     for crate in sorted(rows.keys() - set(crates())):
         yield Finding(named(COSTS), rows[crate][0], f"the table of costs has `{crate}`, which is no crate")
     sums = [sum(cells) for cells in zip(*(cells for _, cells in rows.values()))]
-    if told != sums:
+    if printed != sums:
         yield Finding(named(COSTS), line, f"the row of sums of the table of costs should have {sums}")
 
 

@@ -1,4 +1,4 @@
-"""The gate is told in CONTRIBUTING alone."""
+"""CONTRIBUTING alone describes the gate."""
 
 from public import ROOT
 from sources import Finding

@@ -1,4 +1,4 @@
-"""The subject of a crate is told in crates.txt, and each page names the crates that there are."""
+"""crates.txt alone says what a crate is about, and each page names the crates that there are."""
 
 import re
 
