@@ -178,7 +178,7 @@ pub fn conflict_examples_by<StorageT: StorageIndex>(
 }
 
 impl<StorageT: StorageIndex> Canonical<StorageT> {
-    // That of the grammar, and how its states and those of the other table are paired.
+    // The canonical table of the grammar, and the pairs of its states with those of the other table.
     fn new(
         alloc: Global,
         grm: &YaccGrammar<StorageT>,
@@ -206,7 +206,7 @@ impl<StorageT: StorageIndex> Canonical<StorageT> {
         })
     }
 
-    // Whether its conflict lies in that of the other table: at the same token, with the same moves, in a state that a parse can meet, and to
+    // Whether a canonical conflict lies in one of the other table: at the same token, with the same moves, in a state that a parse can meet, and to
     // which a path leads that leads to the other's state.
     fn lies_in(&self, own: UnmetConflict<StorageT>, conflict: UnmetConflict<StorageT>) -> bool
         ensures { SaysWhetherLies StorageT.index self.now conflict own result }
@@ -217,7 +217,7 @@ impl<StorageT: StorageIndex> Canonical<StorageT> {
             && self.pairs.are_paired(state, other)
     }
 
-    // Its first conflict that lies in that of the other table.
+    // The first canonical conflict that lies in one of the other table.
     fn first_in(&self, conflict: UnmetConflict<StorageT>) -> Option<UnmetConflict<StorageT>>
         ensures { IsFirstOf StorageT.index self.now conflict result }
     {

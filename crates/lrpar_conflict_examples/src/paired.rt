@@ -34,7 +34,7 @@ impl Pairs {
         ensures { IfOk result (HasAllPairs one.now other.now) }
     {
         // The proof needs that both tables are closed.
-        let _states = other.states_len();
+        let _lemma = other.states_len();
         let rows = empty_rows(alloc, one.states_len())?;
         let mut pairs = Pairs {
             rows,
@@ -103,7 +103,7 @@ impl Pairs {
     }
 }
 
-// So many empty rows.
+// `len` empty rows.
 fn empty_rows(alloc: Global, len: usize) -> Result<Vec<Vec<usize>>, AllocError>
     ensures { IfOk result (HasEmptyRows len) }
 {
@@ -127,7 +127,7 @@ fn next_pairs<StorageT: StorageIndex>(
     ensures { IfOk result (AreNextPairs one.now other.now state paired) }
 {
     // The proof needs that the states have numbers of the storage type.
-    let _states = (one.states_len(), other.states_len());
+    let _lemma = (one.states_len(), other.states_len());
     let here = state_of(state);
     let there = state_of(paired);
     let mut pairs = Vec::new(alloc);

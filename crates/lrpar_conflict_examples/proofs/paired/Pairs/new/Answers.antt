@@ -17,7 +17,7 @@ places-init g c =
     let old : PairLists = record { rows = map (λ row. row.items) c.in_ok-rows.rows.items; found = c.new.result.items } in
     let both =
     first_found c.args.one.now c.args.other.now c.states_len.result c.from.result c.from-2.result old (pairs_in c.add.new.self) c.states_len.ensures.closed
-    c.states_len-states.ensures.closed c.states_len.ensures.states (c.from.ensures ∙ c.start_state.ensures.start) (c.from-2.ensures ∙ c.start_state-2.ensures.start)
+    c.states_len-lemma.ensures.closed c.states_len.ensures.states (c.from.ensures ∙ c.start_state.ensures.start) (c.from-2.ensures ∙ c.start_state-2.ensures.start)
     c.in_ok-rows.ensures c.new.ensures.items c.in_ok-add.ensures.added in
     record { found = both.0; start = both.1; followed = λ k low. absurd (omega (arith, low)) }
 
