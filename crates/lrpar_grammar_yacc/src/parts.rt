@@ -73,7 +73,11 @@ pub fn part_at(kind: YaccKind, expected: Expected, rest: &[u8]) -> Option<Part>
         Expected::RuleColon => type_at(kind, rest),
         Expected::NextSymbol => symbol_at(rest),
         Expected::TextEnd => programs_at(rest),
-        _ => None,
+        Expected::StartName
+        | Expected::FirstToken
+        | Expected::EppName
+        | Expected::EppText
+        | Expected::NextRule => None,
     }
 }
 
