@@ -3,9 +3,10 @@ use Rattle.std.proofs.Common.{◌≡◌, ◌-◌, ◌∙◌, ℕ, List, [], ◌�
 use Rattle.std.specs.List.{AllZip}
 use Rattle.lrpar_grammar_places.specs.Span.{Extent}
 use Rattle.lrpar_grammar.specs.Tree.{Tree, Forest, Leaf, Branch, Nil, Cons}
-use Rattle.lrpar_parse_run.specs.Placed.{IsPlacedLexeme, IsPlacedValue, arguments_of, span_before, spans_of}
-use Rattle.lrpar_parse_run.specs.Spans.{last_part, last_span, span_after, span_over}
-use Rattle.lrpar_parse_run.specs.declared.placed.Placed.{Placed}
+use Rattle.lrpar_parse_lexemes.specs.PlacedSpans.{arguments_of, last_part, span_before, span_over, spans_of}
+use Rattle.lrpar_parse_run.specs.Placed.{IsPlacedLexeme, IsPlacedValue}
+use Rattle.lrpar_parse_run.specs.Spans.{last_span, span_after}
+use Rattle.lrpar_parse_lexemes.specs.declared.placed.Placed.{Placed}
 use Rattle.lrpar_parse_run.proofs.PlacedLemmas.{same_ends}
 use Rattle.lrpar_parse.specs.Acted.{ActedTo, AllActedTo}
 use Rattle.lrpar_parse_run.specs.RunStack.{AllRepresent, Represents}

@@ -10,7 +10,7 @@ use Rattle.lrpar_parse.specs.Parse.{ParsesTo}
 use Rattle.lrpar_parse_run.specs.RunStack.{Represents}
 use Rattle.lrpar_parse_run.specs.Subject.{Subject}
 use Rattle.lrpar_parse_run.specs.Placed.{IsPlacedLexeme, IsPlacedValue}
-use Rattle.lrpar_parse_run.specs.declared.placed.Placed.{Placed}
+use Rattle.lrpar_parse_lexemes.specs.declared.placed.Placed.{Placed}
 use Rattle.lrpar_parse_errors.specs.declared.errors.LexParseError.{LexParseError}
 use Rattle.lrpar_parse_run.specs.declared.values.AStackType.{AStackType}
 use Rattle.lrpar_parse_run.specs.declared.values.AStackType.TheVariants.{ActionType, Lexeme}

@@ -1,3 +1,4 @@
 pub mod RepairLemmas
 pub mod PlaceLemmas
 pub mod SpacesLemmas
+pub mod PlacedLemmas

@@ -5,3 +5,5 @@ pub mod Repairs
 pub mod FaultText
 pub mod Views
 pub mod Strings
+pub mod PlacedSpans
+pub mod RisingSpans

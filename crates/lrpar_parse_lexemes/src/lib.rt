@@ -3,6 +3,7 @@
 
 pub mod laws;
 pub mod lex_api;
+pub mod placed;
 pub mod places;
 pub mod pp_fault;
 pub mod repairs;

@@ -5,7 +5,6 @@ pub mod RisingLemmas
 pub mod MovesLemmas
 pub mod RunningLemmas
 pub mod FarLemmas
-pub mod PlacedLemmas
 pub mod StartLemmas
 pub mod AskedLemmas
 pub mod CompleteAnswerLemmas

@@ -2,26 +2,12 @@
 use Rattle.std.proofs.Common.{◌≡◌, ◌≤◌, ℕ, List, [], ◌∷◌, ◌++◌, None, Option, Some, ap, arith, refl}
 use Rattle.std.specs.List.{last_or}
 use Rattle.lrpar_grammar_places.specs.Span.{Extent}
-use Rattle.lrpar_parse_run.specs.Placed.{IsPlacedLexeme, IsPlacedValue, span_before, spans_of}
+use Rattle.lrpar_parse_lexemes.specs.PlacedSpans.{Rise, span_before, span_over, spans_of}
+use Rattle.lrpar_parse_lexemes.specs.RisingSpans.{last_start, rise_back, rise_front, spans_both}
+use Rattle.lrpar_parse_lexemes.specs.declared.placed.Placed.{Placed}
+use Rattle.lrpar_parse_run.specs.Placed.{IsPlacedLexeme, IsPlacedValue}
 use Rattle.lrpar_parse_run.specs.Rising.{KeepsRising}
-use Rattle.lrpar_parse_run.specs.Spans.{Rise, span_over}
-use Rattle.lrpar_parse_run.specs.declared.placed.Placed.{Placed}
 use Rattle.lrpar_parse_run.specs.declared.values.AStackType.{AStackType}
-
--- the start of the last of these parts; the bound, if there is none
-abbrev pub last_start : ℕ → List Extent → ℕ
-last_start low [] = low
-last_start low (part ∷ parts) = last_start part.start parts
-
--- parts that rise can be cut: those before the cut rise to the start of their last one
-rise_front : (low : ℕ) (xs ys : List Extent) (high : ℕ) → Rise low (xs ++ ys) high → Rise low xs (last_start low xs)
-rise_front low [] ys high rise = omega arith
-rise_front low (x ∷ xs) ys high rise = (rise.0, rise_front x.start xs ys high rise.1)
-
--- the parts after a cut rise from the start of the last one before it
-pub rise_back : (low : ℕ) (xs ys : List Extent) (high : ℕ) → Rise low (xs ++ ys) high → Rise (last_start low xs) ys high
-rise_back low [] ys high rise = rise
-rise_back low (x ∷ xs) ys high rise = rise_back x.start xs ys high rise.1
 
 -- parts that rise can be joined
 rise_both : (low mid : ℕ) (xs ys : List Extent) (high : ℕ) → Rise low xs mid → (last_start low xs ≤ mid → Rise (last_start low xs) ys high) → Rise low (xs ++ ys) high
@@ -44,11 +30,6 @@ rise_one low mid xs y high front above below = rise_both low mid xs (y ∷ []) h
 last_start_is : {T : Type 0} (before : Option (Placed T)) (kept : List (Placed T)) → last_start (span_before before).start (spans_of kept) ≡ (span_before (last_or before kept)).start
 last_start_is before [] = refl
 last_start_is before (e ∷ es) = last_start_is (Some e) es
-
--- the spans of two lists of entries
-pub spans_both : {T : Type 0} (xs ys : List (Placed T)) → spans_of (xs ++ ys) ≡ spans_of xs ++ spans_of ys
-spans_both [] ys = refl
-spans_both (x ∷ xs) ys = ap (λ w. x.span ∷ w) (spans_both xs ys)
 
 -- the span of a node starts no earlier than the span before it, and no later than the bound
 over_start : (mid : ℕ) (before : Extent) (parts : List Extent) (high : ℕ) → mid ≡ before.start → Rise mid parts high → (mid ≤ (span_over before parts).start) × ((span_over before parts).start ≤ high)

@@ -1,5 +1,5 @@
 -- Spans of trees. What comes before a node without children determines its span.
-use Rattle.std.specs.Prelude.{◌≡◌, ◌≤◌, ℕ, List, [], ◌∷◌}
+use Rattle.std.specs.Prelude.{◌≡◌, ℕ}
 use Rattle.lrpar_grammar_places.specs.Span.{Extent, nowhere}
 use Rattle.lrpar_grammar.specs.Tree.{Tree, Forest, Leaf, Branch, Nil, Cons}
 
@@ -17,21 +17,6 @@ abbrev mutual
   pub last_span : {X : Type 0} → (X → Extent) → Extent → Forest X → Extent
   last_span span before Nil = before
   last_span span before (Cons t ts) = last_span span (span_after span before t) ts
-
--- the last of a part and the parts after it
-abbrev pub last_part : Extent → List Extent → Extent
-last_part part [] = part
-last_part part (next ∷ parts) = last_part next parts
-
--- the span of a node whose children have these spans, after the span `before`
-abbrev pub span_over : Extent → List Extent → Extent
-span_over before [] = before
-span_over before (first ∷ others) = record { start = first.start; end = (last_part first others).end }
-
--- the starts of these parts don't decrease; they are at least `low` and at most `high`
-abbrev pub Rise : ℕ → List Extent → ℕ → Type 0
-Rise low [] high = low ≤ high
-Rise low (part ∷ parts) high = (low ≤ part.start) × Rise part.start parts high
 
 -- the part from one byte to another
 abbrev pub from_to : ℕ → ℕ → Extent

@@ -5,7 +5,6 @@
 pub mod building;
 mod far;
 pub mod nothing;
-pub mod placed;
 pub mod reducing;
 pub mod replay;
 pub mod run;

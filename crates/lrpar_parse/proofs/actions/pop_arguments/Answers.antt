@@ -1,7 +1,7 @@
 use Rattle.std.proofs.Common.{◌≡◌, rules}
 use Rattle.std.proofs.lemmas.Result.{IfOk-weaker}
 use Rattle.std.proofs.lemmas.Slice.Zip.{AllZip-map}
-use Rattle.lrpar_parse_run.specs.declared.placed.Placed.{Placed}
+use Rattle.lrpar_parse_lexemes.specs.declared.placed.Placed.{Placed}
 use Rattle.lrpar_parse_run.proofs.ReversedLemmas.{zip_wider}
 use Rattle.lrpar_parse.proofs.actions.pop_arguments.Goals as goal
 

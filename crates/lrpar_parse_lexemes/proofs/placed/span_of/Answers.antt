@@ -1,9 +1,9 @@
 use Rattle.std.proofs.Common.{◌≡◌, ◌≤◌, ◌∙◌, Option, None, Some, ap, arith, sym}
 use Rattle.std.specs.List.{last_or}
-use Rattle.lrpar_parse_run.specs.Placed.{span_before}
-use Rattle.lrpar_parse_run.specs.declared.placed.Placed.{Placed}
-use Rattle.lrpar_parse_run.proofs.PlacedLemmas.{first_before_last, last_or_at, over_nothing, over_own}
-use Rattle.lrpar_parse_run.proofs.placed.span_of.Goals as goal
+use Rattle.lrpar_parse_lexemes.specs.PlacedSpans.{span_before}
+use Rattle.lrpar_parse_lexemes.specs.declared.placed.Placed.{Placed}
+use Rattle.lrpar_parse_lexemes.proofs.PlacedLemmas.{first_before_last, last_or_at, over_nothing, over_own}
+use Rattle.lrpar_parse_lexemes.proofs.placed.span_of.Goals as goal
 
 pub new-requires-else-is_empty : goal.new-requires-else-is_empty
 new-requires-else-is_empty g c =

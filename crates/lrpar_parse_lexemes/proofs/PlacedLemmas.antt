@@ -3,10 +3,9 @@ use Rattle.std.proofs.Common.{◌≡◌, ◌≤◌, ◌-◌, ◌∙◌, ℕ, suc
 use Rattle.std.proofs.lemmas.Bool.{eqb-true}
 use Rattle.std.specs.List.{last_or, slice_get}
 use Rattle.lrpar_grammar_places.specs.Span.{Extent}
-use Rattle.lrpar_parse_run.specs.Placed.{spans_of}
-use Rattle.lrpar_parse_run.specs.PlacedRising.{rise_back, spans_both}
-use Rattle.lrpar_parse_run.specs.Spans.{Rise, last_part, span_over}
-use Rattle.lrpar_parse_run.specs.declared.placed.Placed.{Placed}
+use Rattle.lrpar_parse_lexemes.specs.PlacedSpans.{Rise, last_part, span_over, spans_of}
+use Rattle.lrpar_parse_lexemes.specs.RisingSpans.{rise_back, spans_both}
+use Rattle.lrpar_parse_lexemes.specs.declared.placed.Placed.{Placed}
 
 -- spans with the same ends
 pub same_ends : (start end start' end' : ℕ) → start ≡ start' → end ≡ end' → ◌≡◌ {A = Extent} (record { start = start; end = end }) (record { start = start'; end = end' })

@@ -1,8 +1,8 @@
 //! Arguments of a caller's actions, with their spans.
 ghost use Rattle.std.specs.Prelude.{◌≡◌};
-ghost use Rattle.lrpar_parse_run.specs.Placed.{RiseBeside, span_beside};
+ghost use Rattle.lrpar_parse_lexemes.specs.PlacedSpans.{RiseBeside, span_beside};
 
-use lrpar_grammar::span::Span;
+use lrpar_grammar_places::span::Span;
 
 /// An argument of an action, with its span.
 #[derive(Drop)]
