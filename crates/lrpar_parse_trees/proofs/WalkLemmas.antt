@@ -14,7 +14,7 @@ use Rattle.lrpar_parse_trees.specs.declared.node.Node.TheViews.{out-Node, the_le
 use Rattle.lrpar_parse_trees.specs.declared.node.Node.TheFolds.{fold_out-Node, map-Node}
 use Rattle.lrpar_parse_trees.specs.Visits.{Visit, Met, Entered, visit_eq}
 use Rattle.lrpar_parse_trees.specs.Walks.{walk, walks, walk_step, visit, children, layer_visit, layer_children, node_eq, nodes_eq}
-use Rattle.lrpar_parse_trees.proofs.WeightLemmas.{weight, weights, weight_out, weights_append}
+use Rattle.lrpar_parse_trees.proofs.WeightLemmas.{weights, weight_out, weights_append}
 
 -- one layer of a walk
 layer_walk : {X S : Type 0} (layer : Node-F X S (Node X S))

@@ -45,10 +45,13 @@ module _ {S X : Type 0} (index : S → ℕ) (parts : X → LexemeParts S) (g : G
     abbrev pub WritesTree : {T E : Type 0} → Node X S → W → W → Result T E → Type 0
     WritesTree tree old new result = WritesAll (tree_text (λ x. facts_of index (parts x)) index g input tree) contents old new result
 
+    -- if the call succeeded, the line of the root of the tree was written, at this level
+    abbrev pub WritesAt : {T E : Type 0} → ℕ → Node X S → W → W → Result T E → Type 0
+    WritesAt level tree old new result = WritesAll (met_line (λ x. facts_of index (parts x)) index g input (root_at level tree)) contents old new result
+
     -- if the call succeeded, the line of the root of the tree was written, at the level that the spaces of a line give
     abbrev pub WritesRoot : {A T E : Type 0} → String A → Node X S → W → W → Result T E → Type 0
-    WritesRoot line tree old new result =
-        WritesAll (met_line (λ x. facts_of index (parts x)) index g input (root_at (length (string_bytes line)) tree)) contents old new result
+    WritesRoot line tree old new result = WritesAt (length (string_bytes line)) tree old new result
 
     -- if the call succeeded, the tree was written as a graph
     abbrev pub WritesGraph : {T E : Type 0} → Node X S → W → W → Result T E → Type 0

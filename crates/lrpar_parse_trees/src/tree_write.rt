@@ -1,6 +1,6 @@
 //! The text of a tree, written line by line.
-ghost use Rattle.std.specs.Prelude.{◌≡◌, ◌+◌, [], OnOk};
-ghost use Rattle.lrpar_parse_trees.specs.StoredTrees.{FitsIn, RootFitsAfter, WritesRoot, WritesTree};
+ghost use Rattle.std.specs.Prelude.{◌≡◌, ◌+◌, ◌++◌, ◌∷◌, [], OnOk, length};
+ghost use Rattle.lrpar_parse_trees.specs.StoredTrees.{FitsIn, RootFits, RootFitsAfter, WritesAt, WritesRoot, WritesTree};
 ghost use Rattle.lrpar_parse_trees.specs.Written.{BeginsWithSpaces, HasOnlySpaces, IsSpaces, KeepsSpaces};
 
 use crate::node::Node;
@@ -52,9 +52,7 @@ impl<LexemeT: Lexeme<StorageT>, StorageT: StorageIndex> Node<LexemeT, StorageT> 
         loop {
             match left.split_first() {
                 Some((node, rest)) => {
-                    indent(line, below.len())?;
-                    below.push(rest)?;
-                    write_line(out, line, grm, input, node)?;
+                    write_child(out, line, below, grm, input, node, rest)?;
                     left = node.children();
                 }
                 None => match below.pop() {
@@ -64,6 +62,28 @@ impl<LexemeT: Lexeme<StorageT>, StorageT: StorageIndex> Node<LexemeT, StorageT> 
             }
         }
     }
+}
+
+// Writes the line of the root of a tree, a level deeper than the trees that are left; `rest`, the trees beside it, are left, too.
+#[tactic(auto, using(lrpar_grammar_places::proofs::FaultLemmas::nothing_done))]
+fn write_child<'a, LexemeT: Lexeme<StorageT>, StorageT: StorageIndex, W: Write>(
+    out: &mut W,
+    line: &mut String,
+    below: &mut Vec<&'a [Node<LexemeT, StorageT>]>,
+    grm: &YaccGrammar<StorageT>,
+    input: &str,
+    node: &Node<LexemeT, StorageT>,
+    rest: &'a [Node<LexemeT, StorageT>],
+) -> io::Result<()>
+    requires { BeginsWithSpaces (length below.old.items) line.old }
+    ensures text { WritesAt StorageT.index LexemeT.parts grm.now input.now W.contents (length below.new.items) node.now out.old out.new result }
+    ensures fits { OnOk result (RootFits StorageT.index LexemeT.parts grm.now input.now (length below.new.items) node.now) }
+    ensures rest { OnOk result (below.new.items ≡ below.old.items ++ rest.entry ∷ []) }
+    ensures indent { OnOk result (BeginsWithSpaces (length below.new.items) line.new) }
+{
+    indent(line, below.len())?;
+    below.push(rest)?;
+    write_line(out, line, grm, input, node)
 }
 
 // Leaves this number of the spaces that a line begins with, and adds one.

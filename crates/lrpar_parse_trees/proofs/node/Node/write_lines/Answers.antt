@@ -1,14 +1,13 @@
-use Rattle.std.proofs.Common.{◌≡◌, ◌+◌, ◌++◌, [], ◌∷◌, length, replicate, take, ap, refl, sym, ◌∙◌, subst}
+use Rattle.std.proofs.Common.{◌≡◌, ◌++◌, [], ◌∷◌, length, ap, refl, sym, ◌∙◌, subst}
 use Rattle.std.specs.List.{AllByRecursion, flat_map}
 use Rattle.std.specs.Io.KnownBytes.{Appends}
 use Rattle.std.specs.String.{string_bytes}
-use Rattle.std.proofs.lemmas.List.{length_push}
 use Rattle.lrpar_parse_trees.specs.TreeText.{met_from, root_at}
 use Rattle.lrpar_parse_trees.specs.Walks.{children}
 use Rattle.lrpar_grammar_places.proofs.FaultLemmas.{nothing_done}
 use Rattle.lrpar_parse_trees.proofs.FitsLemmas.{fit, line_of}
 use Rattle.lrpar_parse_trees.proofs.TreeTextLemmas.{fit_begins, fit_left, fit_none, left_none, text_begins, text_enter, left_falls, left_met, left_turned, turn_falls}
-use Rattle.lrpar_parse_trees.proofs.IndentLemmas.{indent_less, shorter, spaces_alone, spaces_counted}
+use Rattle.lrpar_parse_trees.proofs.IndentLemmas.{indent_less, shorter, spaces_alone}
 use Rattle.lrpar_parse_trees.proofs.WriteLemmas.{appends_both, appends_nothing}
 use Rattle.lrpar_parse_trees.proofs.node.Node.write_lines.Goals as goal
 
@@ -35,8 +34,8 @@ loop-node-init g c =
 
 pub loop-node-smaller-in-Some : goal.loop-node-smaller-in-Some
 loop-node-smaller-in-Some g c =
-    left_falls c.loop-node.below.items c.push.new.self.items c.in-Some.rest c.in-Some.node.now c.loop-node.left.now c.children-left-in-Some.result.now
-    c.in-Some.ensures.cases.0 c.in_ok-push-in-Some.ensures.items c.children-left-in-Some.ensures
+    left_falls c.loop-node.below.items c.write_child.new.below.items c.in-Some.rest c.in-Some.node.now c.loop-node.left.now c.children-left-in-Some.result.now
+    c.in-Some.ensures.cases.0 c.in_ok-write_child-in-Some.ensures.rest c.children-left-in-Some.ensures
 
 pub loop-node-preserved-in-Some : goal.loop-node-preserved-in-Some
 loop-node-preserved-in-Some g c =
@@ -46,42 +45,25 @@ loop-node-preserved-in-Some g c =
     let rest = c.in-Some.rest in
     let node = c.in-Some.node.now in
     let inner = left_met (below ++ rest ∷ []) (children node) in
-    let indented = string_bytes c.indent.new.line in
-    let here = line (root_at (length indented) node) in
+    let here = line (root_at (length c.write_child.new.below.items) node) in
     let met = fit g.StorageT.StorageIndex.index g.LexemeT.Lexeme.parts c.args.grm.now c.args.input.now in
-    let count : c.len.result ≡ length below = c.len.ensures ∙ c.loop-node.below.ok.0 in
-    let level : length indented ≡ length (below ++ rest ∷ []) =
-    spaces_counted indented (c.len.result + 1) c.in_ok-indent-in-Some.ensures ∙ ap (λ n. n + 1) count ∙ sym (length_push below rest) in
+    let level : length c.write_child.new.below.items ≡ length (below ++ rest ∷ []) = ap length c.in_ok-write_child-in-Some.ensures.rest in
     let whole : here ++ flat_map line inner ≡ flat_map line (left_met below c.loop-node.left.now) =
     text_enter line below rest node c.loop-node.left.now [] here c.in-Some.ensures.cases.0 (ap (λ n. line (root_at n node)) level) in
     record {
       text = λ last more.
-          let after : Appends (contents c.write_line-in-Some.new.out) last (flat_map line inner) =
-          (rw (c.in_ok-push-in-Some.ensures.items, c.children-left-in-Some.ensures) at more) in
+          let after : Appends (contents c.write_child.new.out) last (flat_map line inner) =
+          (rw (c.in_ok-write_child-in-Some.ensures.rest, c.children-left-in-Some.ensures) at more) in
           c.loop-node.invariant.text last (subst (Appends (contents c.loop-node.out) last) whole
-          (appends_both (contents c.loop-node.out) (contents c.write_line-in-Some.new.out) last here (flat_map line inner) c.in_ok-write_line-in-Some.ensures.text after));
+          (appends_both (contents c.loop-node.out) (contents c.write_child.new.out) last here (flat_map line inner) c.in_ok-write_child-in-Some.ensures.text after));
       fits = λ all.
           c.loop-node.invariant.fits (fit_left met below rest node c.loop-node.left.now c.in-Some.ensures.cases.0
-          (rw level at c.in_ok-write_line-in-Some.ensures.fits) (rw (c.in_ok-push-in-Some.ensures.items, c.children-left-in-Some.ensures) at all));
-      indent = subst (λ n. take n (string_bytes c.write_line-in-Some.new.line) ≡ replicate n 32) (level ∙ sym (ap length c.in_ok-push-in-Some.ensures.items))
-          c.in_ok-write_line-in-Some.ensures.indent;
+          (rw level at c.in_ok-write_child-in-Some.ensures.fits) (rw (c.in_ok-write_child-in-Some.ensures.rest, c.children-left-in-Some.ensures) at all));
+      indent = c.in_ok-write_child-in-Some.ensures.indent;
     }
-
-pub indent-requires : goal.indent-requires
-indent-requires g c =
-    subst (λ n. take n (string_bytes c.loop-node.line) ≡ replicate n 32) (sym (c.len.ensures ∙ c.loop-node.below.ok.0)) c.loop-node.invariant.indent
 
 pub write_line-requires : goal.write_line-requires
 write_line-requires g c = spaces_alone (string_bytes c.args.line.now) 0 c.requires.line
-
-pub write_line-requires-in-Some : goal.write_line-requires-in-Some
-write_line-requires-in-Some g c = spaces_alone (string_bytes c.indent.new.line) (c.len.result + 1) c.in_ok-indent-in-Some.ensures
-
-pub returns-in_err-indent-in-Some-clause-text : goal.returns-in_err-indent-in-Some-clause-text
-returns-in_err-indent-in-Some-clause-text g c = nothing_done c.from_residual-in_err-indent-in-Some.result _ _ c.from_residual-in_err-indent-in-Some.ensures.1
-
-pub returns-in_err-indent-in-Some-clause-fits : goal.returns-in_err-indent-in-Some-clause-fits
-returns-in_err-indent-in-Some-clause-fits g c = nothing_done c.from_residual-in_err-indent-in-Some.result _ _ c.from_residual-in_err-indent-in-Some.ensures.1
 
 pub loop-node-smaller : goal.loop-node-smaller
 loop-node-smaller g c =
@@ -106,17 +88,11 @@ returns-in_err-write_line-clause-text g c = nothing_done c.from_residual.result 
 pub returns-in_err-write_line-clause-fits : goal.returns-in_err-write_line-clause-fits
 returns-in_err-write_line-clause-fits g c = nothing_done c.from_residual.result _ _ c.from_residual.ensures.1
 
-pub returns-in_err-push-in-Some-clause-text : goal.returns-in_err-push-in-Some-clause-text
-returns-in_err-push-in-Some-clause-text g c = nothing_done c.from_residual-in_err-push-in-Some.result _ _ c.from_residual-in_err-push-in-Some.ensures.1
+pub returns-in_err-write_child-in-Some-clause-text : goal.returns-in_err-write_child-in-Some-clause-text
+returns-in_err-write_child-in-Some-clause-text g c = nothing_done c.from_residual-in_err-write_child-in-Some.result _ _ c.from_residual-in_err-write_child-in-Some.ensures.1
 
-pub returns-in_err-push-in-Some-clause-fits : goal.returns-in_err-push-in-Some-clause-fits
-returns-in_err-push-in-Some-clause-fits g c = nothing_done c.from_residual-in_err-push-in-Some.result _ _ c.from_residual-in_err-push-in-Some.ensures.1
-
-pub returns-in_err-write_line-in-Some-clause-text : goal.returns-in_err-write_line-in-Some-clause-text
-returns-in_err-write_line-in-Some-clause-text g c = nothing_done c.from_residual-in_err-write_line-in-Some.result _ _ c.from_residual-in_err-write_line-in-Some.ensures.1
-
-pub returns-in_err-write_line-in-Some-clause-fits : goal.returns-in_err-write_line-in-Some-clause-fits
-returns-in_err-write_line-in-Some-clause-fits g c = nothing_done c.from_residual-in_err-write_line-in-Some.result _ _ c.from_residual-in_err-write_line-in-Some.ensures.1
+pub returns-in_err-write_child-in-Some-clause-fits : goal.returns-in_err-write_child-in-Some-clause-fits
+returns-in_err-write_child-in-Some-clause-fits g c = nothing_done c.from_residual-in_err-write_child-in-Some.result _ _ c.from_residual-in_err-write_child-in-Some.ensures.1
 
 pub returns-in-None-pop-clause-text : goal.returns-in-None-pop-clause-text
 returns-in-None-pop-clause-text g c =
