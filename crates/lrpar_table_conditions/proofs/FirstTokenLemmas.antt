@@ -1,11 +1,11 @@
 -- The first token of a tree with root symbol X, followed by a token a, is in First(X, a). And lexemes that are at a place of a list.
 use Rattle.std.proofs.Common.{◌≡◌, ◌<◌, ◌+◌, ◌∙◌, refl, sym, ap, subst, arith, ℕ, zero, suc, List, [], ◌∷◌, ◌++◌, length, drop, slice_get, Some, length-append}
 use Rattle.std.proofs.Math.Seq.{drop-append_seam}
+use Rattle.std.specs.Option.{option_map_or}
 use Rattle.std.proofs.lemmas.List.{append-nil, append_assoc, drop-drop, length-drop}
 use Rattle.lrpar_grammar.specs.Grammar.{Grammar, GrammarSymbol, Nonterminal, Terminal, end_token, symbols_of}
 use Rattle.lrpar_grammar.specs.Tree.{Tree, Forest, Leaf, Branch, Nil, Cons, leaves, forest_leaves, Fits, ForestFits}
 use Rattle.lrpar_table_first.specs.First.{IsFirst, Empty, Token, Rule}
-use Rattle.lrpar_table_stacks.specs.Run.{token_at}
 
 -- the token of the first lexeme, or, if there is none, the token after the lexemes
 abbrev pub first_token : {X : Type 0} → (X → ℕ) → List X → ℕ → ℕ
@@ -44,12 +44,12 @@ module _ {X : Type 0} (token : X → ℕ) (g : Grammar) (a : ℕ) where
       (forest_first ts ss [] a fits Empty)
 
 -- the token at a place is that of the first lexeme from there on
-token_at_drop : {X : Type 0} (token : X → ℕ) (g : Grammar) (lexemes : List X) (i : ℕ)
-    → token_at token g lexemes i ≡ first_token token (drop i lexemes) (end_token g)
-token_at_drop token g [] zero = refl
-token_at_drop token g [] (suc i) = refl
-token_at_drop token g (x ∷ xs) zero = refl
-token_at_drop token g (x ∷ xs) (suc i) = token_at_drop token g xs i
+read_drop : {X : Type 0} (token : X → ℕ) (g : Grammar) (lexemes : List X) (i : ℕ)
+    → option_map_or token (slice_get lexemes i) (end_token g) ≡ first_token token (drop i lexemes) (end_token g)
+read_drop token g [] zero = refl
+read_drop token g [] (suc i) = refl
+read_drop token g (x ∷ xs) zero = refl
+read_drop token g (x ∷ xs) (suc i) = read_drop token g xs i
 
 -- the lexemes from place i up to place j are these
 pub record AreBetween {X : Type 0} (lexemes xs : List X) (i j : ℕ) : Type 0 where
@@ -69,11 +69,11 @@ between_all lexemes = record {
 
 -- the token at their first place
 pub between_token : {X : Type 0} (token : X → ℕ) (g : Grammar) (lexemes xs : List X) (i j : ℕ) → AreBetween lexemes xs i j
-    → token_at token g lexemes i ≡ first_token token xs (token_at token g lexemes j)
+    → option_map_or token (slice_get lexemes i) (end_token g) ≡ first_token token xs (option_map_or token (slice_get lexemes j) (end_token g))
 between_token {X} token g lexemes xs i j between =
-    token_at_drop token g lexemes i ∙ ap (λ (l : List X). first_token token l (end_token g)) between.at
+    read_drop token g lexemes i ∙ ap (λ (l : List X). first_token token l (end_token g)) between.at
     ∙ first_token-append token xs (drop j lexemes) (end_token g)
-    ∙ ap (first_token token xs) (sym (token_at_drop token g lexemes j))
+    ∙ ap (first_token token xs) (sym (read_drop token g lexemes j))
 
 -- if there is a first one, its place is within the list
 pub between_within : {X : Type 0} (lexemes : List X) (x : X) (xs : List X) (i j : ℕ) → AreBetween lexemes (x ∷ xs) i j → i < length lexemes
