@@ -58,7 +58,7 @@ returns-clause-states g c =
     let some = c.requires.some in
     are_merged_states c.args.grm.now c.requires.well_formed rows (omega (arith, some, count)) all c.requires.held.held states
     (omega (arith, len, within, count, c.loop-number-test.false))
-    (λ s low. so_far.given s (omega (arith, low, len)))
+    (λ s low. so_far.given s (omega (arith, low, len))) c.requires.distinct
 
 pub returns-clause-len : goal.returns-clause-len
 returns-clause-len g c =
