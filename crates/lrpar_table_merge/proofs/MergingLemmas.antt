@@ -14,7 +14,7 @@ use Rattle.lrpar_table_items.specs.Next.{AreNext, kernel_at, kernel_rows, next_k
 use Rattle.lrpar_table_items.proofs.NextLemmas.{next_begun, next_cores}
 use Rattle.lrpar_table_merge.specs.Compatible.{HaveSameCores, lr0_core}
 use Rattle.lrpar_table_merge.specs.Merging.{AreCoreRows, AreKernelsOrEmpty, AreRegistered, AreMadeOrEmpty, AreMerging, AreSplit, Goes, HaveOrigins, IsMade, MergesMore, NoneIsCompatible, Unites, first_prod, kernels_of, numbers_for}
-use Rattle.lrpar_table_merge.specs.StoredKernels.{AreMadeKernels}
+use Rattle.lrpar_table_merge.specs.StoredKernels.{AreMadeOf}
 use Rattle.lrpar_table_merge.specs.United.{AreUnited, rooms_of}
 use Rattle.lrpar_table_merge.specs.declared.merge.MergedState.{MergedState}
 use Rattle.lrpar_table_merge.specs.declared.merge.Merging.{Merging}
@@ -43,7 +43,7 @@ next_made g kernel cores symbol kernels made are items next k d low some =
 -- they are kernels that merging can make, apart from those without cores
 pub made_kernels : {S A : Type 0} (index : S → ℕ) (g : Grammar) (kernel cores : List CoreSet) (symbol : ℕ → GrammarSymbol)
     (kernels : List (Vec (CoreItems S) A)) → IsMade g kernel → AreCores g cores → AreSame (IsAmong cores) (IsInClosure g (IsAmong kernel))
-    → AreNext g cores symbol (kernel_rows index kernels) → AreMadeKernels index g kernels
+    → AreNext g cores symbol (kernel_rows index kernels) → AreMadeOf index g kernels
 made_kernels index g kernel cores symbol kernels made are items next = record {
   are = next_kernels g cores symbol (kernel_rows index kernels) are next;
   made = next_made g kernel cores symbol (kernel_rows index kernels) made are items next;

@@ -1,5 +1,5 @@
 -- Cores and kernels as the code stores them. `index` is the number that a storage number represents.
-use Rattle.std.specs.Prelude.{◌≡◌, ◌<◌, ◌||◌, ℕ, false, List, All, Vec, length, map}
+use Rattle.std.specs.Prelude.{◌≡◌, ◌<◌, ◌≤◌, ◌||◌, ℕ, false, List, All, Vec, length, map}
 use Rattle.lrpar_grammar.specs.Grammar.{Grammar}
 use Rattle.lrpar_grammar.specs.Tokens.{has, missing}
 use Rattle.lrpar_table_first.specs.FirstRows.{total_missing}
@@ -30,6 +30,10 @@ UnitesLookaheads old other new = (t : ℕ) → has new.tokens.bits.items t ≡ (
 -- fewer tokens than before are missing among the core's lookaheads
 abbrev pub LacksFewer : {S : Type 0} → CoreItems S → CoreItems S → Type 0
 LacksFewer old new = missing new.tokens.bits.items < missing old.tokens.bits.items
+
+-- there is at least one, and there are at most n
+abbrev pub AreOneTo : {X : Type 0} → ℕ → List X → Type 0
+AreOneTo n xs = (0 < length xs) × (length xs ≤ n)
 
 module _ {S : Type 0} (index : S → ℕ) where
   -- the LR(0) core is the same
@@ -65,7 +69,7 @@ module _ {S : Type 0} (index : S → ℕ) where
   IsKernelOf g kernel = IsKernel g (map (core_set index) kernel)
 
   -- the cores are a kernel that merging can make
-  pub record IsMadeKernel (g : Grammar) (kernel : List (CoreItems S)) : Type 0 where
+  pub record IsMadeOf (g : Grammar) (kernel : List (CoreItems S)) : Type 0 where
     pub is : IsKernelOf g kernel
     pub made : IsMade g (map (core_set index) kernel)
 
@@ -141,6 +145,6 @@ module _ {S : Type 0} (index : S → ℕ) where
   AreKernelsIfFilled g kernels = AreBeginnings g (kernel_rows index kernels)
 
   -- each of the lists is a kernel that merging can make, if it has any core
-  pub record AreMadeKernels {A : Type 0} (g : Grammar) (kernels : List (Vec (CoreItems S) A)) : Type 0 where
+  pub record AreMadeOf {A : Type 0} (g : Grammar) (kernels : List (Vec (CoreItems S) A)) : Type 0 where
     pub are : AreKernelsOrEmpty g (kernel_rows index kernels)
     pub made : AreMadeOrEmpty g (kernel_rows index kernels)

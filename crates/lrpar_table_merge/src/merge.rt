@@ -7,7 +7,7 @@ ghost use Rattle.lrpar_grammar.specs.Grammar.{IsWellFormed};
 ghost use Rattle.lrpar_table_merge.specs.Expansions.{AreKept};
 ghost use Rattle.lrpar_table_merge.specs.Minimised.{IsMergeFault};
 ghost use Rattle.lrpar_table_merge.specs.Merging.{AreMerging, EndsPass, EndsTurn, GoesOn, NoneWaits, work_of};
-ghost use Rattle.lrpar_table_merge.specs.StoredKernels.{AreEqualCores, AreMadeKernels, BeginsWith, CanUnite, IsMadeKernel, StaysKernel, UniteKernels};
+ghost use Rattle.lrpar_table_merge.specs.StoredKernels.{AreEqualCores, AreMadeOf, BeginsWith, CanUnite, IsMadeOf, StaysKernel, UniteKernels};
 ghost use Rattle.lrpar_table_merge.specs.StoredStates.{AreSplitStates, HasCompatibleAt, HasNoCompatible, HasNoCompatibleOf, HaveKernels, IsCompatibleWith};
 
 use crate::compatible::are_weakly_compatible;
@@ -242,7 +242,7 @@ impl<StorageT: StorageIndex> Merging<StorageT> {
         kernels: &[Vec<CoreItems<StorageT>>],
     ) -> Result<Vec<Option<usize>>, BuildFault>
         requires merging { AreMerging StorageT.index grm.now max_states StorageT.limit self.old }
-        requires kernels { AreMadeKernels StorageT.index grm.now kernels.now }
+        requires kernels { AreMadeOf StorageT.index grm.now kernels.now }
         ensures goes_on { OnOk result (GoesOn StorageT.index grm.now max_states StorageT.limit self.old self.new) }
         ensures fault { IfErr result (IsMergeFault grm.now max_states StorageT.limit) }
     {
@@ -267,7 +267,7 @@ impl<StorageT: StorageIndex> Merging<StorageT> {
         kernel: &[CoreItems<StorageT>],
     ) -> Result<usize, BuildFault>
         requires merging { AreMerging StorageT.index grm.now max_states StorageT.limit self.old }
-        requires kernel { IsMadeKernel StorageT.index grm.now kernel.now }
+        requires kernel { IsMadeOf StorageT.index grm.now kernel.now }
         ensures goes_on { OnOk result (GoesOn StorageT.index grm.now max_states StorageT.limit self.old self.new) }
         ensures fault { IfErr result (IsMergeFault grm.now max_states StorageT.limit) }
     {
@@ -318,7 +318,7 @@ impl<StorageT: StorageIndex> Merging<StorageT> {
         requires prod { prod < length self.old.by_prod.items }
         requires begins { BeginsWith StorageT.index kernel.now prod }
         requires merging { AreMerging StorageT.index grm.now max_states StorageT.limit self.old }
-        requires kernel { IsMadeKernel StorageT.index grm.now kernel.now }
+        requires kernel { IsMadeOf StorageT.index grm.now kernel.now }
         requires fresh { HasNoCompatible StorageT.index self.old kernel.now }
         ensures goes_on { OnOk result (GoesOn StorageT.index grm.now max_states StorageT.limit self.old self.new) }
         ensures fault { IfErr result (IsMergeFault grm.now max_states StorageT.limit) }

@@ -3,7 +3,7 @@ use Rattle.lrpar_grammar.specs.Grammar.{Nonterminal, Terminal}
 use Rattle.lrpar_table_items.specs.CoreOrder.{IsKernel}
 use Rattle.lrpar_table_items.specs.Cores.{core_set}
 use Rattle.lrpar_table_merge.specs.Merging.{IsMade}
-use Rattle.lrpar_table_merge.specs.StoredKernels.{AreMadeKernels}
+use Rattle.lrpar_table_merge.specs.StoredKernels.{AreMadeOf}
 use Rattle.lrpar_table_merge.proofs.MergingLemmas.{kernel_read, made_kernels, made_read}
 use Rattle.lrpar_table_merge.proofs.merge.Merging.merge_successors.Goals as goal
 
@@ -22,7 +22,7 @@ merge_kernels-requires-clause-kernels g c =
     let made : IsMade grm kernel =
     subst (λ cores. IsMade grm (map (core_set index) cores)) (sym c.deref.ensures.value)
     (made_read index grm c.args.self.now.states.items c.args.number c.index.result.now c.requires.number c.index.ensures c.requires.merging.made) in
-    subst (AreMadeKernels index grm) (sym c.deref-2.ensures.value)
+    subst (AreMadeOf index grm) (sym c.deref-2.ensures.value)
     (made_kernels index grm kernel (map (core_set index) c.at-successors.result.now.items.items) Nonterminal _ made all.cores all.items all.next.rules)
 
 pub merge_kernels-requires-2-clause-kernels : goal.merge_kernels-requires-2-clause-kernels
@@ -34,7 +34,7 @@ merge_kernels-requires-2-clause-kernels g c =
     let made : IsMade grm kernel =
     subst (λ cores. IsMade grm (map (core_set index) cores)) (sym c.deref.ensures.value)
     (made_read index grm c.args.self.now.states.items c.args.number c.index.result.now c.requires.number c.index.ensures c.requires.merging.made) in
-    subst (AreMadeKernels index grm) (sym c.deref-3.ensures.value)
+    subst (AreMadeOf index grm) (sym c.deref-3.ensures.value)
     (made_kernels index grm kernel (map (core_set index) c.at-successors.result.now.items.items) Terminal _ made all.cores all.items all.next.tokens)
 
 pub merge_kernels-requires-2-clause-merging : goal.merge_kernels-requires-2-clause-merging
