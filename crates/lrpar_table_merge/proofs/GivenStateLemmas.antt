@@ -1,5 +1,6 @@
 -- States that have the closures of their kernels, and transitions that fit, have merged item sets, if the closures are what the states hold.
-use Rattle.std.proofs.Common.{◌≡◌, ◌<◌, ◌+◌, ◌∙◌, refl, sym, ap, subst, inl, arith, ℕ, List, Option, Some, None, get_or, length, slice_get}
+use Rattle.std.proofs.Common.{◌≡◌, ◌<◌, ◌+◌, ◌∙◌, refl, sym, ap, subst, inl, inr, arith, ℕ, List, Option, Some, None, get_or, length, slice_get}
+use Rattle.std.proofs.lemmas.Bool.{cases_lt}
 use Rattle.std.proofs.lemmas.List.Elements.{Contains-get_or}
 use Rattle.std.proofs.lemmas.Option.{same_Some}
 use Rattle.lrpar_grammar.specs.Grammar.{Grammar, GrammarSymbol, IsWellFormed, Nonterminal, Terminal, rules_len, symbols_of, tokens_len}
@@ -13,10 +14,11 @@ use Rattle.lrpar_table_items.specs.Next.{HaveAfterDot, kernel_at, next_kernel}
 use Rattle.lrpar_table_items.specs.States.{AreStateRows, StateOf, sets_at, state_at}
 use Rattle.lrpar_table_items.proofs.KernelLemmas.{once_in_order}
 use Rattle.lrpar_table_items.proofs.NextLemmas.{next_cores, next_has_after_dot, next_some, next_to, some_item}
-use Rattle.lrpar_table_items.proofs.StatesLemmas.{own_of_begun, same_via}
+use Rattle.lrpar_table_items.proofs.StatesLemmas.{kernel_of_closure, own_of_begun, same_back, same_via}
 use Rattle.lrpar_table_items.proofs.SymbolLemmas.{symbol_at_below}
 use Rattle.lrpar_table_build.proofs.SafeLemmas.{advanced_from}
 use Rattle.lrpar_table_merge.specs.Compatible.{HaveSameCores, lr0_core}
+use Rattle.lrpar_table_merge.specs.Distinct.{AreDistinct, AreNew}
 use Rattle.lrpar_table_merge.specs.Held.{Closes, GoesBy, IsHeld, Starts, Steps, TransitionsOf, next_of, transitions_at}
 use Rattle.lrpar_table_merge.specs.Merged.{Along, AreMerged}
 use Rattle.lrpar_table_merge.specs.MergedStates.{AreMergedStates, steps_of_states}
@@ -155,5 +157,24 @@ module _ (g : Grammar) (well : IsWellFormed g) where
           let within = (step_at s (Terminal t) next low is).1.2 in (symbol_below s (Terminal t) next low is, omega (arith, within, len));
     }
 
-    pub are_merged_states : AreMergedStates g states
-    are_merged_states = record { rows = are_rows; merged = are_merged }
+    -- no two states have the same items, if no two kernels are the same
+    distinct_states : AreNew kernels → AreDistinct (length states) (sets_at states)
+    distinct_states new s n low below same =
+        let set = sets_at states in
+        let closure = λ (m : ℕ). IsInClosure g (IsAmong (kernel_at kernels m)) in
+        let one = given s low in
+        let two = given n below in
+        let closures =
+        same_via (closure s) (set s) (closure n) (same_back (set s) (closure s) one.closure.items) (same_via (set s) (set n) (closure n) same two.closure.items) in
+        let is = kernel_of_closure g well (kernel_at kernels s) (kernel_at kernels n) one.closure.is_kernel two.closure.is_kernel closures in
+        elim (cases_lt s n) [
+          | inl before ↦ absurd (new n (omega (arith, below, len)) s before is)
+          | inr after ↦
+              elim (cases_lt n s) [
+                | inl before ↦ absurd (new s (omega (arith, low, len)) n before (sym is))
+                | inr back ↦ omega (arith, after, back)
+              ]
+        ]
+
+    pub are_merged_states : AreNew kernels → AreMergedStates g states
+    are_merged_states new = record { rows = are_rows; merged = are_merged; distinct = distinct_states new }

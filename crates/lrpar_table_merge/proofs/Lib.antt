@@ -32,5 +32,6 @@ pub mod MisfitLemmas
 pub mod ExpandedLemmas
 pub mod BoundLemmas
 pub mod OriginLemmas
+pub mod SplitLemmas
 pub mod ListedLemmas
 pub mod WorkLemmas

@@ -1,6 +1,6 @@
 -- A graph and a table that are made of states with merged item sets are merged ones. The transitions of the states are a function, which
 -- their rows give.
-use Rattle.std.proofs.Common.{◌≡◌, ◌<◌, ◌+◌, ◌↔◌, refl, sym, subst, ℕ, List, Option, Some, None, length, nat_eq}
+use Rattle.std.proofs.Common.{◌≡◌, ◌<◌, ◌+◌, ◌↔◌, refl, sym, subst, arith, ℕ, List, Option, Some, None, length, nat_eq}
 use Rattle.std.specs.Map.{lookup}
 use Rattle.std.proofs.lemmas.List.{length-map}
 use Rattle.lrpar_grammar.specs.Grammar.{Grammar, GrammarSymbol, IsWellFormed, Nonterminal, Terminal, start_prod, tokens_len}
@@ -13,9 +13,11 @@ use Rattle.lrpar_table_items.specs.StateRows.{IsRefusalOf, IsRefusedState, item_
 use Rattle.lrpar_table_items.specs.States.{StateOf, sets_at, state_at}
 use Rattle.lrpar_table_items.specs.declared.fault.BuildFault.{BuildFault}
 use Rattle.lrpar_table_items.specs.declared.fault.BuildFault.TheVariants.{AcceptReduceConflict, Memory, StorageTooSmall, TooManyStates}
+use Rattle.lrpar_table_items.proofs.StatesLemmas.{same_back, same_via}
 use Rattle.lrpar_table_build.proofs.AlongLemmas.{built_along, graph_sets, refused_conflict}
 use Rattle.lrpar_table_build.proofs.SetLemmas.{before_other, before_same, same_on}
 use Rattle.lrpar_table_build.proofs.StepLemmas.{AreStatesAlong, IsStepAlong, IsTableAlong}
+use Rattle.lrpar_table_merge.specs.Distinct.{AreDistinct}
 use Rattle.lrpar_table_merge.specs.Held.{IsHeld}
 use Rattle.lrpar_table_merge.specs.Merged.{Along, AreMerged}
 use Rattle.lrpar_table_merge.specs.MergedBy.{IsMergedBy, IsTableRefusal, IsMergedTableBy}
@@ -98,6 +100,16 @@ module _ (g : Grammar) (well : IsWellFormed g) (states : List StateOf) (are : Ar
   graph_merged graph len items =
       subst (λ n. AreMerged g n (sets_of graph) Goes) (sym len)
       (merged_on g (length states) (sets_of graph) (sets_at states) Goes (graph_sets g states known_tokens graph items) are.merged)
+
+  -- no two of its sets have the same items
+  pub graph_distinct : (graph : Graph) → graph_len graph ≡ length states → ((s p k t : ℕ) → HasItem graph s p k t ↔ HasItem (item_rows g states) s p k t)
+      → AreDistinct (graph_len graph) (sets_of graph)
+  graph_distinct graph len items s n low below same =
+      let set = sets_at states in
+      let of = sets_of graph in
+      let is = graph_sets g states known_tokens graph items in
+      are.distinct s n (omega (arith, low, len)) (omega (arith, below, len))
+      (same_via (set s) (of s) (set n) (same_back (of s) (set s) (is s)) (same_via (of s) (of n) (set n) same (is n)))
 
   -- and the table of the states is theirs
   pub states_merged_by : (lists : PrecedenceLists) (graph : Graph) (table : Table) → graph_len graph ≡ length states

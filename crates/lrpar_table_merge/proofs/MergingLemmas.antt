@@ -13,7 +13,8 @@ use Rattle.lrpar_table_items.specs.declared.cores.CoreItems.{CoreItems}
 use Rattle.lrpar_table_items.specs.Next.{AreNext, kernel_at, kernel_rows, next_kernel}
 use Rattle.lrpar_table_items.proofs.NextLemmas.{next_begun, next_cores}
 use Rattle.lrpar_table_merge.specs.Compatible.{HaveSameCores, lr0_core}
-use Rattle.lrpar_table_merge.specs.Merging.{AreCoreRows, AreKernelsOrEmpty, AreRegistered, AreMadeOrEmpty, AreMerging, Goes, HaveOrigins, IsMade, MergesMore, NoneIsCompatible, Unites, first_prod, kernels_of, numbers_for}
+use Rattle.lrpar_table_merge.specs.Merging.{AreCoreRows, AreKernelsOrEmpty, AreRegistered, AreMadeOrEmpty, AreMerging, AreSplit, Goes, HaveOrigins, IsMade, MergesMore, NoneIsCompatible, Unites, first_prod, kernels_of, numbers_for}
+use Rattle.lrpar_table_merge.specs.StoredKernels.{AreMadeOf}
 use Rattle.lrpar_table_merge.specs.United.{AreUnited, rooms_of}
 use Rattle.lrpar_table_merge.specs.declared.merge.MergedState.{MergedState}
 use Rattle.lrpar_table_merge.specs.declared.merge.Merging.{Merging}
@@ -21,10 +22,11 @@ use Rattle.lrpar_table_merge.proofs.AmongLemmas.{same_rooms}
 use Rattle.lrpar_table_merge.proofs.KernelLemmas.{image_len}
 use Rattle.lrpar_table_merge.proofs.ListedLemmas.{listed_push, listed_set}
 use Rattle.lrpar_table_merge.proofs.OriginLemmas.{merges_more, no_origins, origins_push, origins_set}
+use Rattle.lrpar_table_merge.proofs.SplitLemmas.{split_none, split_push, split_set}
 use Rattle.lrpar_table_merge.proofs.UniteLemmas.{map_set_same}
 
 -- the kernels to which cores go, apart from those without cores
-pub next_kernels : (g : Grammar) (cores : List CoreSet) (symbol : ℕ → GrammarSymbol) (kernels : List (List CoreSet)) → AreCores g cores
+next_kernels : (g : Grammar) (cores : List CoreSet) (symbol : ℕ → GrammarSymbol) (kernels : List (List CoreSet)) → AreCores g cores
     → AreNext g cores symbol kernels → AreKernelsOrEmpty g kernels
 next_kernels g cores symbol kernels are next k d low some =
     let at : get_or kernels k d ≡ next_kernel g (symbol k) cores = get_or_default kernels k d [] low ∙ next k low in
@@ -32,11 +34,20 @@ next_kernels g cores symbol kernels are next k d low some =
     (record { cores = next_cores g (symbol k) cores are; begun = next_begun g (symbol k) cores; some = subst (λ kernel. 0 < length kernel) at some })
 
 -- merging can make them, if it can make the kernel whose closure goes to them
-pub next_made : (g : Grammar) (kernel cores : List CoreSet) (symbol : ℕ → GrammarSymbol) (kernels : List (List CoreSet)) → IsMade g kernel
+next_made : (g : Grammar) (kernel cores : List CoreSet) (symbol : ℕ → GrammarSymbol) (kernels : List (List CoreSet)) → IsMade g kernel
     → AreCores g cores → AreSame (IsAmong cores) (IsInClosure g (IsAmong kernel)) → AreNext g cores symbol kernels → AreMadeOrEmpty g kernels
 next_made g kernel cores symbol kernels made are items next k d low some =
     let at : get_or kernels k d ≡ next_kernel g (symbol k) cores = get_or_default kernels k d [] low ∙ next k low in
     subst (IsMade g) (sym at) (Goes kernel cores (symbol k) made are items)
+
+-- they are kernels that merging can make, apart from those without cores
+pub made_kernels : {S A : Type 0} (index : S → ℕ) (g : Grammar) (kernel cores : List CoreSet) (symbol : ℕ → GrammarSymbol)
+    (kernels : List (Vec (CoreItems S) A)) → IsMade g kernel → AreCores g cores → AreSame (IsAmong cores) (IsInClosure g (IsAmong kernel))
+    → AreNext g cores symbol (kernel_rows index kernels) → AreMadeOf index g kernels
+made_kernels index g kernel cores symbol kernels made are items next = record {
+  are = next_kernels g cores symbol (kernel_rows index kernels) are next;
+  made = next_made g kernel cores symbol (kernel_rows index kernels) made are items next;
+}
 
 -- a list that was lent and written back
 pub written_back : {X : Type 0} (items lent new : List X) (len : ℕ) → length items ≡ len → lent ≡ items → length new ≡ length lent
@@ -62,6 +73,11 @@ module _ {S : Type 0} (index : S → ℕ) where
 
   pub states_len : (states : List (MergedState S)) → length (kernels_of index states) ≡ length states
   states_len states = length-map states kernel_of
+
+  -- a state is changed, and keeps its kernel
+  pub kernel_set : (states : List (MergedState S)) (s : ℕ) (state d : MergedState S) → s < length states
+      → kernel_of state ≡ kernel_of (get_or states s d) → kernels_of index (set states s state) ≡ kernels_of index states
+  kernel_set states s state d low same = map_set_same kernel_of states s state d low same
 
   -- a state that is read has a kernel
   pub kernel_read : (g : Grammar) (states : List (MergedState S)) (s : ℕ) (state : MergedState S) → s < length states → state ≡ get_or states s state
@@ -124,6 +140,7 @@ module _ {S : Type 0} (index : S → ℕ) where
         kernels = subst (λ states. All (IsKernel g) (kernels_of index states)) (sym none) (λ k d low. absurd (omega (arith, low)));
         made = subst (λ states. All (IsMade g) (kernels_of index states)) (sym none) (λ k d low. absurd (omega (arith, low)));
         origins = subst (λ states. HaveOrigins g (kernels_of index states)) (sym none) (no_origins g);
+        split = subst (λ states. AreSplit g (kernels_of index states)) (sym none) (split_none g);
         listed = subst (λ states. AreRegistered merging.by_prod.items (kernels_of index states)) (sym none) (λ s low. absurd (omega (arith, low)));
         room = omega (arith, len);
         fits = omega (arith, len);
@@ -146,6 +163,7 @@ module _ {S : Type 0} (index : S → ℕ) where
           kernels = subst (All (IsKernel g)) (sym same) are.kernels;
           made = subst (All (IsMade g)) (sym same) are.made;
           origins = subst (HaveOrigins g) (sym same) are.origins;
+          split = subst (AreSplit g) (sym same) are.split;
           listed = subst (λ kernels. AreRegistered after.by_prod.items kernels) (sym same) (subst (λ l. AreRegistered l (kernels_of index before.states.items)) (sym lists) are.listed);
           room = omega (arith, len, room);
           fits = omega (arith, len, fits);
@@ -173,6 +191,7 @@ module _ {S : Type 0} (index : S → ℕ) where
               (All-set (IsMade g) kernels s (kernel_of state)
               (Unites (kernel_at kernels s) next (kernel_of state) (All-get_or (IsMade g) kernels s [] within are.made) made both unites) are.made);
           origins = subst (HaveOrigins g) (sym all) (origins_set g kernels are.origins s next (kernel_of state) within unites);
+          split = subst (AreSplit g) (sym all) (split_set g kernels are.split s next (kernel_of state) within unites);
           listed =
               subst (λ rows. AreRegistered after.by_prod.items rows) (sym all)
               (subst (λ l. AreRegistered l (set kernels s (kernel_of state))) (sym lists)
@@ -195,6 +214,7 @@ module _ {S : Type 0} (index : S → ℕ) where
           kernels = subst (All (IsKernel g)) (sym all) (All-push (IsKernel g) kernels (kernel_of state) are.kernels kernel);
           made = subst (All (IsMade g)) (sym all) (All-push (IsMade g) kernels (kernel_of state) are.made made);
           origins = subst (HaveOrigins g) (sym all) (origins_push g kernels are.origins (kernel_of state) kernel made fresh);
+          split = subst (AreSplit g) (sym all) (split_push g kernels are.split (kernel_of state) are.made made fresh);
           listed =
               subst (λ rows. AreRegistered after.by_prod.items rows) (sym all)
               (listed_push before.by_prod.items kernels are.listed after.by_prod.items (kernel_of state) p number list low lists (at ∙ sym count) items begins);

@@ -56,11 +56,11 @@ grown_compatible before after grown = record {
       ];
 }
 
-grown_itself : (kernel : List CoreSet) → HasGrownFrom kernel kernel
+pub grown_itself : (kernel : List CoreSet) → HasGrownFrom kernel kernel
 grown_itself kernel = record { same = refl; tokens = λ i t h. h }
 
 -- it grows on
-grown_on : (origin before next after : List CoreSet) → HasGrownFrom origin before → AreUnited before next after → HasGrownFrom origin after
+pub grown_on : (origin before next after : List CoreSet) → HasGrownFrom origin before → AreUnited before next after → HasGrownFrom origin after
 grown_on origin before next after grown united = record {
   same = grown.same ∙ sym united.same;
   tokens = λ i t h. united.tokens i t ∙ or_left (has (lookaheads_at before i) t) (has (lookaheads_at next i) t) (grown.tokens i t h);

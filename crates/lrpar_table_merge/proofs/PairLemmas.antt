@@ -1,5 +1,5 @@
 -- Pairs of cores that are compatible.
-use Rattle.std.proofs.Common.{◌≡◌, ◌<◌, ◌+◌, ◌↔◌, ◌⊎◌, inl, inr, sym, subst, arith, ℕ, Bool, List, get_or, length, map}
+use Rattle.std.proofs.Common.{◌≡◌, ◌<◌, ◌↔◌, ◌⊎◌, inl, inr, sym, subst, arith, ℕ, Bool, List, get_or, length, map}
 use Rattle.std.proofs.lemmas.Bool.{cases_lt}
 use Rattle.lrpar_table_items.specs.Cores.{CoreSet, core_set}
 use Rattle.lrpar_table_items.specs.declared.cores.CoreItems.{CoreItems}
@@ -45,14 +45,6 @@ pair_back kernel other i j h =
             | inl first ↦ inl (common_back (l i) (l j) first)
             | inr second ↦ inr (common_back (m i) (m j) second)
           ])
-    ]
-
--- what holds of the numbers below n and of n
-pub below_more : (P : ℕ → Type 0) (n : ℕ) → ((j : ℕ) → j < n → P j) → P n → (j : ℕ) → j < n + 1 → P j
-below_more P n so_far here j low =
-    elim (cases_lt j n) [
-      | inl before ↦ so_far j before
-      | inr last ↦ let is : n ≡ j = omega (arith, low, last) in subst P is here
     ]
 
 -- each core of weakly compatible kernels is compatible with those before it

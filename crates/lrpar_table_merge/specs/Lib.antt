@@ -2,6 +2,7 @@ pub mod Compatible
 pub mod Expansions
 pub mod United
 pub mod Held
+pub mod Distinct
 pub mod Merged
 pub mod MergedLaws
 pub mod PassedOn

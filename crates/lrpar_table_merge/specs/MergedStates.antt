@@ -3,6 +3,7 @@ use Rattle.std.specs.Prelude.{ℕ, List, Option, length, map, nat_eq}
 use Rattle.std.specs.Map.{lookup}
 use Rattle.lrpar_grammar.specs.Grammar.{Grammar, GrammarSymbol, Nonterminal, Terminal}
 use Rattle.lrpar_table_items.specs.States.{AreStateRows, StateOf, sets_at, state_at}
+use Rattle.lrpar_table_merge.specs.Distinct.{AreDistinct}
 use Rattle.lrpar_table_merge.specs.Held.{TransitionsOf}
 use Rattle.lrpar_table_merge.specs.Merged.{Along, AreMerged}
 use Rattle.lrpar_table_merge.specs.declared.held.Transitions.{Transitions}
@@ -20,7 +21,8 @@ abbrev pub steps_of_states : List StateOf → ℕ → GrammarSymbol → Option �
 steps_of_states states s (Nonterminal r) = lookup (nat_eq r) (state_at states s).gotos
 steps_of_states states s (Terminal t) = lookup (nat_eq t) (state_at states s).shifts
 
--- the states' item sets are merged ones, and their transitions go along their rows
+-- the states' item sets are merged ones, no two of which have the same items, and their transitions go along their rows
 pub record AreMergedStates (g : Grammar) (states : List StateOf) : Type 0 where
   pub rows : AreStateRows g states
   pub merged : AreMerged g (length states) (sets_at states) (Along (steps_of_states states))
+  pub distinct : AreDistinct (length states) (sets_at states)

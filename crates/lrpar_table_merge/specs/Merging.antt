@@ -49,6 +49,22 @@ pub record HaveOrigins (g : Grammar) (kernels : List (List CoreSet)) : Type 0 wh
   pub grown : (s : ℕ) → s < length kernels → HasGrownFrom (kernel_at origins s) (kernel_at kernels s)
   pub once : (s other : ℕ) → s < length kernels → other < length kernels → kernel_at origins s ≡ kernel_at origins other → s ≡ other
 
+-- two kernels aren't merged: they have grown from kernels that merging can make and that aren't weakly compatible
+pub record IsSplit (g : Grammar) (kernel other : List CoreSet) : Type 0 where
+  pub first : List CoreSet
+  pub second : List CoreSet
+  pub first_made : IsMade g first
+  pub second_made : IsMade g second
+  pub first_grown : HasGrownFrom first kernel
+  pub second_grown : HasGrownFrom second other
+  pub apart : ¬ (AreWeaklyCompatible first second)
+
+-- two of the kernels have the same LR(0) cores only if they have grown from kernels that merging can make and that aren't weakly compatible
+abbrev pub AreSplit : Grammar → List (List CoreSet) → Type 0
+AreSplit g kernels =
+    (s n : ℕ) → s < n → n < length kernels → HaveSameCores (kernel_at kernels s) (kernel_at kernels n)
+    → IsSplit g (kernel_at kernels s) (kernel_at kernels n)
+
 -- the production of the first core; of no cores, 0
 abbrev pub first_prod : List CoreSet → ℕ
 first_prod [] = 0
@@ -71,12 +87,13 @@ abbrev pub NoneOfIsCompatible : List (List CoreSet) → List ℕ → List CoreSe
 NoneOfIsCompatible kernels numbers kernel =
     All (λ s. s < length kernels → ¬ (AreWeaklyCompatible (kernel_at kernels s) kernel)) numbers
 
--- each state has a kernel that merging can make, has grown from its own origin, and is listed; the states are at most as many as both
--- bounds; and there is a list for each production
+-- each state has a kernel that merging can make, has grown from its own origin, and is listed; no two states could have been one; the
+-- states are at most as many as both bounds; and there is a list for each production
 pub record AreMerging {S : Type 0} (index : S → ℕ) (g : Grammar) (max limit : ℕ) (merging : Merging S) : Type 0 where
   pub kernels : All (IsKernel g) (kernels_of index merging.states.items)
   pub made : All (IsMade g) (kernels_of index merging.states.items)
   pub origins : HaveOrigins g (kernels_of index merging.states.items)
+  pub split : AreSplit g (kernels_of index merging.states.items)
   pub listed : AreRegistered merging.by_prod.items (kernels_of index merging.states.items)
   pub room : length merging.states.items ≤ max
   pub fits : length merging.states.items ≤ limit
@@ -102,6 +119,11 @@ work_of index state = 2 * total_missing (lookahead_rows (map (core_set index) st
 -- how often states can still be worked on: those that there are, and those that can still be made
 abbrev pub work_left : {S : Type 0} → (S → ℕ) → Grammar → ℕ → List (MergedState S) → ℕ
 work_left index g max states = (max - length states) * (2 * most_missing g + 1) + sum_by (work_of index) states
+
+-- merging goes on as before, and no more work is left
+pub record GoesOn {S : Type 0} (index : S → ℕ) (g : Grammar) (max limit : ℕ) (before after : Merging S) : Type 0 where
+  pub merging : AreMerging index g max limit after
+  pub work : work_left index g max after.states.items ≤ work_left index g max before.states.items
 
 -- state n doesn't wait afterwards, nor does any that didn't wait before
 abbrev pub Rests : {S : Type 0} → ℕ → List (MergedState S) → List (MergedState S) → Type 0

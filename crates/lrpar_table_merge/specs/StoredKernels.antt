@@ -1,5 +1,5 @@
 -- Cores and kernels as the code stores them. `index` is the number that a storage number represents.
-use Rattle.std.specs.Prelude.{◌≡◌, ◌<◌, ◌||◌, ℕ, false, List, All, Vec, length, map}
+use Rattle.std.specs.Prelude.{◌≡◌, ◌<◌, ◌≤◌, ◌||◌, ℕ, false, List, All, Vec, length, map}
 use Rattle.lrpar_grammar.specs.Grammar.{Grammar}
 use Rattle.lrpar_grammar.specs.Tokens.{has, missing}
 use Rattle.lrpar_table_first.specs.FirstRows.{total_missing}
@@ -9,6 +9,7 @@ use Rattle.lrpar_table_items.specs.Cores.{IsAmong, IsCoreOf, core_set}
 use Rattle.lrpar_table_items.specs.Next.{kernel_at, kernel_rows}
 use Rattle.lrpar_table_items.specs.declared.cores.CoreItems.{CoreItems}
 use Rattle.lrpar_table_merge.specs.Compatible.{ArePairCompatible, AreWeaklyCompatible, HaveSameCores, lookahead_rows, lr0_core}
+use Rattle.lrpar_table_merge.specs.Distinct.{AreNew, IsNew}
 use Rattle.lrpar_table_merge.specs.Merging.{AreCoreRows, AreKernelsOrEmpty, AreMadeOrEmpty, IsMade, first_prod}
 use Rattle.lrpar_table_merge.specs.PassedOn.{AreBeginnings, IsBeginning}
 use Rattle.lrpar_table_merge.specs.Propagated.{AreAlike}
@@ -29,6 +30,10 @@ UnitesLookaheads old other new = (t : ℕ) → has new.tokens.bits.items t ≡ (
 -- fewer tokens than before are missing among the core's lookaheads
 abbrev pub LacksFewer : {S : Type 0} → CoreItems S → CoreItems S → Type 0
 LacksFewer old new = missing new.tokens.bits.items < missing old.tokens.bits.items
+
+-- there is at least one, and there are at most n
+abbrev pub AreOneTo : {X : Type 0} → ℕ → List X → Type 0
+AreOneTo n xs = (0 < length xs) × (length xs ≤ n)
 
 module _ {S : Type 0} (index : S → ℕ) where
   -- the LR(0) core is the same
@@ -63,9 +68,10 @@ module _ {S : Type 0} (index : S → ℕ) where
   abbrev pub IsKernelOf : Grammar → List (CoreItems S) → Type 0
   IsKernelOf g kernel = IsKernel g (map (core_set index) kernel)
 
-  -- merging can make the cores
-  abbrev pub IsMadeOf : Grammar → List (CoreItems S) → Type 0
-  IsMadeOf g kernel = IsMade g (map (core_set index) kernel)
+  -- the cores are a kernel that merging can make
+  pub record IsMadeOf (g : Grammar) (kernel : List (CoreItems S)) : Type 0 where
+    pub is : IsKernelOf g kernel
+    pub made : IsMade g (map (core_set index) kernel)
 
   -- the first core is one of this production
   abbrev pub BeginsWith : List (CoreItems S) → ℕ → Type 0
@@ -88,9 +94,10 @@ module _ {S : Type 0} (index : S → ℕ) where
   IsCompatibleBefore kernel other place =
       (j : ℕ) → j < place → ArePairCompatible (map (core_set index) kernel) (map (core_set index) other) place j
 
-  -- the lookaheads of the cores have the same rooms
-  abbrev pub HaveSameRooms : List (CoreItems S) → List (CoreItems S) → Type 0
-  HaveSameRooms kernel other = rooms_of (map (core_set index) kernel) ≡ rooms_of (map (core_set index) other)
+  -- the kernels have the same LR(0) cores, and room for as many lookaheads
+  pub record CanUnite (kernel other : List (CoreItems S)) : Type 0 where
+    pub same : AreSameCores kernel other
+    pub room : rooms_of (map (core_set index) kernel) ≡ rooms_of (map (core_set index) other)
 
   -- the cores stay, and the lookaheads of each are those that it had, and those that it has in the other kernel
   abbrev pub UniteKernels : List (CoreItems S) → List (CoreItems S) → List (CoreItems S) → Type 0
@@ -116,14 +123,28 @@ module _ {S : Type 0} (index : S → ℕ) where
   abbrev pub AreWithoutItems : {A : Type 0} → List (Vec (CoreItems S) A) → Type 0
   AreWithoutItems kernels = (s : ℕ) (x : ItemOf) → ¬ (IsAmong (kernel_at (kernel_rows index kernels) s) x)
 
+  -- the kernel with the number is none of those before it
+  abbrev pub IsNewAt : {A : Type 0} → List (Vec (CoreItems S) A) → ℕ → Type 0
+  IsNewAt kernels number = IsNew (kernel_rows index kernels) number
+
+  -- the kernel with the number is the same as an earlier one
+  abbrev pub IsTwinOf : {A : Type 0} → List (Vec (CoreItems S) A) → ℕ → ℕ → Type 0
+  IsTwinOf kernels number earlier =
+      (earlier < number) × (kernel_at (kernel_rows index kernels) earlier ≡ kernel_at (kernel_rows index kernels) number)
+
+  -- two of the kernels are the same, the earlier one first
+  abbrev pub AreTwins : {A : Type 0} → List (Vec (CoreItems S) A) → ℕ × ℕ → Type 0
+  AreTwins kernels pair = IsTwinOf kernels pair.1 pair.0
+
+  -- no two of the kernels have the same cores with the same lookaheads
+  abbrev pub AreDistinctKernels : {A : Type 0} → List (Vec (CoreItems S) A) → Type 0
+  AreDistinctKernels kernels = AreNew (kernel_rows index kernels)
+
   -- each of the lists has cores of the grammar, and is a kernel as soon as it has an item
   abbrev pub AreKernelsIfFilled : {A : Type 0} → Grammar → List (Vec (CoreItems S) A) → Type 0
   AreKernelsIfFilled g kernels = AreBeginnings g (kernel_rows index kernels)
 
-  -- each of the lists is a kernel, if it has any core
-  abbrev pub AreKernelsOf : {A : Type 0} → Grammar → List (Vec (CoreItems S) A) → Type 0
-  AreKernelsOf g kernels = AreKernelsOrEmpty g (kernel_rows index kernels)
-
-  -- merging can make each of the lists, if it has any core
-  abbrev pub AreMadeOf : {A : Type 0} → Grammar → List (Vec (CoreItems S) A) → Type 0
-  AreMadeOf g kernels = AreMadeOrEmpty g (kernel_rows index kernels)
+  -- each of the lists is a kernel that merging can make, if it has any core
+  pub record AreMadeOf {A : Type 0} (g : Grammar) (kernels : List (Vec (CoreItems S) A)) : Type 0 where
+    pub are : AreKernelsOrEmpty g (kernel_rows index kernels)
+    pub made : AreMadeOrEmpty g (kernel_rows index kernels)

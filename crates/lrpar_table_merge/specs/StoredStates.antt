@@ -18,7 +18,7 @@ use Rattle.lrpar_table_merge.specs.Compatible.{AreWeaklyCompatible}
 use Rattle.lrpar_table_merge.specs.Held.{transitions_at}
 use Rattle.lrpar_table_merge.specs.MergedStates.{AreMergedStates, all_transitions, transitions_of}
 use Rattle.lrpar_table_merge.specs.MergedSteps.{AreGivenBy, AreGivenSteps, FitsNext, IsGivenState}
-use Rattle.lrpar_table_merge.specs.Merging.{NoneIsCompatible, NoneOfIsCompatible, kernels_of}
+use Rattle.lrpar_table_merge.specs.Merging.{AreSplit, NoneIsCompatible, NoneOfIsCompatible, kernels_of}
 use Rattle.lrpar_table_merge.specs.StoredKernels.{HaveCores}
 use Rattle.lrpar_table_merge.specs.declared.held.HeldFault.{HeldFault}
 use Rattle.lrpar_table_merge.specs.declared.held.HeldFault.TheVariants.{Misfit}
@@ -27,7 +27,7 @@ use Rattle.lrpar_table_merge.specs.declared.merge.MergedState.{MergedState}
 use Rattle.lrpar_table_merge.specs.declared.merge.Merging.{Merging}
 
 module _ {S : Type 0} (index : S → ℕ) where
-  -- the item sets of the states are merged ones, and their transitions go along their rows
+  -- the item sets of the states are merged ones, no two of which have the same items, and their transitions go along their rows
   abbrev pub AreStatesOf : {A : Type 0} → Grammar → Vec (State S) A → Type 0
   AreStatesOf g states = AreMergedStates g (map (state_of index) states.items)
 
@@ -86,6 +86,18 @@ module _ {S : Type 0} (index : S → ℕ) where
   HasNoCompatibleOf merging numbers kernel =
       NoneOfIsCompatible (kernels_of index merging.states.items) numbers (map (core_set index) kernel)
 
+  -- each state has a kernel
+  abbrev pub HaveKernels : Grammar → List (MergedState S) → Type 0
+  HaveKernels g states = All (IsKernel g) (kernels_of index states)
+
+  -- the states keep their kernels
+  abbrev pub KeepKernels : List (MergedState S) → List (MergedState S) → Type 0
+  KeepKernels old new = kernels_of index new ≡ kernels_of index old
+
+  -- two of the states have the same LR(0) cores only if they have grown from kernels that aren't weakly compatible
+  abbrev pub AreSplitStates : Grammar → List (MergedState S) → Type 0
+  AreSplitStates g states = AreSplit g (kernels_of index states)
+
   -- if each state has a kernel of a grammar, each of the lists has cores of that grammar
   abbrev pub HaveCoresOf : {A : Type 0} → List (MergedState S) → List (Vec (CoreItems S) A) → Type 0
-  HaveCoresOf states kernels = (g : Grammar) → All (IsKernel g) (kernels_of index states) → HaveCores index g kernels
+  HaveCoresOf states kernels = (g : Grammar) → HaveKernels g states → HaveCores index g kernels

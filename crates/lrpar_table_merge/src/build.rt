@@ -1,23 +1,20 @@
 //! The table builder with a choice: canonical item sets, or merged ones.
-ghost use Rattle.std.specs.Prelude.{◌≡◌, ◌≤◌, IfErr, IfOk, IfSome, length};
+ghost use Rattle.std.specs.Prelude.{◌≤◌, IfErr, IfOk, IfSome, length};
 ghost use Rattle.lrpar_grammar.specs.Grammar.{IsWellFormed};
 ghost use Rattle.lrpar_table_build.specs.Built.{HaveAtMost};
-ghost use Rattle.lrpar_table_merge.specs.Expansions.{AreKept};
+ghost use Rattle.lrpar_table_merge.specs.Distinct.{HaveDistinctStates};
 ghost use Rattle.lrpar_table_merge.specs.MergedBy.{AreMergedBy};
 ghost use Rattle.lrpar_table_merge.specs.Minimised.{AreMinimisedBy, AreSafe, IsMergeFault, IsMergingRefusal, IsRefusalBy};
-ghost use Rattle.lrpar_table_merge.specs.StoredKernels.{HaveCores};
 ghost use Rattle.lrpar_table_merge.specs.StoredStates.{AreStatesOf};
 
+use crate::distinct::make_distinct_states;
 use crate::expansions::Expansions;
-use crate::held::{HeldFault, Transitions};
+use crate::held::HeldFault;
 use crate::merge::merge;
-use crate::merged_states::make_merged_states;
 use crate::merged_table::table_of_merged;
-use crate::propagate::propagate;
 use lrpar_grammar::grammar::YaccGrammar;
 use lrpar_grammar::span::StorageIndex;
 use lrpar_table_build::build::{BuildFault, Precedences, from_yacc_with};
-use lrpar_table_items::cores::CoreItems;
 use lrpar_table_items::item_set::State;
 use lrpar_table_rows::table::{StateGraph, StateTable};
 use std::alloc::Global;
@@ -54,6 +51,7 @@ pub fn from_yacc_by<StorageT: StorageIndex>(
 ) -> Result<(StateGraph<StorageT>, StateTable<StorageT>), BuildFault>
     // Canonical item sets or merged ones, and a table with their actions after conflict resolution.
     ensures built { IfOk result (AreMinimisedBy minimiser grm.now precedences.now) }
+    ensures distinct { IfOk result HaveDistinctStates }
     ensures safe { IfOk result (AreSafe grm.now) }
     ensures room { IfOk result (HaveAtMost max_states) }
     // As for `from_yacc`; `AcceptReduceConflict`: a merged set calls for accept and a reduction; with `Minimiser::Pager`, too many states
@@ -75,6 +73,7 @@ fn merged_table<StorageT: StorageIndex>(
     max_states: usize,
 ) -> Result<(StateGraph<StorageT>, StateTable<StorageT>), BuildFault>
     ensures built { IfOk result (AreMergedBy grm.now precedences.now) }
+    ensures distinct { IfOk result HaveDistinctStates }
     ensures room { IfOk result (HaveAtMost max_states) }
     ensures well_formed { IsWellFormed grm.now }
     ensures refused { IfErr result (IsMergingRefusal grm.now max_states StorageT.limit) }
@@ -99,29 +98,10 @@ fn states_of<StorageT: StorageIndex>(
 {
     let _lemma = grm.start_prod();
     let mut expansions = Expansions::new(alloc, grm)?;
-    let (mut kernels, all) = merge(alloc, grm, &mut expansions, max_states)?;
-    match propagate_states(alloc, grm, &mut expansions, &all, &mut kernels) {
+    let mut merged = merge(alloc, grm, &mut expansions, max_states)?;
+    match make_distinct_states(alloc, grm, &mut expansions, &mut merged) {
         Ok(states) => Ok(Some(states)),
         Err(HeldFault::Misfit) => Ok(None),
         Err(HeldFault::Memory) => Err(BuildFault::Memory),
     }
-}
-
-// The states of the kernels, whose lookaheads are worked out anew from the start.
-fn propagate_states<StorageT: StorageIndex>(
-    alloc: Global,
-    grm: &YaccGrammar<StorageT>,
-    expansions: &mut Expansions<StorageT>,
-    all: &[Transitions],
-    kernels: &mut [Vec<CoreItems<StorageT>>],
-) -> Result<Vec<State<StorageT>>, HeldFault>
-    requires well_formed { IsWellFormed grm.now }
-    requires kept { AreKept StorageT.index grm.now expansions.old }
-    requires cores { HaveCores StorageT.index grm.now kernels.old }
-    requires fit { length kernels.old ≤ StorageT.limit }
-    ensures states { IfOk result (AreStatesOf StorageT.index grm.now) }
-    ensures len { IfOk result (λ states. length states.items ≡ length kernels.old) }
-{
-    propagate(alloc, grm, expansions, all, kernels)?;
-    make_merged_states(alloc, grm, expansions, all, kernels)
 }

@@ -2,7 +2,7 @@
 ghost use Rattle.std.specs.Prelude.{◌≡◌, IfErr, IfOk, OnOk, Some};
 ghost use Rattle.std.specs.Bool.{OnFalse, OnTrue};
 ghost use Rattle.lrpar_table_merge.specs.Passing.{AreSameUnless, IsMisfitAlong, LackFewerIf, PassesTo, ShareGrammar, StayKernels};
-ghost use Rattle.lrpar_table_merge.specs.StoredKernels.{AreEqualCores, AreSameCores, HaveSameRooms, LackFewer, UniteKernels};
+ghost use Rattle.lrpar_table_merge.specs.StoredKernels.{AreEqualCores, CanUnite, LackFewer, UniteKernels};
 ghost use Rattle.lrpar_table_merge.specs.declared.held.HeldFault.TheVariants.{Memory};
 
 use crate::compatible::have_same_cores;
@@ -76,8 +76,7 @@ fn unite_kernel<StorageT: StorageIndex>(
     kernel: &mut Vec<CoreItems<StorageT>>,
     other: &[CoreItems<StorageT>],
 ) -> bool
-    requires same { AreSameCores StorageT.index kernel.old.items other.now }
-    requires room { HaveSameRooms StorageT.index kernel.old.items other.now }
+    requires { CanUnite StorageT.index kernel.old.items other.now }
     ensures united { UniteKernels StorageT.index kernel.old.items other.now kernel.new.items }
     ensures grown { OnTrue result (LackFewer StorageT.index kernel.old.items kernel.new.items) }
     ensures same { OnFalse result (AreEqualCores StorageT.index kernel.new.items kernel.old.items) }

@@ -4,6 +4,7 @@
 pub mod build;
 mod clear;
 pub mod compatible;
+mod distinct;
 mod expansions;
 pub mod held;
 pub mod laws;
@@ -12,4 +13,5 @@ mod merged_states;
 mod merged_table;
 mod pass;
 mod propagate;
+mod reached;
 pub mod unite;

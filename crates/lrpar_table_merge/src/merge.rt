@@ -6,9 +6,9 @@ ghost use Rattle.std.specs.Bool.{OnFalse};
 ghost use Rattle.lrpar_grammar.specs.Grammar.{IsWellFormed};
 ghost use Rattle.lrpar_table_merge.specs.Expansions.{AreKept};
 ghost use Rattle.lrpar_table_merge.specs.Minimised.{IsMergeFault};
-ghost use Rattle.lrpar_table_merge.specs.Merging.{AreMerging, EndsPass, EndsTurn, NoneWaits, work_left, work_of};
-ghost use Rattle.lrpar_table_merge.specs.StoredKernels.{AreEqualCores, AreKernelsOf, AreMadeOf, AreSameCores, BeginsWith, HaveCores, HaveSameRooms, IsKernelOf, IsMadeOf, StaysKernel, UniteKernels};
-ghost use Rattle.lrpar_table_merge.specs.StoredStates.{HasCompatibleAt, HasNoCompatible, HasNoCompatibleOf, HaveCoresOf, IsCompatibleWith};
+ghost use Rattle.lrpar_table_merge.specs.Merging.{AreMerging, EndsPass, EndsTurn, GoesOn, NoneWaits, work_of};
+ghost use Rattle.lrpar_table_merge.specs.StoredKernels.{AreEqualCores, AreMadeOf, BeginsWith, CanUnite, IsMadeOf, StaysKernel, UniteKernels};
+ghost use Rattle.lrpar_table_merge.specs.StoredStates.{AreSplitStates, HasCompatibleAt, HasNoCompatible, HasNoCompatibleOf, HaveKernels, IsCompatibleWith};
 
 use crate::compatible::are_weakly_compatible;
 use crate::expansions::Expansions;
@@ -55,32 +55,32 @@ impl<StorageT: StorageIndex> Drop for Merging<StorageT> {
     }
 }
 
-/// The kernels of merged states and their transitions, at most `max_states` of them. A kernel goes into the first state that is weakly
-/// compatible with it, which is then worked on again; otherwise it makes a new state. States that nothing leads to any more are left out.
+/// The merged states, at most `max_states` of them. A kernel goes into the first state that is weakly compatible with it, which is then
+/// worked on again; otherwise it makes a new state. So if two of them have the same LR(0) cores, they have grown from kernels that merging can
+/// make and that aren't weakly compatible.
 ///
-/// Nothing is promised of the lookaheads and of the transitions: `propagate` and `make_merged_states` look at them.
+/// Nothing else is promised of the lookaheads, and nothing of the transitions: `make_distinct_states` looks at them. Nothing may lead to a
+/// state any more.
 pub(crate) fn merge<StorageT: StorageIndex>(
     alloc: Global,
     grm: &YaccGrammar<StorageT>,
     expansions: &mut Expansions<StorageT>,
     max_states: usize,
-) -> Result<(Vec<Vec<CoreItems<StorageT>>>, Vec<Transitions>), BuildFault>
+) -> Result<Vec<MergedState<StorageT>>, BuildFault>
     requires well_formed { IsWellFormed grm.now }
     requires kept { AreKept StorageT.index grm.now expansions.old }
     ensures kept { AreKept StorageT.index grm.now expansions.new }
-    ensures cores { IfOk result (λ merged. HaveCores StorageT.index grm.now merged.0.items) }
-    ensures room { IfOk result (λ merged. length merged.0.items ≤ max_states) }
-    ensures fits { IfOk result (λ merged. length merged.0.items ≤ StorageT.limit) }
+    ensures kernels { IfOk result (λ states. HaveKernels StorageT.index grm.now states.items) }
+    ensures split { IfOk result (λ states. AreSplitStates StorageT.index grm.now states.items) }
+    ensures room { IfOk result (λ states. length states.items ≤ max_states) }
+    ensures fits { IfOk result (λ states. length states.items ≤ StorageT.limit) }
     ensures fault { IfErr result (IsMergeFault grm.now max_states StorageT.limit) }
 {
     let mut merging = Merging::new(alloc, grm)?;
     let start = start_kernel(alloc, grm)?;
     let _start = merging.merge_kernel(alloc, grm, max_states, &start)?;
     merging.merge_until_stable(alloc, grm, expansions, max_states)?;
-    let marks = reached(alloc, &merging.states)?;
-    let kernels = marked_kernels(alloc, &merging.states, &marks)?;
-    let all = marked_transitions(alloc, &merging.states, &marks)?;
-    Ok((kernels, all))
+    Ok(merging.into_states())
 }
 
 impl<StorageT: StorageIndex> Merging<StorageT> {
@@ -91,6 +91,15 @@ impl<StorageT: StorageIndex> Merging<StorageT> {
         let by_prod = empty_lists(alloc, grm.prods_len())?;
         let states = Vec::new(alloc);
         Ok(Merging { states, by_prod })
+    }
+
+    // The states alone.
+    fn into_states(self) -> Vec<MergedState<StorageT>>
+        ensures { result ≡ self.states }
+    {
+        let Merging { states, by_prod } = self;
+        drop(by_prod);
+        states
     }
 
     // Works on states until none waits. A state waits again only if lookaheads were added to its kernel, so each time that one is worked on,
@@ -198,8 +207,7 @@ impl<StorageT: StorageIndex> Merging<StorageT> {
         requires number { number < length self.old.states.items }
         requires merging { AreMerging StorageT.index grm.now max_states StorageT.limit self.old }
         ensures kept { AreKept StorageT.index grm.now expansions.new }
-        ensures merging { OnOk result (AreMerging StorageT.index grm.now max_states StorageT.limit self.new) }
-        ensures work { OnOk result (work_left StorageT.index grm.now max_states self.new.states.items ≤ work_left StorageT.index grm.now max_states self.old.states.items) }
+        ensures goes_on { OnOk result (GoesOn StorageT.index grm.now max_states StorageT.limit self.old self.new) }
         ensures fault { IfErr result (IsMergeFault grm.now max_states StorageT.limit) }
     {
         let place = expansions.expand(alloc, grm, &self.states[number].kernel)?;
@@ -218,8 +226,7 @@ impl<StorageT: StorageIndex> Merging<StorageT> {
         transitions: Transitions,
     )
         requires merging { AreMerging StorageT.index grm.now max_states StorageT.limit self.old }
-        ensures merging { AreMerging StorageT.index grm.now max_states StorageT.limit self.new }
-        ensures work { work_left StorageT.index grm.now max_states self.new.states.items ≤ work_left StorageT.index grm.now max_states self.old.states.items }
+        ensures { GoesOn StorageT.index grm.now max_states StorageT.limit self.old self.new }
     {
         if number < self.states.len() {
             self.states[number].transitions = transitions;
@@ -235,10 +242,8 @@ impl<StorageT: StorageIndex> Merging<StorageT> {
         kernels: &[Vec<CoreItems<StorageT>>],
     ) -> Result<Vec<Option<usize>>, BuildFault>
         requires merging { AreMerging StorageT.index grm.now max_states StorageT.limit self.old }
-        requires kernels { AreKernelsOf StorageT.index grm.now kernels.now }
-        requires made { AreMadeOf StorageT.index grm.now kernels.now }
-        ensures merging { OnOk result (AreMerging StorageT.index grm.now max_states StorageT.limit self.new) }
-        ensures work { OnOk result (work_left StorageT.index grm.now max_states self.new.states.items ≤ work_left StorageT.index grm.now max_states self.old.states.items) }
+        requires kernels { AreMadeOf StorageT.index grm.now kernels.now }
+        ensures goes_on { OnOk result (GoesOn StorageT.index grm.now max_states StorageT.limit self.old self.new) }
         ensures fault { IfErr result (IsMergeFault grm.now max_states StorageT.limit) }
     {
         let mut row = Vec::with_capacity(alloc, kernels.len())?;
@@ -262,10 +267,8 @@ impl<StorageT: StorageIndex> Merging<StorageT> {
         kernel: &[CoreItems<StorageT>],
     ) -> Result<usize, BuildFault>
         requires merging { AreMerging StorageT.index grm.now max_states StorageT.limit self.old }
-        requires kernel { IsKernelOf StorageT.index grm.now kernel.now }
-        requires made { IsMadeOf StorageT.index grm.now kernel.now }
-        ensures merging { OnOk result (AreMerging StorageT.index grm.now max_states StorageT.limit self.new) }
-        ensures work { OnOk result (work_left StorageT.index grm.now max_states self.new.states.items ≤ work_left StorageT.index grm.now max_states self.old.states.items) }
+        requires kernel { IsMadeOf StorageT.index grm.now kernel.now }
+        ensures goes_on { OnOk result (GoesOn StorageT.index grm.now max_states StorageT.limit self.old self.new) }
         ensures fault { IfErr result (IsMergeFault grm.now max_states StorageT.limit) }
     {
         let first = usize::from(kernel[0].prod);
@@ -315,11 +318,9 @@ impl<StorageT: StorageIndex> Merging<StorageT> {
         requires prod { prod < length self.old.by_prod.items }
         requires begins { BeginsWith StorageT.index kernel.now prod }
         requires merging { AreMerging StorageT.index grm.now max_states StorageT.limit self.old }
-        requires kernel { IsKernelOf StorageT.index grm.now kernel.now }
-        requires made { IsMadeOf StorageT.index grm.now kernel.now }
+        requires kernel { IsMadeOf StorageT.index grm.now kernel.now }
         requires fresh { HasNoCompatible StorageT.index self.old kernel.now }
-        ensures merging { OnOk result (AreMerging StorageT.index grm.now max_states StorageT.limit self.new) }
-        ensures work { OnOk result (work_left StorageT.index grm.now max_states self.new.states.items ≤ work_left StorageT.index grm.now max_states self.old.states.items) }
+        ensures goes_on { OnOk result (GoesOn StorageT.index grm.now max_states StorageT.limit self.old self.new) }
         ensures fault { IfErr result (IsMergeFault grm.now max_states StorageT.limit) }
     {
         let number = self.states.len();
@@ -343,7 +344,7 @@ impl<StorageT: StorageIndex> Merging<StorageT> {
     }
 }
 
-// So many empty lists.
+// As many empty lists as `len`.
 fn empty_lists(alloc: Global, len: usize) -> Result<Vec<Vec<usize>>, AllocError>
     ensures { IfOk result (λ lists. length lists.items ≡ len) }
 {
@@ -356,8 +357,7 @@ fn empty_lists(alloc: Global, len: usize) -> Result<Vec<Vec<usize>>, AllocError>
 
 // Adds the lookaheads of the kernel to those of the state's kernel. If any of them was new, the state waits.
 fn grow<StorageT: StorageIndex>(state: &mut MergedState<StorageT>, kernel: &[CoreItems<StorageT>])
-    requires same { AreSameCores StorageT.index state.old.kernel.items kernel.now }
-    requires room { HaveSameRooms StorageT.index state.old.kernel.items kernel.now }
+    requires { CanUnite StorageT.index state.old.kernel.items kernel.now }
     ensures kernel { StaysKernel StorageT.index state.old.kernel.items state.new.kernel.items }
     ensures united { UniteKernels StorageT.index state.old.kernel.items kernel.now state.new.kernel.items }
     ensures work { work_of StorageT.index state.new ≤ work_of StorageT.index state.old }
@@ -366,137 +366,4 @@ fn grow<StorageT: StorageIndex>(state: &mut MergedState<StorageT>, kernel: &[Cor
     if unite(&mut state.kernel, kernel) {
         state.waits = true;
     }
-}
-
-// Which states transitions lead to, from state 0.
-fn reached<StorageT: StorageIndex>(
-    alloc: Global,
-    states: &[MergedState<StorageT>],
-) -> Result<Vec<bool>, AllocError>
-    ensures { IfOk result (λ marks. length marks.items ≡ length states.now) }
-{
-    let mut marks = vec![in alloc; false; states.len()]?;
-    if let Some(start) = marks.get_mut(0) {
-        *start = true;
-    }
-    for _ in 0..states.len() {
-        if !mark_all(states, &mut marks) {
-            break;
-        }
-    }
-    Ok(marks)
-}
-
-// Marks the states to which those with a mark go. Returns whether any of them had none.
-fn mark_all<StorageT: StorageIndex>(states: &[MergedState<StorageT>], marks: &mut Vec<bool>) -> bool
-    requires { length marks.old.items ≡ length states.now }
-    ensures { length marks.new.items ≡ length states.now }
-{
-    let mut marked = false;
-    for number in 0..states.len() {
-        if marks[number] {
-            let transitions = &states[number].transitions;
-            let by_rules = mark_row(&transitions.rules, marks);
-            let by_tokens = mark_row(&transitions.tokens, marks);
-            marked = marked || by_rules || by_tokens;
-        }
-    }
-    marked
-}
-
-// Marks the states of the row. Returns whether any of them had no mark.
-fn mark_row(row: &[Option<usize>], marks: &mut Vec<bool>) -> bool
-    ensures { length marks.new.items ≡ length marks.old.items }
-{
-    let mut marked = false;
-    for entry in row {
-        if let Some(next) = *entry {
-            if next < marks.len() && !marks[next] {
-                marks[next] = true;
-                marked = true;
-            }
-        }
-    }
-    marked
-}
-
-// The kernels of the states with a mark.
-fn marked_kernels<StorageT: StorageIndex>(
-    alloc: Global,
-    states: &[MergedState<StorageT>],
-    marks: &[bool],
-) -> Result<Vec<Vec<CoreItems<StorageT>>>, AllocError>
-    requires { length marks.now ≡ length states.now }
-    ensures cores { IfOk result (λ kernels. HaveCoresOf StorageT.index states.now kernels.items) }
-    ensures len { IfOk result (λ kernels. length kernels.items ≤ length states.now) }
-{
-    let mut kernels = Vec::new(alloc);
-    for number in 0..states.len() {
-        if marks[number] {
-            let state = &states[number];
-            let kernel = copied(alloc, &state.kernel)?;
-            kernels.push(kernel)?;
-        }
-    }
-    Ok(kernels)
-}
-
-// The transitions of the states with a mark, which are numbered anew.
-fn marked_transitions<StorageT: StorageIndex>(
-    alloc: Global,
-    states: &[MergedState<StorageT>],
-    marks: &[bool],
-) -> Result<Vec<Transitions>, AllocError>
-    requires { length marks.now ≡ length states.now }
-{
-    let numbers = numbers_of(alloc, marks)?;
-    let mut all = Vec::new(alloc);
-    for number in 0..states.len() {
-        if marks[number] {
-            let transitions = renumbered(alloc, &states[number].transitions, &numbers)?;
-            all.push(transitions)?;
-        }
-    }
-    Ok(all)
-}
-
-// For each mark, how many there are before it.
-fn numbers_of(alloc: Global, marks: &[bool]) -> Result<Vec<usize>, AllocError> {
-    let mut numbers = Vec::with_capacity(alloc, marks.len())?;
-    let mut next = 0;
-    for mark in marks {
-        numbers.push(next)?;
-        if *mark {
-            next += 1;
-        }
-    }
-    Ok(numbers)
-}
-
-// The transitions with the new numbers of the states.
-fn renumbered(
-    alloc: Global,
-    transitions: &Transitions,
-    numbers: &[usize],
-) -> Result<Transitions, AllocError> {
-    let rules = renumbered_row(alloc, &transitions.rules, numbers)?;
-    let tokens = renumbered_row(alloc, &transitions.tokens, numbers)?;
-    Ok(Transitions { rules, tokens })
-}
-
-// The row with the new numbers of its states.
-fn renumbered_row(
-    alloc: Global,
-    row: &[Option<usize>],
-    numbers: &[usize],
-) -> Result<Vec<Option<usize>>, AllocError> {
-    let mut renumbered = Vec::with_capacity(alloc, row.len())?;
-    for entry in row {
-        let next = match *entry {
-            Some(state) => numbers.get(state).copied(),
-            None => None,
-        };
-        renumbered.push(next)?;
-    }
-    Ok(renumbered)
 }

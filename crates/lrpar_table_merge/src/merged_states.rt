@@ -4,7 +4,7 @@ ghost use Rattle.lrpar_grammar.specs.Grammar.{IsWellFormed};
 ghost use Rattle.lrpar_table_items.specs.Working.{AreSuccessors};
 ghost use Rattle.lrpar_table_merge.specs.Expansions.{AreKept, IsKeptAt};
 ghost use Rattle.lrpar_table_merge.specs.Passing.{AreKernelsHeld};
-ghost use Rattle.lrpar_table_merge.specs.StoredKernels.{AreKernelsIfFilled, HaveAnItem, IsKernelIfFilled, IsKernelOf};
+ghost use Rattle.lrpar_table_merge.specs.StoredKernels.{AreDistinctKernels, AreKernelsIfFilled, AreOneTo, HaveAnItem, IsKernelIfFilled, IsKernelOf};
 ghost use Rattle.lrpar_table_merge.specs.StoredStates.{AreStatesOf, FitsGoto, HasGivenGotos, HasGivenShifts, HasGivenSteps, IsGivenNext, IsMisfitAt, IsStateAt};
 
 use crate::compatible::have_same_cores;
@@ -33,9 +33,9 @@ pub(crate) fn make_merged_states<StorageT: StorageIndex>(
 ) -> Result<Vec<State<StorageT>>, HeldFault>
     requires well_formed { IsWellFormed grm.now }
     requires kept { AreKept StorageT.index grm.now expansions.old }
-    requires some { 0 < length kernels.now }
-    requires fit { length kernels.now ≤ StorageT.limit }
+    requires count { AreOneTo StorageT.limit kernels.now }
     requires held { AreKernelsHeld StorageT.index grm.now all.now kernels.now }
+    requires distinct { AreDistinctKernels StorageT.index kernels.now }
     ensures kept { AreKept StorageT.index grm.now expansions.new }
     ensures states { IfOk result (AreStatesOf StorageT.index grm.now) }
     ensures len { IfOk result (λ states. length states.items ≡ length kernels.now) }

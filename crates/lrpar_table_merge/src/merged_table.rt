@@ -1,6 +1,7 @@
 //! The state graph and the table of merged item sets.
 ghost use Rattle.std.specs.Prelude.{◌≤◌, IfErr, IfOk, length};
 ghost use Rattle.lrpar_table_build.specs.Built.{HaveStates};
+ghost use Rattle.lrpar_table_merge.specs.Distinct.{HaveDistinctStates};
 ghost use Rattle.lrpar_table_merge.specs.MergedBy.{AreMergedBy, IsTableRefusal};
 ghost use Rattle.lrpar_table_merge.specs.StoredStates.{AreStatesOf};
 
@@ -27,6 +28,7 @@ pub(crate) fn table_of_merged<StorageT: StorageIndex>(
     requires states { AreStatesOf StorageT.index grm.now states }
     requires fit { length states.items ≤ StorageT.limit }
     ensures merged { IfOk result (AreMergedBy grm.now precedences.now) }
+    ensures distinct { IfOk result HaveDistinctStates }
     ensures len { IfOk result (HaveStates (length states.items)) }
     ensures refused { IfErr result (IsTableRefusal grm.now) }
 {

@@ -2,7 +2,7 @@
 ghost use Rattle.std.specs.Prelude.{◌≡◌};
 ghost use Rattle.std.specs.Bool.{OnFalse, OnTrue};
 ghost use Rattle.lrpar_table_items.specs.Cores.{core_set};
-ghost use Rattle.lrpar_table_merge.specs.StoredKernels.{AreEqualCores, AreSameCores, HaveOneRoom, HaveSameRooms, IsSameCore, LackFewer, LacksFewer, StaysKernel, UniteKernels, UnitesLookaheads};
+ghost use Rattle.lrpar_table_merge.specs.StoredKernels.{AreEqualCores, CanUnite, HaveOneRoom, IsSameCore, LackFewer, LacksFewer, StaysKernel, UniteKernels, UnitesLookaheads};
 
 use lrpar_grammar::span::StorageIndex;
 use lrpar_table_items::cores::CoreItems;
@@ -12,8 +12,7 @@ pub fn unite<StorageT: StorageIndex>(
     kernel: &mut [CoreItems<StorageT>],
     other: &[CoreItems<StorageT>],
 ) -> bool
-    requires same { AreSameCores StorageT.index kernel.old other.now }
-    requires room { HaveSameRooms StorageT.index kernel.old other.now }
+    requires { CanUnite StorageT.index kernel.old other.now }
     ensures united { UniteKernels StorageT.index kernel.old other.now kernel.new }
     ensures kernel { StaysKernel StorageT.index kernel.old kernel.new }
     ensures grown { OnTrue result (LackFewer StorageT.index kernel.old kernel.new) }

@@ -12,6 +12,7 @@ use Rattle.lrpar_table_check.specs.Checked.{Checked, GivesBack, IsChainFault, Is
 use Rattle.lrpar_table.specs.TableLaws.{IsCompleteWithoutConflicts}
 use Rattle.lrpar_table.proofs.CompleteLemmas.{built_tables_are_complete_without_conflicts}
 use Rattle.lrpar_table.proofs.ViableLemmas.{tables_by_precedence_are_viable}
+use Rattle.lrpar_table_merge.specs.Distinct.{HaveDistinctStates}
 use Rattle.lrpar_table_merge.specs.MergedBy.{IsMergedBy}
 use Rattle.lrpar_table_merge.specs.Minimised.{IsMinimisedBy}
 use Rattle.lrpar_table_merge.specs.declared.build.Minimiser.{Minimiser}
@@ -41,11 +42,13 @@ module _ (g : Grammar) (graph : Graph) (table : Table) where
   minimised_viable Canonical lists built = tables_by_precedence_are_viable g lists graph table built
   minimised_viable Pager lists merged = merged_tables_by_precedences_are_viable g lists graph table merged.steps merged.merged merged.resolution
 
-  module _ (options : Options) (by : IsMinimisedBy options.minimiser g options.precedences graph table) (room : graph_len graph ≤ options.max_states) where
+  module _ (options : Options) (by : IsMinimisedBy options.minimiser g options.precedences graph table) (distinct : HaveDistinctStates (graph, table))
+      (room : graph_len graph ≤ options.max_states) where
     table_by : IsWellFormed g → IsTableBy options g graph table
     table_by well = record {
       by = by;
       alone = λ none. minimised_alone options.minimiser options.precedences well none by;
+      distinct = distinct;
       room = room;
     }
 

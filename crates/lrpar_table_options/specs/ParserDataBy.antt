@@ -10,6 +10,7 @@ use Rattle.lrpar_table_check.specs.Checked.{Checked, IsChainFault, IsChecked, Un
 use Rattle.lrpar_table.specs.TableLaws.{IsCompleteWithoutConflicts}
 use Rattle.lrpar_table.specs.declared.build.Unbuilt.{Unbuilt}
 use Rattle.lrpar_table.specs.declared.build.Unbuilt.TheVariants.{Chains, Table}
+use Rattle.lrpar_table_merge.specs.Distinct.{HaveDistinctStates}
 use Rattle.lrpar_table_merge.specs.Merged.{IsMerged}
 use Rattle.lrpar_table_merge.specs.Minimised.{IsMinimisedBy, IsRefusalBy}
 use Rattle.lrpar_table_merge.specs.declared.build.Minimiser.{Minimiser}
@@ -21,10 +22,11 @@ abbrev pub IsMinimised : Minimiser → Grammar → Graph → TableOf → Type 0
 IsMinimised Canonical g graph table = IsBuilt g graph table
 IsMinimised Pager g graph table = IsMerged g graph table
 
--- the graph and the table are built by the options, within the limit of states
+-- the graph and the table are built by the options, within the limit of states; no two states have the same items
 pub record IsTableBy (options : Options) (g : Grammar) (graph : Graph) (table : TableOf) : Type 0 where
   pub by : IsMinimisedBy options.minimiser g options.precedences graph table
   pub alone : options.precedences ≡ no_precedences → IsMinimised options.minimiser g graph table
+  pub distinct : HaveDistinctStates (graph, table)
   pub room : graph_len graph ≤ options.max_states
 
 -- the checked table is the one that is built by the options, and has their cap; it is viable; and without precedences it is complete if

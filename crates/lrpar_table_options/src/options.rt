@@ -1,6 +1,7 @@
 //! Options of the table builder, and the tables that it builds by them.
 ghost use Rattle.std.specs.Prelude.{◌≡◌, IfErr, IfOk};
 ghost use Rattle.lrpar_table_build.specs.Built.{HaveAtMost};
+ghost use Rattle.lrpar_table_merge.specs.Distinct.{HaveDistinctStates};
 ghost use Rattle.lrpar_table_merge.specs.Minimised.{AreMinimisedBy, AreSafe, IsRefusalBy};
 ghost use Rattle.lrpar_table_options.specs.Options.{default_options};
 ghost use Rattle.lrpar_table_options.specs.ParserDataBy.{IsParserDataBy, IsUnbuiltBy};
@@ -147,6 +148,7 @@ impl<'a> TableOptions<'a> {
     ) -> Result<(StateGraph<StorageT>, StateTable<StorageT>), BuildFault>
         // Canonical item sets or merged ones, and a table with their actions after conflict resolution.
         ensures built { IfOk result (AreMinimisedBy self.now.minimiser grm.now self.now.precedences) }
+        ensures distinct { IfOk result HaveDistinctStates }
         ensures safe { IfOk result (AreSafe grm.now) }
         ensures room { IfOk result (HaveAtMost self.now.max_states) }
         // As for `from_yacc`; with `Minimiser::Pager`, `AcceptReduceConflict`: a merged set calls for accept and a reduction, and

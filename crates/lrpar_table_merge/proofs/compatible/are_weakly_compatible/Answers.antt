@@ -1,9 +1,9 @@
-use Rattle.std.proofs.Common.{◌<◌, ◌∙◌, refl, sym, arith, ℕ, length, map}
+use Rattle.std.proofs.Common.{◌<◌, ◌∙◌, below_more, refl, sym, arith, ℕ, length, map}
 use Rattle.std.proofs.lemmas.Bool.{false≢true}
 use Rattle.std.proofs.lemmas.List.{length-map}
 use Rattle.lrpar_table_items.specs.Cores.{core_set}
 use Rattle.lrpar_table_merge.specs.Compatible.{ArePairCompatible}
-use Rattle.lrpar_table_merge.proofs.PairLemmas.{below_more, compatible_all, compatible_earlier}
+use Rattle.lrpar_table_merge.proofs.PairLemmas.{compatible_all, compatible_earlier}
 use Rattle.lrpar_table_merge.proofs.SameCoreLemmas.{same_len}
 use Rattle.lrpar_table_merge.proofs.compatible.are_weakly_compatible.Goals as goal
 

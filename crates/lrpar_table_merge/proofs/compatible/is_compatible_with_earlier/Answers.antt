@@ -1,8 +1,8 @@
-use Rattle.std.proofs.Common.{◌<◌, ◌∙◌, refl, sym, arith, length, map}
+use Rattle.std.proofs.Common.{◌<◌, ◌∙◌, below_more, refl, sym, arith, length, map}
 use Rattle.std.proofs.lemmas.Bool.{false≢true}
 use Rattle.lrpar_table_items.specs.Cores.{core_set}
 use Rattle.lrpar_table_merge.specs.Compatible.{ArePairCompatible}
-use Rattle.lrpar_table_merge.proofs.PairLemmas.{below_more, pair_values}
+use Rattle.lrpar_table_merge.proofs.PairLemmas.{pair_values}
 use Rattle.lrpar_table_merge.proofs.compatible.is_compatible_with_earlier.Goals as goal
 
 pub returns-then-not-is_pair_compatible : goal.returns-then-not-is_pair_compatible

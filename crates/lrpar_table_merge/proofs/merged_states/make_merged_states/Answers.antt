@@ -23,6 +23,9 @@ loop-number-init g c =
 pub make_merged_state-requires-clause-kernels : goal.make_merged_state-requires-clause-kernels
 make_merged_state-requires-clause-kernels g c = c.requires.held.filled
 
+pub make_merged_state-requires-clause-fit : goal.make_merged_state-requires-clause-fit
+make_merged_state-requires-clause-fit g c = c.requires.count.1
+
 pub loop-number-preserved : goal.loop-number-preserved
 loop-number-preserved g c =
     let index = g.StorageT.StorageIndex.index in
@@ -55,10 +58,10 @@ returns-clause-states g c =
     let len = so_far.len in
     let within = so_far.within in
     let count = rows_len index kernels in
-    let some = c.requires.some in
+    let some = c.requires.count.0 in
     are_merged_states c.args.grm.now c.requires.well_formed rows (omega (arith, some, count)) all c.requires.held.held states
     (omega (arith, len, within, count, c.loop-number-test.false))
-    (λ s low. so_far.given s (omega (arith, low, len)))
+    (λ s low. so_far.given s (omega (arith, low, len))) c.requires.distinct
 
 pub returns-clause-len : goal.returns-clause-len
 returns-clause-len g c =

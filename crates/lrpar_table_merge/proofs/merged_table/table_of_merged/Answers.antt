@@ -4,8 +4,9 @@ use Rattle.std.proofs.lemmas.Result.{IfErr-weaker}
 use Rattle.lrpar_table_items.specs.StateRows.{IsRefusalOf, IsRefusedState}
 use Rattle.lrpar_table_items.specs.States.{state_of}
 use Rattle.lrpar_table_build.proofs.TablesLemmas.{ok_four}
+use Rattle.lrpar_table_merge.specs.Distinct.{HaveDistinctStates}
 use Rattle.lrpar_table_merge.specs.MergedBy.{AreMergedBy, IsTableRefusal}
-use Rattle.lrpar_table_merge.proofs.MergedStateLemmas.{merged_refusal, states_merged_by}
+use Rattle.lrpar_table_merge.proofs.MergedStateLemmas.{graph_distinct, merged_refusal, states_merged_by}
 use Rattle.lrpar_table_merge.proofs.merged_table.table_of_merged.Goals as goal
 
 pub state_tables-requires-clause-some : goal.state_tables-requires-clause-some
@@ -22,6 +23,16 @@ returns-clause-merged g c =
     (λ made long items is none.
     states_merged_by grm c.start_prod-lemma.ensures.well_formed states c.requires.states precedences made.0 made.1 (long ∙ sym len) items is
     (λ s t below within. none s t (omega (arith, len, below)) within))
+    c.state_tables.ensures.len c.state_tables.ensures.items c.state_tables.ensures.table c.state_tables.ensures.none
+
+pub returns-clause-distinct : goal.returns-clause-distinct
+returns-clause-distinct g c =
+    let index = g.StorageT.StorageIndex.index in
+    let states = map (state_of index) c.args.states.items in
+    let len = length-map c.args.states.items (state_of index) in
+    ok_four c.state_tables.result _ _ _ _ HaveDistinctStates
+    (λ made long items is none.
+    graph_distinct c.args.grm.now c.start_prod-lemma.ensures.well_formed states c.requires.states made.0 (long ∙ sym len) items)
     c.state_tables.ensures.len c.state_tables.ensures.items c.state_tables.ensures.table c.state_tables.ensures.none
 
 pub returns-clause-refused : goal.returns-clause-refused

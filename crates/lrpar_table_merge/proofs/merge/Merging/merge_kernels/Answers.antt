@@ -1,4 +1,4 @@
-use Rattle.std.proofs.Common.{◌∙◌, sym, subst, arith, map}
+use Rattle.std.proofs.Common.{◌<◌, ◌∙◌, sym, subst, arith, length, map}
 use Rattle.std.proofs.lemmas.Bool.{eqb-false}
 use Rattle.lrpar_table_items.specs.CoreOrder.{IsKernel}
 use Rattle.lrpar_table_items.specs.Cores.{core_set}
@@ -12,16 +12,12 @@ merge_kernel-requires-clause-kernel g c =
     let grm = c.args.grm.now in
     let kernel = c.kernel-item.result in
     let full = eqb-false kernel.len 0 (sym c.is_empty.ensures ∙ c.if-is_empty.false) in
-    subst (λ cores. IsKernel grm (map (core_set index) cores)) (sym c.deref.ensures.value)
-    (kernel_or_empty index grm c.args.kernels.now c.loop-kernel.kernel-index kernel c.loop-kernel-test.true c.kernel-item.is c.requires.kernels
-    (omega (arith, full, kernel.ok.0)))
-
-pub merge_kernel-requires-clause-made : goal.merge_kernel-requires-clause-made
-merge_kernel-requires-clause-made g c =
-    let index = g.StorageT.StorageIndex.index in
-    let grm = c.args.grm.now in
-    let kernel = c.kernel-item.result in
-    let full = eqb-false kernel.len 0 (sym c.is_empty.ensures ∙ c.if-is_empty.false) in
-    subst (λ cores. IsMade grm (map (core_set index) cores)) (sym c.deref.ensures.value)
-    (made_or_empty index grm c.args.kernels.now c.loop-kernel.kernel-index kernel c.loop-kernel-test.true c.kernel-item.is c.requires.made
-    (omega (arith, full, kernel.ok.0)))
+    let some : 0 < length kernel.items = omega (arith, full, kernel.ok.0) in
+    let value = sym c.deref.ensures.value in record {
+      is =
+          subst (λ cores. IsKernel grm (map (core_set index) cores)) value
+          (kernel_or_empty index grm c.args.kernels.now c.loop-kernel.kernel-index kernel c.loop-kernel-test.true c.kernel-item.is c.requires.kernels.are some);
+      made =
+          subst (λ cores. IsMade grm (map (core_set index) cores)) value
+          (made_or_empty index grm c.args.kernels.now c.loop-kernel.kernel-index kernel c.loop-kernel-test.true c.kernel-item.is c.requires.kernels.made some);
+    }

@@ -10,14 +10,14 @@ use Rattle.lrpar_table_merge.proofs.merge.Merging.push.Goals as goal
 pub returns-then-number-max_states-clause-fault : goal.returns-then-number-max_states-clause-fault
 returns-then-number-max_states-clause-fault g c =
     too_many g.StorageT.StorageIndex.index c.args.grm.now c.args.max_states g.StorageT.StorageIndex.limit c.args.max_states c.args.self.now
-    c.requires.merging _ c.requires.kernel c.requires.made c.requires.fresh (omega (arith, c.if-number-max_states.true, c.len-number.ensures))
+    c.requires.merging _ c.requires.kernel.is c.requires.kernel.made c.requires.fresh (omega (arith, c.if-number-max_states.true, c.len-number.ensures))
 
 pub returns-then-is_none-clause-fault : goal.returns-then-is_none-clause-fault
 returns-then-is_none-clause-fault g c =
     let limit = g.StorageT.StorageIndex.limit in
     let states = c.args.self.now.states.items in
-    too_many g.StorageT.StorageIndex.index c.args.grm.now c.args.max_states limit limit c.args.self.now c.requires.merging _ c.requires.kernel
-    c.requires.made c.requires.fresh (elim (cases_lt c.len-number.result limit) as (λ _. limit ≤ length states) [
+    too_many g.StorageT.StorageIndex.index c.args.grm.now c.args.max_states limit limit c.args.self.now c.requires.merging _ c.requires.kernel.is
+    c.requires.kernel.made c.requires.fresh (elim (cases_lt c.len-number.result limit) as (λ _. limit ≤ length states) [
       | inl low ↦ absurd (false≢true (sym (c.is_none.ensures ∙ ap not c.if-is_none.true) ∙ c.from_index.ensures.within.1 low))
       | inr past ↦ omega (arith, past, c.len-number.ensures)
     ])
@@ -33,15 +33,17 @@ returns g c =
     let fits = c.from_index.ensures.within.0 (c.is_none.ensures ∙ ap not c.if-is_none.false) in
     let room : length before.states.items < c.args.max_states = omega (arith, at, c.if-number-max_states.false) in
     let same = c.in_ok-kernel.ensures in
-    let kernel = subst (IsKernel grm) (sym same) c.requires.kernel in
+    let kernel = subst (IsKernel grm) (sym same) c.requires.kernel.is in
     let list = c.push.new.self in
     let items =
     c.in_ok-push.ensures.items ∙ ap (λ xs. xs ++ number ∷ []) (listed_read before.by_prod.items c.args.prod c.index_mut.result.now c.requires.prod c.index_mut.ensures.value) in
     record {
-      merging =
-          merging_push index grm c.args.max_states limit before c.requires.merging _ _ c.args.prod number list c.in_ok-push-2.ensures.items c.requires.prod refl
-          at items (ap first_prod same ∙ c.requires.begins) kernel (subst (IsMade grm) (sym same) c.requires.made)
-          (subst (NoneIsCompatible (kernels_of index before.states.items)) (sym same) c.requires.fresh) room (omega (arith, at, fits));
-      work = work_push index grm c.args.max_states before.states.items _ _ c.in_ok-push-2.ensures.items room kernel;
+      goes_on = record {
+        merging =
+            merging_push index grm c.args.max_states limit before c.requires.merging _ _ c.args.prod number list c.in_ok-push-2.ensures.items c.requires.prod refl
+            at items (ap first_prod same ∙ c.requires.begins) kernel (subst (IsMade grm) (sym same) c.requires.kernel.made)
+            (subst (NoneIsCompatible (kernels_of index before.states.items)) (sym same) c.requires.fresh) room (omega (arith, at, fits));
+        work = work_push index grm c.args.max_states before.states.items _ _ c.in_ok-push-2.ensures.items room kernel;
+      };
       fault = tt;
     }

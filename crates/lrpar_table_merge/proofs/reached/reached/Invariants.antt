@@ -1,5 +1,5 @@
 use Rattle.std.proofs.Common.{◌≡◌, length}
-use Rattle.lrpar_table_merge.proofs.merge.reached.Given as goal
+use Rattle.lrpar_table_merge.proofs.reached.reached.Given as goal
 
 -- there is a mark for each state
 abbrev pub invariant-loop : goal.invariant-loop

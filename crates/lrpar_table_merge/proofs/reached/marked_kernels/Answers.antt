@@ -5,8 +5,8 @@ use Rattle.lrpar_table_items.specs.Cores.{core_set}
 use Rattle.lrpar_table_items.specs.Next.{kernel_rows}
 use Rattle.lrpar_table_merge.specs.Merging.{AreCoreRows}
 use Rattle.lrpar_table_merge.proofs.MergingLemmas.{kernel_read, rows_push}
-use Rattle.lrpar_table_merge.proofs.merge.marked_kernels.Goals as goal
-use Rattle.lrpar_table_merge.proofs.merge.marked_kernels.Goals.{then-marks-number+in_ok-kernel+in_ok-push, else-marks-number}
+use Rattle.lrpar_table_merge.proofs.reached.marked_kernels.Goals as goal
+use Rattle.lrpar_table_merge.proofs.reached.marked_kernels.Goals.{then-marks-number+in_ok-kernel+in_ok-push, else-marks-number}
 
 pub loop-number-preserved : goal.loop-number-preserved
 loop-number-preserved g c =

@@ -1,0 +1,149 @@
+//! Merged states of which no two have the same items.
+ghost use Rattle.std.specs.Prelude.{◌≡◌, ◌<◌, ◌≤◌, IfErr, IfNone, IfOk, IfSome, length};
+ghost use Rattle.lrpar_grammar.specs.Grammar.{IsWellFormed};
+ghost use Rattle.lrpar_table_items.specs.StoredStates.{HasAtMost};
+ghost use Rattle.lrpar_table_merge.specs.Expansions.{AreKept};
+ghost use Rattle.lrpar_table_merge.specs.StoredKernels.{AreDistinctKernels, AreTwins, HaveCores, IsNewAt, IsTwinOf};
+ghost use Rattle.lrpar_table_merge.specs.StoredStates.{AreStatesOf, HaveKernels, KeepKernels};
+
+use crate::expansions::Expansions;
+use crate::held::{HeldFault, Transitions};
+use crate::merge::MergedState;
+use crate::merged_states::make_merged_states;
+use crate::propagate::propagate;
+use crate::reached::{marked_kernels, marked_transitions, reached};
+use lrpar_grammar::grammar::YaccGrammar;
+use lrpar_grammar::span::StorageIndex;
+use lrpar_table_items::cores::{CoreItems, are_same};
+use lrpar_table_items::item_set::State;
+use std::alloc::Global;
+
+/// The states to which transitions lead, with the lookaheads worked out anew from the start. Merging can leave two states with the same
+/// items, if kernels grow late: then the transitions to the later one lead to the earlier one, and all is worked out again.
+///
+/// It returns `Misfit` if transitions and kernels don't fit, as `propagate` and `make_merged_states` say, and `Memory` if an allocation fails.
+pub(crate) fn make_distinct_states<StorageT: StorageIndex>(
+    alloc: Global,
+    grm: &YaccGrammar<StorageT>,
+    expansions: &mut Expansions<StorageT>,
+    states: &mut [MergedState<StorageT>],
+) -> Result<Vec<State<StorageT>>, HeldFault>
+    requires well_formed { IsWellFormed grm.now }
+    requires kept { AreKept StorageT.index grm.now expansions.old }
+    requires kernels { HaveKernels StorageT.index grm.now states.old }
+    requires fit { length states.old ≤ StorageT.limit }
+    ensures states { IfOk result (AreStatesOf StorageT.index grm.now) }
+    ensures len { IfOk result (HasAtMost (length states.old)) }
+{
+    // Each round leaves out a state.
+    for _ in 0..states.len() {
+        let marks = reached(alloc, states)?;
+        let mut kernels = marked_kernels(alloc, states, &marks)?;
+        let all = marked_transitions(alloc, states, &marks)?;
+        match propagate_states(alloc, grm, expansions, &all, &mut kernels)? {
+            Ok(made) => return Ok(made),
+            Err((first, second)) => {
+                redirect(states, number_at(&marks, second), number_at(&marks, first));
+            }
+        }
+    }
+    Err(HeldFault::Misfit)
+}
+
+// The states of the kernels, whose lookaheads are worked out anew from the start; or two of the kernels, if they are then the same.
+fn propagate_states<StorageT: StorageIndex>(
+    alloc: Global,
+    grm: &YaccGrammar<StorageT>,
+    expansions: &mut Expansions<StorageT>,
+    all: &[Transitions],
+    kernels: &mut [Vec<CoreItems<StorageT>>],
+) -> Result<Result<Vec<State<StorageT>>, (usize, usize)>, HeldFault>
+    requires well_formed { IsWellFormed grm.now }
+    requires kept { AreKept StorageT.index grm.now expansions.old }
+    requires cores { HaveCores StorageT.index grm.now kernels.old }
+    requires fit { length kernels.old ≤ StorageT.limit }
+    ensures kept { AreKept StorageT.index grm.now expansions.new }
+    ensures states { IfOk result (λ made. IfOk made (AreStatesOf StorageT.index grm.now)) }
+    ensures len { IfOk result (λ made. IfOk made (HasAtMost (length kernels.old))) }
+    ensures twins { IfOk result (λ made. IfErr made (AreTwins StorageT.index kernels.new)) }
+{
+    propagate(alloc, grm, expansions, all, kernels)?;
+    match find_twins(kernels) {
+        None => Ok(Ok(make_merged_states(alloc, grm, expansions, all, kernels)?)),
+        Some(twins) => Ok(Err(twins)),
+    }
+}
+
+// Two kernels with the same cores and the same lookaheads, if there are any, the earlier one first.
+fn find_twins<StorageT: StorageIndex>(
+    kernels: &[Vec<CoreItems<StorageT>>],
+) -> Option<(usize, usize)>
+    ensures twins { IfSome result (AreTwins StorageT.index kernels.now) }
+    ensures none { IfNone result (AreDistinctKernels StorageT.index kernels.now) }
+{
+    for number in 0..kernels.len() {
+        if let Some(earlier) = find_twin(kernels, number) {
+            return Some((earlier, number));
+        }
+    }
+    None
+}
+
+// The first of the kernels before the one with this number that is the same.
+fn find_twin<StorageT: StorageIndex>(
+    kernels: &[Vec<CoreItems<StorageT>>],
+    number: usize,
+) -> Option<usize>
+    requires { number < length kernels.now }
+    ensures twin { IfSome result (IsTwinOf StorageT.index kernels.now number) }
+    ensures none { IfNone result (IsNewAt StorageT.index kernels.now number) }
+{
+    for earlier in 0..number {
+        if are_same(&kernels[earlier], &kernels[number]) {
+            return Some(earlier);
+        }
+    }
+    None
+}
+
+// The place of a mark, of which so many are before it; if there are fewer, 0.
+fn number_at(marks: &[bool], count: usize) -> usize {
+    let mut left = count;
+    for number in 0..marks.len() {
+        if marks[number] {
+            if left == 0 {
+                return number;
+            }
+            left -= 1;
+        }
+    }
+    0
+}
+
+// Makes the transitions to a state lead to another one.
+fn redirect<StorageT: StorageIndex>(states: &mut [MergedState<StorageT>], from: usize, to: usize)
+    ensures { KeepKernels StorageT.index states.old states.new }
+{
+    for number in 0..states.len() {
+        redirect_state(&mut states[number], from, to);
+    }
+}
+
+// Makes the transitions of the state to one state lead to another one.
+fn redirect_state<StorageT: StorageIndex>(state: &mut MergedState<StorageT>, from: usize, to: usize)
+    ensures { state.new.kernel ≡ state.old.kernel }
+{
+    redirect_row(&mut state.transitions.rules, from, to);
+    redirect_row(&mut state.transitions.tokens, from, to);
+}
+
+// Makes the entries of the row that lead to one state lead to another one.
+fn redirect_row(row: &mut Vec<Option<usize>>, from: usize, to: usize) {
+    for place in 0..row.len() {
+        if let Some(next) = row[place] {
+            if next == from {
+                row[place] = Some(to);
+            }
+        }
+    }
+}
