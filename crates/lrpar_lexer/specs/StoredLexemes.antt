@@ -3,7 +3,7 @@ use Rattle.std.specs.Prelude.{◌≡◌, ◌++◌, ℕ, List, Option, Result, Ve
 use Rattle.lrpar_grammar_places.specs.declared.span.TIdx.{TIdx}
 use Rattle.lrpar_lexer.specs.Answers.{plain_answers}
 use Rattle.lrpar_lexer.specs.Lexing.{Lexes, lexemes_of}
-use Rattle.lrpar_lexer.specs.LexingAll.{IsNext, LexesAll}
+use Rattle.lrpar_lexer.specs.LexingAll.{IsNext, LexesAll, LexesBy}
 use Rattle.lrpar_lexer.specs.Rules.{number_of, plain_rules}
 use Rattle.lrpar_lexer.specs.declared.rule.LexRule.{LexRule}
 use Rattle.lrpar_lexer.specs.declared.token.Token.{Token}
@@ -17,6 +17,10 @@ module _ {S : Type 0} (index : S → ℕ) where
   -- these are the lexemes that the rules give, with a token for unmatched characters
   abbrev pub AreAllLexemesOf : {A : Type 0} → List (LexRule S) → TIdx S → List ℕ → Vec (Result (Token S) NoToken) A → Type 0
   AreAllLexemesOf rules unmatched text answers = LexesAll (plain_rules index rules) (index unmatched.0) text 0 (plain_answers index answers.items)
+
+  -- these are the lexemes and errors that the rules give for the text, with a token for unmatched characters or without one
+  abbrev pub AreLexemesBy : List (LexRule S) → Option (TIdx S) → List ℕ → List (Result (Token S) NoToken) → Type 0
+  AreLexemesBy rules unmatched text answers = LexesBy (plain_rules index rules) (number_of index unmatched) text (plain_answers index answers)
 
   -- what comes at byte `at`: its token, if it has one, and its number of bytes
   abbrev pub ComesAt : List (LexRule S) → TIdx S → List ℕ → ℕ → Option (TIdx S) × ℕ → Type 0

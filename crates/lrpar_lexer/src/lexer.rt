@@ -1,50 +1,58 @@
-//! The lexer of a text by rules.
-ghost use Rattle.std.specs.Prelude.{◌≡◌, IfOk, Some, None};
+//! The lexer of a text by rules of some kind.
+ghost use Rattle.std.specs.Prelude.{◌≡◌, ℕ, IfOk, List, None, Option, Result, Some};
 ghost use Rattle.std.specs.Str.{IsCharBoundary};
 ghost use Rattle.lrpar_grammar_places.specs.Lines.{column_of, line_of, line_table};
+ghost use Rattle.lrpar_grammar_places.specs.declared.span.TIdx.{TIdx};
 ghost use Rattle.lrpar_lexer.specs.TextParts.{IsEmptyOutside, IsPartAt};
+ghost use Rattle.lrpar_lexer.specs.declared.token.Token.{Token};
+ghost use Rattle.lrpar_lexer.specs.declared.token.NoToken.{NoToken};
 
-use crate::lexing::answers;
-use crate::lexing_all::all_answers;
 use crate::list_lexer::ListLexer;
 use crate::parts::part_of;
-use crate::rule::LexRule;
 use crate::token::{NoToken, Token, TokenTypes};
 use lrpar_grammar_places::lines::NewlineCache;
 use lrpar_grammar_places::span::{Span, StorageIndex, TIdx};
 use lrpar_parse_lexemes::{InputLexer, Lexeme, Lexer, NonStreamingLexer};
 use std::alloc::{AllocError, Global};
 
-/// A lexer of a text by rules. At each place the rule with the longest match wins, and among several such rules the first. If it
-/// has a token, the match is a lexeme; otherwise the match is skipped. If no rule matches, there is an error, and it is the last
-/// result; `with_unmatched` gives lexemes in place of errors.
-///
-/// A pattern's match at a place is what `regex` finds in the text from that place on, if it begins there and isn't empty.
+/// Rules by which a `TextLexer` lexes its text: those of `RuleLexer`, those of the `StateLexer` of `lrpar_lexer_lrlex`, or some of your own.
+pub trait LexRules<StorageT>: Drop {
+    /// The lists of lexemes and errors that the rules may give for a text, with a token for what would be an error or without one.
+    ghost gives: { Self → Option (TIdx StorageT) → List ℕ → List (Result (Token StorageT) NoToken) → Type 0 };
+
+    /// The lexemes and errors of the text. With a token in `unmatched`, what would be an error is a lexeme of that token.
+    fn lex(
+        &self,
+        alloc: Global,
+        unmatched: Option<TIdx<StorageT>>,
+        input: &str,
+    ) -> Result<Vec<Result<Token<StorageT>, NoToken>>, AllocError>
+        ensures given { IfOk result (λ answers. gives self.now unmatched input.now answers.items) };
+}
+
+/// A lexer of a text by rules. `RuleLexer` and the `StateLexer` of `lrpar_lexer_lrlex` are names for it with two kinds of rules, and say
+/// what these give for a text.
 #[derive(Drop)]
-pub struct RuleLexer<'rules, 'input, StorageT = u32> {
-    rules: &'rules [LexRule<StorageT>],
+pub struct TextLexer<'input, Rules, StorageT = u32> {
+    rules: Rules,
     input: &'input str,
     lines: NewlineCache,
-    // the token of characters at which no rule matches
+    // the token of what would be an error
     unmatched: Option<TIdx<StorageT>>,
     ghost lines_of_input: { lines ≡ line_table input.now },
 }
 
-impl<'rules, 'input, StorageT: StorageIndex> RuleLexer<'rules, 'input, StorageT> {
+impl<'input, Rules: LexRules<StorageT>, StorageT: StorageIndex> TextLexer<'input, Rules, StorageT> {
     ghost use Rattle.lrpar_lexer.specs.Lexers.{HasLexemesOf};
 
     /// The lexer of this text by these rules. Takes time linear in the text, and memory for each of its lines.
-    pub fn new(
-        alloc: Global,
-        rules: &'rules [LexRule<StorageT>],
-        input: &'input str,
-    ) -> Result<Self, AllocError>
-        ensures rules { IfOk result (λ lexer. lexer.rules.now ≡ rules.now) }
+    pub fn new(alloc: Global, rules: Rules, input: &'input str) -> Result<Self, AllocError>
+        ensures rules { IfOk result (λ lexer. lexer.rules ≡ rules) }
         ensures input { IfOk result (λ lexer. lexer.input.now ≡ input.now) }
         ensures unmatched { IfOk result (λ lexer. lexer.unmatched ≡ None) }
     {
         let lines = NewlineCache::new(alloc, input)?;
-        Ok(RuleLexer {
+        Ok(TextLexer {
             rules,
             input,
             lines,
@@ -52,11 +60,9 @@ impl<'rules, 'input, StorageT: StorageIndex> RuleLexer<'rules, 'input, StorageT>
         })
     }
 
-    /// This lexer, made so that it never gives an error: the longest run of characters at which no rule matches is one lexeme of this token. A
-    /// run ends at the first character at which a rule matches, or at the end of the text. `iter` then takes the time of one match at
-    /// each character of a run, and of two at the character after it.
+    /// This lexer, made so that it never gives an error: what would be one is a lexeme of this token, and the lexer goes on after it.
     pub fn with_unmatched(mut self, token: TIdx<StorageT>) -> Self
-        ensures rules { result.rules.now ≡ self.entry.rules.now }
+        ensures rules { result.rules ≡ self.entry.rules }
         ensures input { result.input.now ≡ self.entry.input.now }
         ensures unmatched { result.unmatched ≡ Some token }
     {
@@ -75,7 +81,7 @@ impl<'rules, 'input, StorageT: StorageIndex> RuleLexer<'rules, 'input, StorageT>
     /// A lexer over the lexemes and errors that this one gives. They are found here, and only once, so that a parse, `expected` and a
     /// report about one text can share them. Takes memory for the list, and for each line of the text.
     pub fn lexed(&self, alloc: Global) -> Result<ListLexer<'input, StorageT>, AllocError>
-        ensures answers { IfOk result (HasLexemesOf StorageT.index self.now) }
+        ensures answers { IfOk result (HasLexemesOf Rules.gives self.now) }
         ensures input { IfOk result (λ lexer. lexer.input.now ≡ self.now.input.now) }
     {
         ListLexer::over(alloc, self.input, self.iter(alloc)?)
@@ -93,22 +99,21 @@ impl<'rules, 'input, StorageT: StorageIndex> RuleLexer<'rules, 'input, StorageT>
     }
 }
 
-impl<'rules, 'input, StorageT: StorageIndex> Lexer<TokenTypes<StorageT>>
-    for RuleLexer<'rules, 'input, StorageT> {
+impl<'input, Rules: LexRules<StorageT>, StorageT: StorageIndex> Lexer<TokenTypes<StorageT>>
+    for TextLexer<'input, Rules, StorageT> {
     ghost use Rattle.lrpar_lexer.specs.Lexers.{LexesInput};
 
-    ghost allows = { λ lexer given. LexesInput StorageT.index lexer given };
+    ghost allows = { λ lexer given. LexesInput Rules.gives lexer given };
 
     fn iter(&self, alloc: Global) -> Result<Vec<Result<Token<StorageT>, NoToken>>, AllocError> {
-        match self.unmatched {
-            Some(token) => all_answers(alloc, self.rules, token, self.input),
-            None => answers(alloc, self.rules, self.input),
-        }
+        self.rules.lex(alloc, self.unmatched, self.input)
     }
 }
 
-impl<'rules, 'input, StorageT: StorageIndex> NonStreamingLexer<'input, TokenTypes<StorageT>>
-    for RuleLexer<'rules, 'input, StorageT> {
+impl<'input, Rules: LexRules<StorageT>, StorageT: StorageIndex> NonStreamingLexer<
+    'input,
+    TokenTypes<StorageT>,
+> for TextLexer<'input, Rules, StorageT> {
     ghost text = { λ lexer. lexer.input.now };
 
     fn span_str(&self, span: Span) -> &'input str {
@@ -125,8 +130,10 @@ impl<'rules, 'input, StorageT: StorageIndex> NonStreamingLexer<'input, TokenType
     }
 }
 
-impl<'rules, 'input, StorageT: StorageIndex> InputLexer<'input, TokenTypes<StorageT>>
-    for RuleLexer<'rules, 'input, StorageT> {
+impl<'input, Rules: LexRules<StorageT>, StorageT: StorageIndex> InputLexer<
+    'input,
+    TokenTypes<StorageT>,
+> for TextLexer<'input, Rules, StorageT> {
     fn input(&self) -> &'input str {
         self.input
     }

@@ -15,5 +15,4 @@ pub mod LexingAllIn
 pub mod Stacks
 pub mod StoredRules
 pub mod StoredLexemes
-pub mod Lexers
 pub mod Laws

@@ -10,7 +10,7 @@ use Rattle.lrpar_lexer_lrlex.specs.declared.rules.LrlexRules.{LrlexRules}
 use Rattle.lrpar_lexer_lrlex.specs.declared.stack.Stack.{Stack}
 use Rattle.lrpar_lexer_lrlex.specs.declared.states.Target as code
 use Rattle.lrpar_lexer_lrlex.specs.LexingIn.{LexesIn, ReadsIn, patterns_in}
-use Rattle.lrpar_lexer_lrlex.specs.LexingAllIn.{IsNextIn, LexesAllIn}
+use Rattle.lrpar_lexer_lrlex.specs.LexingAllIn.{IsNextIn, LexesAllIn, LexesByStates}
 use Rattle.lrpar_lexer_lrlex.specs.StateRules.{plain_state_rules}
 
 module _ {S : Type 0} (index : S → ℕ) (rules : LrlexRules S) where
@@ -22,6 +22,11 @@ module _ {S : Type 0} (index : S → ℕ) (rules : LrlexRules S) where
   abbrev pub AreAllLexemesIn : {A : Type 0} → TIdx S → List ℕ → Vec (Result (Token S) NoToken) A → Type 0
   AreAllLexemesIn unmatched text answers =
       LexesAllIn (plain_state_rules index rules) (index unmatched.0) text 0 0 [] (plain_answers index answers.items)
+
+  -- these are the lexemes and errors that the rules give for the text, with a token for what would be an error or without one
+  abbrev pub AreLexemesByStates : Option (TIdx S) → List ℕ → List (Result (Token S) NoToken) → Type 0
+  AreLexemesByStates unmatched text answers =
+      LexesByStates (plain_state_rules index rules) (number_of index unmatched) text (plain_answers index answers)
 
   -- what comes at byte `at` has this token, or none, and this number of bytes, and makes the new stack of the old one
   abbrev pub ComesIn : TIdx S → List ℕ → ℕ → Stack → Stack → Option (TIdx S) × ℕ × Option code.Target → Type 0
