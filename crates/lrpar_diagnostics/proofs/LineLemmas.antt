@@ -1,14 +1,12 @@
--- The lines that a part of a text touches, from one to the next, and the places at which a text may be cut.
-use Rattle.std.proofs.Common.{◌≡◌, ◌<◌, ◌≤◌, ◌+◌, ◌-◌, ℕ, zero, suc, true, false, cond, refl, sym, ap, subst, ◌∙◌, arith, List, [], ◌∷◌, ◌++◌, length, slice_index, inl, inr, min, max, append_assoc, append-nil}
-use Rattle.std.specs.Prelude.{encode_utf8}
+-- The lines that a part of a text touches, from one to the next, and where they start.
+use Rattle.std.proofs.Common.{◌≡◌, ◌<◌, ◌≤◌, ◌+◌, ◌-◌, ℕ, zero, suc, true, false, cond, refl, sym, ap, ◌∙◌, arith, List, [], ◌∷◌, length, slice_index, inl, inr}
 use Rattle.std.specs.List.{filter, range_with_len}
 use Rattle.std.specs.Str.{IsCharBoundary, IsUtf8}
-use Rattle.std.proofs.lemmas.Bool.{cases_eq, cases_lt}
+use Rattle.std.proofs.lemmas.Bool.{cases_eq}
 use Rattle.std.proofs.lemmas.Bool.Decides.{nat_tests}
 use Rattle.std.proofs.lemmas.List.Sums.{prefix_len-drop_yes, prefix_len-drop_no, prefix_len-drop_all}
 use Rattle.std.proofs.lemmas.Str.{IsCharBoundary-after_ascii}
 use Rattle.lrpar_grammar_places.specs.Lines.{is_line_feed, is_in_line, starts_line, line_end}
-use Rattle.lrpar_diagnostics.specs.Columns.{repeated}
 use Rattle.lrpar_diagnostics.specs.Underline.{starts_after, is_printed, printed_after}
 
 -- a byte is a line feed, or it is in a line
@@ -119,28 +117,6 @@ last_skipped src b end within bound inside hidden last =
     ap (filter (is_printed src end)) (some_after src b end within bound inside)
     ∙ ap (λ v. cond v (next ∷ printed_after src next end) (printed_after src next end)) hidden
     ∙ none_printed src next end (omega arith) bound last
-
--- the smaller and the larger of two places at which a text may be cut
-pub min_boundary : (src : List ℕ) (a b : ℕ) → IsCharBoundary src a → IsCharBoundary src b → IsCharBoundary src (min a b)
-min_boundary src a b ha hb =
-    elim (cases_lt a b) [
-      | inl below ↦ let low : min a b ≡ a = omega arith in subst (IsCharBoundary src) (sym low) ha
-      | inr above ↦ let low : min a b ≡ b = omega arith in subst (IsCharBoundary src) (sym low) hb
-    ]
-
-pub max_boundary : (src : List ℕ) (a b : ℕ) → IsCharBoundary src a → IsCharBoundary src b → IsCharBoundary src (max a b)
-max_boundary src a b ha hb =
-    elim (cases_lt a b) [
-      | inl below ↦ let high : max a b ≡ b = omega arith in subst (IsCharBoundary src) (sym high) hb
-      | inr above ↦ let high : max a b ≡ a = omega arith in subst (IsCharBoundary src) (sym high) ha
-    ]
-
--- one time more
-pub repeated_more : (n c : ℕ) → repeated (n + 1) c ≡ repeated n c ++ encode_utf8 c
-repeated_more zero c = append-nil (encode_utf8 c)
-repeated_more (suc n) c =
-    let next : suc n + 1 ≡ suc (n + 1) = omega arith in
-    ap (λ m. repeated m c) next ∙ ap (λ s. encode_utf8 c ++ s) (repeated_more n c) ∙ sym (append_assoc (encode_utf8 c) (repeated n c) (encode_utf8 c))
 
 -- a line that isn't printed is the last
 pub hidden_is_last : (src : List ℕ) (b end : ℕ) → is_printed src end b ≡ false → end ≤ line_end src b

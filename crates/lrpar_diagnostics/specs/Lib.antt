@@ -1,5 +1,4 @@
 pub mod Subject
-pub mod Columns
 pub mod Underline
 pub mod Location
 pub mod Blocks

@@ -1,11 +1,11 @@
 -- Parts of a text, underlined on the lines that they touch.
-use Rattle.std.specs.Prelude.{ℕ, ◌≡◌, ◌+◌, ◌-◌, ◌≤◌, ◌||◌, nat_lt, Bool, List, [], ◌∷◌, ◌++◌, MatchOption, Option, String, length, filter, min, max, string_bytes}
+use Rattle.std.specs.Prelude.{ℕ, ◌≡◌, ◌+◌, ◌-◌, ◌≤◌, ◌||◌, nat_lt, Bool, List, [], ◌∷◌, ◌++◌, MatchOption, Option, String, length, filter, max, min, string_bytes}
 use Rattle.std.specs.List.{join_by, range_with_len}
 use Rattle.lrpar_grammar_places.specs.Lines.{line_start, line_end, starts_line}
 use Rattle.lrpar_grammar_places.specs.Span.{Extent}
 use Rattle.lrpar_grammar.specs.SpansFit.{IsPartOf}
 use Rattle.lrpar_diagnostics.specs.Subject.{Subject}
-use Rattle.lrpar_diagnostics.specs.Columns.{columns, repeated, text_end, margin, printed_line}
+use Rattle.lrpar_report_columns.specs.Columns.{columns, margin, mark_end, mark_start, printed_line, repeated, text_end}
 
 -- the starts of the lines that start after byte b, up to byte end
 abbrev pub starts_after : List ℕ → ℕ → ℕ → List ℕ
@@ -23,16 +23,6 @@ printed_after src b end = filter (is_printed src end) (starts_after src b end)
 -- the starts of the lines that are printed for a part: the line where it starts, and those after it that are printed
 abbrev pub printed_lines : List ℕ → Extent → List ℕ
 printed_lines src span = line_start src span.start ∷ printed_after src (line_start src span.start) span.end
-
--- the byte at which the underline of a part starts in the line that starts at byte b: no earlier than the line, and no later than
--- its text ends
-abbrev pub mark_start : List ℕ → Extent → ℕ → ℕ
-mark_start src span b = min (max b span.start) (text_end src b)
-
--- the byte at which the underline of a part ends in the line that starts at byte b: no later than the line's text, and no earlier than the
--- underline starts
-abbrev pub mark_end : List ℕ → Extent → ℕ → ℕ
-mark_end src span b = max (min (text_end src b) span.end) (mark_start src span b)
 
 -- the underline of the bytes from i up to j: a character for each column, and at least one
 abbrev pub underline : List ℕ → ℕ → ℕ → ℕ → List ℕ

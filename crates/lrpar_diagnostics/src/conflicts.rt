@@ -305,8 +305,8 @@ impl<'a> Source<'a> {
         span: Span,
         label: &str,
     ) -> Result<(), AllocError>
-        requires { IsPartOf self.now.src.now span }
-        ensures { OnOk result (Appends out.old out.new (labelled self.now.src.now span label.now)) }
+        requires { IsPartOf self.now.lines span }
+        ensures { OnOk result (Appends out.old out.new (labelled self.now.lines span label.now)) }
     {
         self.push_block(out, "", span, label, '^')?;
         out.push('\n')
@@ -314,9 +314,9 @@ impl<'a> Source<'a> {
 
     // Adds the lines of a production: those of its symbols, or, without any, its own.
     fn push_reduced(&self, out: &mut String, own: Span, symbols: &[Span]) -> Result<(), AllocError>
-        requires own { IsPartOf self.now.src.now own }
-        requires symbols { FollowInOrder self.now.src.now 0 symbols.now }
-        ensures { OnOk result (Appends out.old out.new (lines_text self.now.src.now (shown_spans own symbols.now))) }
+        requires own { IsPartOf self.now.lines own }
+        requires symbols { FollowInOrder self.now.lines 0 symbols.now }
+        ensures { OnOk result (Appends out.old out.new (lines_text self.now.lines (shown_spans own symbols.now))) }
     {
         if symbols.is_empty() {
             self.push_groups(out, &[own])
@@ -327,8 +327,8 @@ impl<'a> Source<'a> {
 
     // Adds the lines on which the parts start, each with its parts underlined.
     fn push_groups(&self, out: &mut String, spans: &[Span]) -> Result<(), AllocError>
-        requires { FollowInOrder self.now.src.now 0 spans.now }
-        ensures { OnOk result (Appends out.old out.new (lines_text self.now.src.now spans.now)) }
+        requires { FollowInOrder self.now.lines 0 spans.now }
+        ensures { OnOk result (Appends out.old out.new (lines_text self.now.lines spans.now)) }
     {
         let mut rest = spans;
         while !rest.is_empty() {
@@ -343,9 +343,9 @@ impl<'a> Source<'a> {
     // How many parts start on the line of the first one, up to the first that doesn't.
     fn on_first_line(&self, spans: &[Span]) -> usize
         requires some { 0 < length spans.now }
-        requires order { FollowInOrder self.now.src.now 0 spans.now }
+        requires order { FollowInOrder self.now.lines 0 spans.now }
         ensures within { (0 < result) × (result ≤ length spans.now) }
-        ensures group { IsFirstGroup self.now.src.now spans.now result }
+        ensures group { IsFirstGroup self.now.lines spans.now result }
     {
         let line = self.line_start(spans[0].start());
         for (i, span) in spans.iter().enumerate() {

@@ -31,7 +31,7 @@ impl<'a> Model for SpannedDiagnosticFormatter<'a> {
 
     ghost Value = { Subject };
 
-    ghost view = { λ f. record { text = f.source.src.now; path = f.path.now } };
+    ghost view = { λ f. record { text = f.source.lines; path = f.path.now } };
 }
 
 impl<'a> SpannedDiagnosticFormatter<'a> {
@@ -48,7 +48,7 @@ impl<'a> SpannedDiagnosticFormatter<'a> {
     pub fn nlc(&self) -> &NewlineCache
         ensures { result.now ≡ line_table (self.now).text }
     {
-        self.source.nlc()
+        self.source.lines.cache()
     }
 
     /// The number as an ordinal: `1st`, `2nd`, `3rd`, `4th`, and so on by the last digit, but `th` if it ends in 11, 12 or 13.

@@ -1,57 +1,40 @@
-//! A text with its lines, and how parts of it are shown: the lines that they touch, with the parts underlined.
+//! A text, and how parts of it are shown: the lines that they touch, with the parts underlined.
 ghost use Rattle.std.specs.Prelude.{◌≡◌, ◌<◌, ◌≤◌, ◌↔◌, IfOk, IfSome, IsTrue, OnOk, length};
 ghost use Rattle.std.specs.Str.{IsCharBoundary, IsUtf8};
-ghost use Rattle.lrpar_grammar_places.specs.Lines.{line_end, line_of, line_start, line_table};
+ghost use Rattle.lrpar_grammar_places.specs.Lines.{line_end, line_start};
 ghost use Rattle.lrpar_grammar_places.specs.Strings.{Appends};
-ghost use Rattle.lrpar_diagnostics.specs.Columns.{columns, margin, printed_line, repeated, text_end};
+ghost use Rattle.lrpar_report_columns.specs.Columns.{columns, margin, mark_end, mark_start, printed_line, text_end};
 ghost use Rattle.lrpar_diagnostics.specs.Underline.{EndOnFirstLine, EndOnLine, FollowInOrder, FollowOnLine, IsNextPrinted, block_text, first_mark, is_printed, marked_line, marks_after, on_line_text, underline};
 ghost use Rattle.lrpar_diagnostics.specs.Location.{AreLineAndColumn};
 ghost use Rattle.lrpar_grammar.specs.SpansFit.{IsPartOf};
 
-use lrpar_grammar_places::lines::NewlineCache;
 use lrpar_grammar_places::span::Span;
+use lrpar_report_columns::{Lines, push_repeated};
 use std::alloc::{AllocError, Global};
-use unicode_width::UnicodeWidthStr;
 
-/// A text and its lines.
+/// A text, by its lines. Calls that `Lines` has, too, take only bytes and parts of the text, and so say what they give without a
+/// condition.
 #[derive(Drop)]
 pub(crate) struct Source<'a> {
-    src: &'a str,
-    nlc: NewlineCache,
-    ghost lines_of_src: { nlc ≡ line_table src.now },
-    ghost text_of_src: { ∥ IsUtf8 src.now ∥₁ },
+    pub(crate) lines: Lines<'a>,
+    ghost text_of_lines: { ∥ IsUtf8 lines ∥₁ },
 }
 
 impl<'a> Source<'a> {
     /// The text with its lines.
     pub(crate) fn new(alloc: Global, src: &'a str) -> Result<Self, AllocError>
-        ensures { IfOk result (λ source. source.src.now ≡ src.now) }
+        ensures { IfOk result (λ source. source.lines ≡ src.now) }
     {
-        let nlc = NewlineCache::new(alloc, src)?;
-        Ok(Source { src, nlc })
-    }
-
-    /// The lines.
-    pub(crate) fn nlc(&self) -> &NewlineCache
-        ensures { result.now ≡ line_table self.now.src.now }
-    {
-        &self.nlc
-    }
-
-    /// The line of a byte, counted from 1.
-    pub(crate) fn line(&self, byte: usize) -> usize
-        requires { byte ≤ length self.now.src.now }
-        ensures { result ≡ line_of self.now.src.now byte }
-    {
-        self.nlc.byte_to_line_num(byte).unwrap()
+        let lines = Lines::new(alloc, src)?;
+        Ok(Source { lines })
     }
 
     /// The line and the column of a byte, each counted from 1: 0 and 0 after the text's end and inside a character.
     pub(crate) fn position(&self, byte: usize) -> (usize, usize)
-        ensures inside { IsCharBoundary self.now.src.now byte → AreLineAndColumn self.now.src.now byte result }
-        ensures outside { ¬ IsCharBoundary self.now.src.now byte → (result.0 ≡ 0) × (result.1 ≡ 0) }
+        ensures inside { IsCharBoundary self.now.lines byte → AreLineAndColumn self.now.lines byte result }
+        ensures outside { ¬ IsCharBoundary self.now.lines byte → (result.0 ≡ 0) × (result.1 ≡ 0) }
     {
-        match self.nlc.byte_to_line_num_and_col_num(self.src, byte) {
+        match self.lines.position(byte) {
             Some(place) => place,
             None => (0, 0),
         }
@@ -59,61 +42,62 @@ impl<'a> Source<'a> {
 
     /// The byte at which the line of a byte starts.
     pub(crate) fn line_start(&self, byte: usize) -> usize
-        requires { byte ≤ length self.now.src.now }
-        ensures start { result ≡ line_start self.now.src.now byte }
-        ensures boundary { IsCharBoundary self.now.src.now result }
+        requires { byte ≤ length self.now.lines }
+        ensures start { result ≡ line_start self.now.lines byte }
+        ensures boundary { IsCharBoundary self.now.lines result }
     {
-        self.nlc.span_line_bytes(Span::new(byte, byte)).0
+        self.lines.line_start(byte)
     }
 
     // The byte at which the line of a byte ends.
     fn line_end(&self, byte: usize) -> usize
-        requires { byte ≤ length self.now.src.now }
-        ensures end { result ≡ line_end self.now.src.now byte }
-        ensures boundary { IsCharBoundary self.now.src.now result }
+        requires { byte ≤ length self.now.lines }
+        ensures end { result ≡ line_end self.now.lines byte }
+        ensures boundary { IsCharBoundary self.now.lines result }
     {
-        self.nlc.span_line_bytes(Span::new(byte, byte)).1
+        self.lines.line_end(byte)
     }
 
     // The byte at which the text of the line that starts at a byte ends.
     fn text_end(&self, start: usize) -> usize
-        requires { start ≤ length self.now.src.now }
-        ensures end { result ≡ text_end self.now.src.now start }
+        requires { start ≤ length self.now.lines }
+        ensures end { result ≡ text_end self.now.lines start }
         ensures after { start ≤ result }
-        ensures boundary { IsCharBoundary self.now.src.now result }
+        ensures boundary { IsCharBoundary self.now.lines result }
     {
-        let end = self.line_end(start);
-        let bytes = self.src.as_bytes();
-        if start < end && end < bytes.len() && bytes[end - 1] == b'\r' {
-            end - 1
-        } else {
-            end
-        }
+        self.lines.text_end(start)
     }
 
     // How many columns a part of the text takes.
     fn columns(&self, start: usize, end: usize) -> usize
-        requires start { IsCharBoundary self.now.src.now start }
-        requires end { IsCharBoundary self.now.src.now end }
+        requires start { IsCharBoundary self.now.lines start }
+        requires end { IsCharBoundary self.now.lines end }
         requires ordered { start ≤ end }
-        ensures { result ≡ columns self.now.src.now start end }
+        ensures { result ≡ columns self.now.lines start end }
     {
-        self.src[start..end].width()
+        self.lines.columns(start, end)
     }
 
-    // Adds the line that starts at a byte, with a line feed. Returns how many bytes come before the line's text.
+    // Adds the line that starts at a byte. Returns how many bytes come before the line's text.
     fn push_line(&self, out: &mut String, start: usize) -> Result<usize, AllocError>
-        requires { IsCharBoundary self.now.src.now start }
-        ensures text { OnOk result (Appends out.old out.new (printed_line self.now.src.now start)) }
-        ensures margin { IfOk result (λ bytes. bytes ≡ length (margin self.now.src.now start)) }
+        requires { IsCharBoundary self.now.lines start }
+        ensures text { OnOk result (Appends out.old out.new (printed_line self.now.lines start)) }
+        ensures margin { IfOk result (λ bytes. bytes ≡ length (margin self.now.lines start)) }
     {
-        let number = self.line(start);
-        let before = out.len();
-        write!(out, "{number}| ")?;
-        let margin = out.len() - before;
-        out.push_str(&self.src[start..self.text_end(start)])?;
-        out.push('\n')?;
-        Ok(margin)
+        self.lines.push_line(out, start)
+    }
+
+    // The bytes from which and up to which a part is underlined on the line that starts at a byte.
+    fn mark(&self, part: Span, start: usize) -> (usize, usize)
+        requires start { IsCharBoundary self.now.lines start }
+        requires part { IsPartOf self.now.lines part }
+        ensures from { result.0 ≡ mark_start self.now.lines part start }
+        ensures to { result.1 ≡ mark_end self.now.lines part start }
+        ensures after { start ≤ result.0 }
+        ensures ordered { result.0 ≤ result.1 }
+        ensures boundaries { IsCharBoundary self.now.lines result.0 × IsCharBoundary self.now.lines result.1 }
+    {
+        self.lines.mark(part, start)
     }
 
     // Adds the underline of a part of the text.
@@ -124,10 +108,10 @@ impl<'a> Source<'a> {
         end: usize,
         underline_c: char,
     ) -> Result<(), AllocError>
-        requires start { IsCharBoundary self.now.src.now start }
-        requires end { IsCharBoundary self.now.src.now end }
+        requires start { IsCharBoundary self.now.lines start }
+        requires end { IsCharBoundary self.now.lines end }
         requires ordered { start ≤ end }
-        ensures { OnOk result (Appends out.old out.new (underline self.now.src.now underline_c start end)) }
+        ensures { OnOk result (Appends out.old out.new (underline self.now.lines underline_c start end)) }
     {
         push_repeated(out, underline_c, self.columns(start, end).max(1))
     }
@@ -141,27 +125,25 @@ impl<'a> Source<'a> {
         underline_c: char,
         start: usize,
     ) -> Result<(), AllocError>
-        requires start { IsCharBoundary self.now.src.now start }
-        requires span { IsPartOf self.now.src.now span }
-        ensures { OnOk result (Appends out.old out.new (marked_line self.now.src.now prefix.now span underline_c start)) }
+        requires start { IsCharBoundary self.now.lines start }
+        requires span { IsPartOf self.now.lines span }
+        ensures { OnOk result (Appends out.old out.new (marked_line self.now.lines prefix.now span underline_c start)) }
     {
         let margin = self.push_line(out, start)?;
         out.push_str(prefix)?;
         push_repeated(out, ' ', margin.saturating_sub(prefix.len()))?;
-        let text_end = self.text_end(start);
-        let from = start.max(span.start()).min(text_end);
-        let to = text_end.min(span.end()).max(from);
+        let (from, to) = self.mark(span, start);
         push_repeated(out, ' ', self.columns(start, from))?;
         self.push_underline(out, from, to, underline_c)
     }
 
     // The start of the next line that is printed after the one that starts at a byte, of a part up to byte `end`.
     fn next_printed(&self, start: usize, end: usize) -> Option<usize>
-        requires start { start ≤ length self.now.src.now }
-        requires end { end ≤ length self.now.src.now }
-        ensures next { IsNextPrinted self.now.src.now start end result }
+        requires start { start ≤ length self.now.lines }
+        requires end { end ≤ length self.now.lines }
+        ensures next { IsNextPrinted self.now.lines start end result }
         ensures further { IfSome result (λ next. (start < next) × (next ≤ end)) }
-        ensures boundary { IfSome result (λ next. IsCharBoundary self.now.src.now next) }
+        ensures boundary { IfSome result (λ next. IsCharBoundary self.now.lines next) }
     {
         let line_end = self.line_end(start);
         if line_end >= end {
@@ -177,8 +159,8 @@ impl<'a> Source<'a> {
 
     // Whether the line that starts at a byte is printed, of a part up to byte `end` that starts in an earlier line.
     fn is_printed(&self, start: usize, end: usize) -> bool
-        requires { start ≤ length self.now.src.now }
-        ensures { result ≡ is_printed self.now.src.now end start }
+        requires { start ≤ length self.now.lines }
+        ensures { result ≡ is_printed self.now.lines end start }
     {
         self.line_end(start) < end || start < self.text_end(start)
     }
@@ -192,8 +174,8 @@ impl<'a> Source<'a> {
         message: &str,
         underline_c: char,
     ) -> Result<(), AllocError>
-        requires { IsPartOf self.now.src.now span }
-        ensures { OnOk result (Appends out.old out.new (block_text self.now.src.now prefix.now span message.now underline_c)) }
+        requires { IsPartOf self.now.lines span }
+        ensures { OnOk result (Appends out.old out.new (block_text self.now.lines prefix.now span message.now underline_c)) }
     {
         let mut start = self.line_start(span.start());
         self.push_marked(out, prefix, span, underline_c, start)?;
@@ -214,8 +196,8 @@ impl<'a> Source<'a> {
         message: &str,
         underline_c: char,
     ) -> Result<(), AllocError>
-        requires { FollowInOrder self.now.src.now 0 spans.now }
-        ensures { OnOk result (Appends out.old out.new (on_line_text self.now.src.now spans.now message.now underline_c)) }
+        requires { FollowInOrder self.now.lines 0 spans.now }
+        ensures { OnOk result (Appends out.old out.new (on_line_text self.now.lines spans.now message.now underline_c)) }
     {
         let Some((first, others)) = spans.split_first() else {
             return Ok(());
@@ -228,8 +210,8 @@ impl<'a> Source<'a> {
 
     // Adds the line of a part of the text, and below it the part's underline.
     fn push_first(&self, out: &mut String, span: Span, underline_c: char) -> Result<(), AllocError>
-        requires { IsPartOf self.now.src.now span }
-        ensures { OnOk result (Appends out.old out.new (first_mark self.now.src.now underline_c span)) }
+        requires { IsPartOf self.now.lines span }
+        ensures { OnOk result (Appends out.old out.new (first_mark self.now.lines underline_c span)) }
     {
         let start = self.line_start(span.start());
         let margin = self.push_line(out, start)?;
@@ -247,9 +229,9 @@ impl<'a> Source<'a> {
         spans: &[Span],
         underline_c: char,
     ) -> Result<(), AllocError>
-        requires after { IsCharBoundary self.now.src.now after }
-        requires order { FollowInOrder self.now.src.now after spans.now }
-        ensures { OnOk result (Appends out.old out.new (marks_after self.now.src.now underline_c after spans.now)) }
+        requires after { IsCharBoundary self.now.lines after }
+        requires order { FollowInOrder self.now.lines after spans.now }
+        ensures { OnOk result (Appends out.old out.new (marks_after self.now.lines underline_c after spans.now)) }
     {
         let mut end = after;
         let mut rest = spans;
@@ -264,15 +246,15 @@ impl<'a> Source<'a> {
 
     /// Whether the parts lie in the text, are in order and don't overlap, and all lie on one line.
     pub(crate) fn follow_on_line(&self, spans: &[Span]) -> bool
-        ensures { IsTrue result ↔ FollowOnLine self.now.src.now spans.now }
+        ensures { IsTrue result ↔ FollowOnLine self.now.lines spans.now }
     {
-        follow_in_order(self.src, spans) && self.end_on_first_line(spans)
+        follow_in_order(self.lines.text(), spans) && self.end_on_first_line(spans)
     }
 
     // Whether the parts all end on the line on which the first one starts.
     fn end_on_first_line(&self, spans: &[Span]) -> bool
-        requires { FollowInOrder self.now.src.now 0 spans.now }
-        ensures { IsTrue result ↔ EndOnFirstLine self.now.src.now spans.now }
+        requires { FollowInOrder self.now.lines 0 spans.now }
+        ensures { IsTrue result ↔ EndOnFirstLine self.now.lines spans.now }
     {
         match spans.split_first() {
             Some((first, _)) => self.end_on_line(self.line_start(first.start()), spans),
@@ -282,8 +264,8 @@ impl<'a> Source<'a> {
 
     // Whether the parts all end on the line that starts at a byte.
     fn end_on_line(&self, start: usize, spans: &[Span]) -> bool
-        requires { FollowInOrder self.now.src.now 0 spans.now }
-        ensures { IsTrue result ↔ EndOnLine self.now.src.now start spans.now }
+        requires { FollowInOrder self.now.lines 0 spans.now }
+        ensures { IsTrue result ↔ EndOnLine self.now.lines start spans.now }
     {
         let mut after = 0;
         let mut rest = spans;
@@ -319,14 +301,4 @@ fn follows(src: &str, byte: usize, span: Span) -> bool
     ensures { IsTrue result ↔ ((byte ≤ span.start) × IsPartOf src.now span) }
 {
     byte <= span.start() && src.is_char_boundary(span.start()) && src.is_char_boundary(span.end())
-}
-
-// Adds a character `count` times.
-fn push_repeated(out: &mut String, c: char, count: usize) -> Result<(), AllocError>
-    ensures { OnOk result (Appends out.old out.new (repeated count c)) }
-{
-    for _i in 0..count {
-        out.push(c)?;
-    }
-    Ok(())
 }

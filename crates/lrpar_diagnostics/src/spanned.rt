@@ -78,8 +78,8 @@ impl<'a> Source<'a> {
         alloc: Global,
         thing: &T,
     ) -> Result<String, DiagnosticFault>
-        requires { AllByRecursion (IsPartOf self.now.src.now) (T.places thing.now) }
-        ensures text { IfOk result (ShowsThing (spanned_text self.now.src.now) T.kind T.places T.output thing.now) }
+        requires { AllByRecursion (IsPartOf self.now.lines) (T.places thing.now) }
+        ensures text { IfOk result (ShowsThing (spanned_text self.now.lines) T.kind T.places T.output thing.now) }
         ensures several { IsErrOf result SeveralSpans ↔ HasSeveralSpans (T.kind thing.now) (T.places thing.now) }
     {
         if has_several_spans(thing.spanskind(), thing.spans()) {
@@ -97,8 +97,8 @@ impl<'a> Source<'a> {
         spans: &[Span],
         message: &str,
     ) -> Result<String, AllocError>
-        requires { AllByRecursion (IsPartOf self.now.src.now) spans.now }
-        ensures { IfOk result (HasText (spanned_text self.now.src.now kind spans.now message.now)) }
+        requires { AllByRecursion (IsPartOf self.now.lines) spans.now }
+        ensures { IfOk result (HasText (spanned_text self.now.lines kind spans.now message.now)) }
     {
         let mut out = String::new(alloc);
         let Some((first, others)) = spans.split_first() else {
@@ -117,8 +117,8 @@ impl<'a> Source<'a> {
         kind: SpansKind,
         spans: &[Span],
     ) -> Result<(), AllocError>
-        requires { AllByRecursion (IsPartOf self.now.src.now) spans.now }
-        ensures { OnOk result (Appends out.old out.new (blocks_after self.now.src.now kind 2 spans.now)) }
+        requires { AllByRecursion (IsPartOf self.now.lines) spans.now }
+        ensures { OnOk result (Appends out.old out.new (blocks_after self.now.lines kind 2 spans.now)) }
     {
         let mut rest = spans;
         while let Some((span, others)) = rest.split_first() {
@@ -139,9 +139,9 @@ impl<'a> Source<'a> {
         span: Span,
         others: &[Span],
     ) -> Result<(), AllocError>
-        requires span { IsPartOf self.now.src.now span }
-        requires others { AllByRecursion (IsPartOf self.now.src.now) others.now }
-        ensures { OnOk result (Appends out.old out.new (next_block self.now.src.now kind number span others.now)) }
+        requires span { IsPartOf self.now.lines span }
+        requires others { AllByRecursion (IsPartOf self.now.lines) others.now }
+        ensures { OnOk result (Appends out.old out.new (next_block self.now.lines kind number span others.now)) }
     {
         let label = label(alloc, kind, number)?;
         out.push('\n')?;
@@ -150,9 +150,9 @@ impl<'a> Source<'a> {
 
     // Dots, if the first of the other places starts more than one line further on.
     fn dots(&self, span: Span, others: &[Span]) -> &'static str
-        requires span { IsPartOf self.now.src.now span }
-        requires others { AllByRecursion (IsPartOf self.now.src.now) others.now }
-        ensures { result.now ≡ dots self.now.src.now span others.now }
+        requires span { IsPartOf self.now.lines span }
+        requires others { AllByRecursion (IsPartOf self.now.lines) others.now }
+        ensures { result.now ≡ dots self.now.lines span others.now }
     {
         match others.split_first() {
             Some((next, _)) if self.lines_between(span, *next) > 1 => "...",
@@ -162,12 +162,12 @@ impl<'a> Source<'a> {
 
     // How many lines further on the next place starts.
     fn lines_between(&self, span: Span, next: Span) -> usize
-        requires span { IsPartOf self.now.src.now span }
-        requires next { IsPartOf self.now.src.now next }
-        ensures { result ≡ line_of self.now.src.now next.start - line_of self.now.src.now span.start }
+        requires span { IsPartOf self.now.lines span }
+        requires next { IsPartOf self.now.lines next }
+        ensures { result ≡ line_of self.now.lines next.start - line_of self.now.lines span.start }
     {
-        self.line(next.start())
-            .saturating_sub(self.line(span.start()))
+        let line = self.lines.number(span.start());
+        self.lines.number(next.start()).saturating_sub(line)
     }
 }
 

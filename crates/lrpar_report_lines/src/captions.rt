@@ -1,8 +1,8 @@
 //! The texts of the labels that end on a line.
-use crate::lines::{Lines, push_repeated};
 use crate::marks::Mark;
 use crate::reports::Label;
 use crate::touched::OnLine;
+use lrpar_report_columns::{Lines, push_repeated};
 use std::alloc::{AllocError, Global};
 
 /// How many texts hang below a line at most.
@@ -163,7 +163,7 @@ fn push_label_texts(
 // The column at which a label starts on the line.
 fn column_of(lines: &Lines<'_>, on_line: &OnLine<'_>, number: usize) -> usize {
     let start = match on_line.touches.get(number) {
-        Some(touch) => touch.start.max(on_line.start),
+        Some(touch) => touch.part.start().max(on_line.start),
         None => on_line.start,
     };
     match lines.position(start) {

@@ -3,7 +3,6 @@
 
 mod captions;
 mod levels;
-mod lines;
 mod marks;
 mod placed;
 mod places;

@@ -1,10 +1,10 @@
 //! The underlines of a line.
-use crate::lines::{Lines, push_repeated};
 use crate::touched::{OnLine, Touch};
+use lrpar_report_columns::{Lines, push_repeated};
 use std::alloc::{AllocError, Global};
 
 /// An underline, from one place of its line to another one.
-#[derive(Clone, Copy, Debug)]
+#[derive(Clone, Copy)]
 pub(crate) struct Mark {
     /// Where it starts: a byte of the text, and later the column on the line, counted from 0.
     pub(crate) from: usize,
@@ -110,11 +110,10 @@ fn whole_line(lines: &Lines<'_>, start: usize, is_first: bool) -> Mark {
 
 // The underline of a label on the line that starts at a byte.
 fn mark_of(lines: &Lines<'_>, start: usize, number: usize, touch: Touch) -> Mark {
-    let text_end = lines.text_end(start);
-    let from = touch.start.max(start).min(text_end);
+    let (from, to) = lines.mark(touch.part, start);
     Mark {
         from,
-        to: touch.end.min(text_end).max(from),
+        to,
         is_first: number == 0,
         ends: if touch.last_line == start {
             Some(number)

@@ -1,11 +1,11 @@
 //! How reports are shown.
 use crate::captions::push_captions;
 use crate::levels::{Level, Look, push_word};
-use crate::lines::{Lines, push_repeated};
 use crate::marks::{marks_of, push_marks};
 use crate::places::next_boundary;
 use crate::reports::{Label, Report};
 use crate::touched::{OnLine, Touched, count_on_line};
+use lrpar_report_columns::{Lines, push_repeated};
 use std::alloc::{AllocError, Global};
 
 /// Shows reports about a text. It borrows the text, and the path by which reports name it.
@@ -122,7 +122,7 @@ impl<'a> Reporter<'a> {
             self.push_line(out, alloc, labels, &on_line)?;
             opened = opened.saturating_add(on_line.opening.len());
             closed = closed.saturating_add(on_line.closing.len());
-            let below = self.lines.end(start).saturating_add(1);
+            let below = self.lines.line_end(start).saturating_add(1);
             next = if closed < opened {
                 Some(below)
             } else {

@@ -1,16 +1,15 @@
 //! Which labels touch which lines.
-use crate::lines::Lines;
 use crate::places::part_of;
 use crate::reports::Label;
+use lrpar_grammar_places::span::Span;
+use lrpar_report_columns::Lines;
 use std::alloc::{AllocError, Global};
 
 /// A label in its text: its part of the text, and the first and the last line that it touches.
-#[derive(Clone, Copy, Debug)]
+#[derive(Clone, Copy)]
 pub(crate) struct Touch {
-    /// The first byte of the part.
-    pub(crate) start: usize,
-    /// The byte after its last one.
-    pub(crate) end: usize,
+    /// The part.
+    pub(crate) part: Span,
     /// The byte at which the first line starts.
     pub(crate) first_line: usize,
     /// The byte at which the last line starts.
@@ -40,9 +39,10 @@ impl Touched {
         let mut by_last = Vec::new(alloc);
         for (number, label) in labels.iter().enumerate() {
             let touch = touch_of(lines, label);
+            let (first_line, last_line) = (touch.first_line, touch.last_line);
             touches.push(touch)?;
-            by_first.push((touch.first_line, number))?;
-            by_last.push((touch.last_line, number))?;
+            by_first.push((first_line, number))?;
+            by_last.push((last_line, number))?;
         }
         by_first.sort()?;
         by_last.sort()?;
@@ -57,10 +57,9 @@ impl Touched {
 // The label in the text of these lines.
 fn touch_of(lines: &Lines<'_>, label: &Label) -> Touch {
     let part = part_of(lines.text(), label.span);
-    let first_line = lines.start(part.start());
+    let first_line = lines.line_start(part.start());
     Touch {
-        start: part.start(),
-        end: part.end(),
+        part,
         first_line,
         last_line: last_line(lines, first_line, part.end()),
     }
@@ -69,9 +68,9 @@ fn touch_of(lines: &Lines<'_>, label: &Label) -> Touch {
 // The start of the last line of a part that starts on the line from byte `first_line` on and ends at byte `end`. It is the line of the
 // end, or, if that has no text and isn't the first one, the line before it.
 fn last_line(lines: &Lines<'_>, first_line: usize, end: usize) -> usize {
-    let start = lines.start(end);
+    let start = lines.line_start(end);
     if start > first_line && lines.text_end(start) <= start {
-        lines.start(start.saturating_sub(1))
+        lines.line_start(start.saturating_sub(1))
     } else {
         start
     }

@@ -6,8 +6,8 @@ use Rattle.lrpar_diagnostics.proofs.source.Source.end_on_line.Given as goal
 -- those that are left end on the line exactly if all do
 abbrev pub invariant-loop-span : goal.invariant-loop-span
 invariant-loop-span l = record {
-  order : FollowInOrder l.self.src.now l.after l.rest;
-  line : EndOnLine l.self.src.now l.start l.rest ↔ EndOnLine l.self.src.now l.start l.fn.spans;
+  order : FollowInOrder l.self.lines l.after l.rest;
+  line : EndOnLine l.self.lines l.start l.rest ↔ EndOnLine l.self.lines l.start l.fn.spans;
 }
 
 abbrev pub decreases-loop-span : goal.decreases-loop-span

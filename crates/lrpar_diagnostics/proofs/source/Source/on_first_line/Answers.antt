@@ -6,12 +6,12 @@ use Rattle.lrpar_diagnostics.proofs.source.Source.on_first_line.Goals as goal
 
 pub line_start-requires : goal.line_start-requires
 line_start-requires c =
-    let part = part_at c.args.self.now.src.now 0 c.args.spans.now c.loop-i.i c.index-spans-i.result c.requires.order c.loop-i-test.true in
+    let part = part_at c.args.self.now.lines 0 c.args.spans.now c.loop-i.i c.index-spans-i.result c.requires.order c.loop-i-test.true in
     omega (arith, part.start.0, ap (λ (s : Extent). s.start) c.index-spans-i.is, c.start-in-loop-i.ensures.start)
 
 pub returns-then-line_start-line-clause-group : goal.returns-then-line_start-line-clause-group
 returns-then-line_start-line-clause-group c =
-    let src = c.args.self.now.src.now in
+    let src = c.args.self.now.lines in
     let spans = c.args.spans.now in
     let line = c.line_start-line.result in
     let is : line ≡ line_start src (get_or spans 0 c.index-spans-0.result).start =
@@ -25,5 +25,5 @@ returns-then-line_start-line-clause-group c =
 pub returns-clause-group : goal.returns-clause-group
 returns-clause-group c =
     let spans = c.args.spans.now in
-    group_of c.args.self.now.src.now c.line_start-line.result (length spans) spans c.requires.some (omega arith)
+    group_of c.args.self.now.lines c.line_start-line.result (length spans) spans c.requires.some (omega arith)
     (λ k d h. c.loop-i.invariant k d (omega (arith, h, c.loop-i-test.false))) (λ within d. absurd (omega (arith, within)))

@@ -5,4 +5,4 @@ use Rattle.lrpar_diagnostics.proofs.source.Source.on_first_line.Given as goal
 
 -- those so far start on that line
 abbrev pub invariant-loop-i : goal.invariant-loop-i
-invariant-loop-i l = (k : ℕ) (d : Extent) → k < l.i → line_start l.self.src.now (get_or l.spans k d).start ≡ l.line
+invariant-loop-i l = (k : ℕ) (d : Extent) → k < l.i → line_start l.self.lines (get_or l.spans k d).start ≡ l.line

@@ -7,7 +7,7 @@ use Rattle.lrpar_diagnostics.proofs.source.Source.push_block.Goals as goal
 
 pub returns : goal.returns
 returns c =
-    let src = c.args.self.now.src.now in
+    let src = c.args.self.now.lines in
     let marked = marked_line src c.args.prefix.now c.args.span c.args.underline_c in
     let none : printed_after src c.loop-next.start c.args.span.end ≡ [] = rw (sym c.end.ensures.end) c.in_default.ensures.next in
     closed c.push_str.result (string_bytes c.args.out.now) (string_bytes c.loop-next.out) (string_bytes c.push-2.new.self) (string_bytes c.push_str.new.self)

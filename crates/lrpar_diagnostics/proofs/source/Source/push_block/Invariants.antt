@@ -7,7 +7,7 @@ use Rattle.lrpar_diagnostics.proofs.source.Source.push_block.Given as goal
 -- with the lines after this one, the text so far is the whole
 abbrev pub invariant-loop-next : goal.invariant-loop-next
 invariant-loop-next l =
-    let src = l.self.src.now in
+    let src = l.self.lines in
     let marked = marked_line src l.prefix l.span l.underline_c in
     record {
       within : l.start ≤ length src;
@@ -16,4 +16,4 @@ invariant-loop-next l =
     }
 
 abbrev pub decreases-loop-next : goal.decreases-loop-next
-decreases-loop-next l = length l.self.src.now - l.start
+decreases-loop-next l = length l.self.lines - l.start

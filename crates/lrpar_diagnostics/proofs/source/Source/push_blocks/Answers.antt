@@ -14,8 +14,8 @@ loop-span-preserved c =
     record {
       left = omega (arith, parted.1, c.loop-span.invariant.left);
       fit = fit.1;
-      whole = next_block c.args.self.now.src.now c.args.kind (length spans - length rest + 2) (length spans - length others + 1) (length spans - length others + 2)
+      whole = next_block c.args.self.now.lines c.args.kind (length spans - length rest + 2) (length spans - length others + 1) (length spans - length others + 2)
           c.in-Some.span.now others (string_bytes c.loop-span.out) (string_bytes c.push_labelled.new.out) _
           (omega (arith, parted.1, c.loop-span.invariant.left)) (omega (arith, parted.1, c.loop-span.invariant.left)) c.in_ok-push_labelled.ensures
-          (sym (ap (λ left. string_bytes c.loop-span.out ++ blocks_after c.args.self.now.src.now c.args.kind (length spans - length rest + 2) left) parted.0) ∙ c.loop-span.invariant.whole);
+          (sym (ap (λ left. string_bytes c.loop-span.out ++ blocks_after c.args.self.now.lines c.args.kind (length spans - length rest + 2) left) parted.0) ∙ c.loop-span.invariant.whole);
     }

@@ -8,7 +8,7 @@ use Rattle.lrpar_diagnostics.proofs.source.Source.push_blocks.Given as goal
 -- with the blocks of the places that are left, the text so far is the whole
 abbrev pub invariant-loop-span : goal.invariant-loop-span
 invariant-loop-span l =
-    let src = l.self.src.now in
+    let src = l.self.lines in
     record {
       left : length l.rest ≤ length l.spans;
       fit : AllByRecursion (IsPartOf src) l.rest;

@@ -7,11 +7,11 @@ use Rattle.lrpar_diagnostics.proofs.source.Source.push_groups.Goals as goal
 
 pub push_on_line-requires : goal.push_on_line-requires
 push_on_line-requires c =
-    rw c.split_at.ensures.front (first_follow c.args.self.now.src.now 0 c.on_first_line.result c.loop-rest.rest.now c.loop-rest.invariant.order)
+    rw c.split_at.ensures.front (first_follow c.args.self.now.lines 0 c.on_first_line.result c.loop-rest.rest.now c.loop-rest.invariant.order)
 
 pub loop-rest-preserved : goal.loop-rest-preserved
 loop-rest-preserved c =
-    let src = c.args.self.now.src.now in
+    let src = c.args.self.now.lines in
     let rest = c.loop-rest.rest.now in
     let group = c.split_at.result.0.now in
     let others = c.split_at.result.1.now in

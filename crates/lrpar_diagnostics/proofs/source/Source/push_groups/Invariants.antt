@@ -7,7 +7,7 @@ use Rattle.lrpar_diagnostics.proofs.source.Source.push_groups.Given as goal
 -- with the lines of the parts that are left, the text so far is the whole
 abbrev pub invariant-loop-rest : goal.invariant-loop-rest
 invariant-loop-rest l =
-    let src = l.self.src.now in
+    let src = l.self.lines in
     record {
       order : FollowInOrder src 0 l.rest;
       whole : string_bytes l.out ++ groups_text src (by_line src l.rest) ≡ string_bytes l.fn.out ++ groups_text src (by_line src l.fn.spans);

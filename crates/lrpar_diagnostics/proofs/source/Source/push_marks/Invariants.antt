@@ -7,7 +7,7 @@ use Rattle.lrpar_diagnostics.proofs.source.Source.push_marks.Given as goal
 -- with the underlines of those that are left, the text so far is the whole
 abbrev pub invariant-loop-span : goal.invariant-loop-span
 invariant-loop-span l =
-    let src = l.self.src.now in
+    let src = l.self.lines in
     record {
       cut : IsCharBoundary src l.end;
       order : FollowInOrder src l.end l.rest;

@@ -6,7 +6,7 @@ use Rattle.lrpar_diagnostics.proofs.source.Source.push_on_line.Goals as goal
 
 pub returns : goal.returns
 returns c =
-    let src = c.args.self.now.src.now in
+    let src = c.args.self.now.lines in
     let first = c.in-Some.first.now in
     let head = first_mark src c.args.underline_c first in
     let tail = marks_after src c.args.underline_c first.end c.in-Some.others.now in

@@ -1,7 +1,7 @@
 use Rattle.std.proofs.Common.{◌≡◌, ◌++◌}
 use Rattle.std.specs.String.{string_bytes}
-use Rattle.lrpar_diagnostics.specs.Columns.{repeated}
-use Rattle.lrpar_diagnostics.proofs.source.push_repeated.Given as goal
+use Rattle.lrpar_report_columns.specs.Columns.{repeated}
+use Rattle.lrpar_report_columns.proofs.lines.push_repeated.Given as goal
 
 -- this number of characters is added
 abbrev pub invariant-loop-i : goal.invariant-loop-i

@@ -1,8 +1,15 @@
 -- Lines of a text as they are printed, and the columns of its parts.
-use Rattle.std.specs.Prelude.{ℕ, ◌-◌, ◌==◌, ◌&&◌, nat_lt, Bool, false, List, [], ◌∷◌, ◌++◌, length, slice_index, slice_range, replicate, codes, chars, encode_utf8_all, if◌then◌else◌}
+use Rattle.std.specs.Prelude.{◌≡◌, ℕ, ◌-◌, ◌==◌, ◌&&◌, nat_lt, Bool, false, List, [], ◌∷◌, ◌++◌, length, max, min, slice_index, slice_range, replicate, codes, chars, encode_utf8_all, if◌then◌else◌}
 use Rattle.std.specs.Fmt.{decimal}
+use Rattle.std.specs.Str.{IsUtf8}
 use Rattle.unicode_width.specs.Width.{str_width}
-use Rattle.lrpar_grammar_places.specs.Lines.{line_of, line_end}
+use Rattle.lrpar_grammar_places.specs.Lines.{LineTable, line_end, line_of, line_table}
+use Rattle.lrpar_grammar_places.specs.Span.{Extent}
+
+-- a text of UTF-8 bytes with these lines
+pub record HasLines (text : List ℕ) (lines : LineTable) : Type 0 where
+  pub table : lines ≡ line_table text
+  pub utf8 : ∥ IsUtf8 text ∥₁
 
 -- how many columns the bytes from i up to j take
 abbrev pub columns : List ℕ → ℕ → ℕ → ℕ
@@ -31,3 +38,13 @@ margin src b = decimal (line_of src b) ++ codes "| "
 -- the line that starts at byte b as it is printed
 abbrev pub printed_line : List ℕ → ℕ → List ℕ
 printed_line src b = margin src b ++ slice_range src b (text_end src b) ++ 10 ∷ []
+
+-- the byte at which the underline of a part starts in the line that starts at byte b: no earlier than the line, and no later than
+-- its text ends
+abbrev pub mark_start : List ℕ → Extent → ℕ → ℕ
+mark_start src span b = min (max b span.start) (text_end src b)
+
+-- the byte at which the underline of a part ends in the line that starts at byte b: no later than the line's text, and no earlier than the
+-- underline starts
+abbrev pub mark_end : List ℕ → Extent → ℕ → ℕ
+mark_end src span b = max (min (text_end src b) span.end) (mark_start src span b)

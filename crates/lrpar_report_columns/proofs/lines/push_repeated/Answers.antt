@@ -1,9 +1,9 @@
 use Rattle.std.proofs.Common.{◌++◌, ap, sym, ◌∙◌, append_assoc}
 use Rattle.std.specs.Prelude.{encode_utf8}
 use Rattle.std.specs.String.{string_bytes}
-use Rattle.lrpar_diagnostics.specs.Columns.{repeated}
-use Rattle.lrpar_diagnostics.proofs.LineLemmas.{repeated_more}
-use Rattle.lrpar_diagnostics.proofs.source.push_repeated.Goals as goal
+use Rattle.lrpar_report_columns.specs.Columns.{repeated}
+use Rattle.lrpar_report_columns.proofs.ColumnLemmas.{repeated_more}
+use Rattle.lrpar_report_columns.proofs.lines.push_repeated.Goals as goal
 
 pub loop-i-preserved : goal.loop-i-preserved
 loop-i-preserved c =
