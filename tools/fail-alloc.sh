@@ -246,6 +246,8 @@ Result: 5
 Result: 20
 ' calc --shifts 1 "$work/calc.repairs"
 
+refuse_each_call_of_nimbleparse 2 '' "nimbleparse: unexpected argument '--minimize' found; a similar argument exists: '--minimise'
+" --minimize pager
 refuse_each_call_of_nimbleparse 1 '' "$work/text:1:3: error: unexpected 'n', expected '+' or ')'
 1| (nn
      ^

@@ -18,26 +18,8 @@ pub enum Misuse {
     Command,
     #[error("a word isn't UTF-8")]
     NotUtf8,
-    #[error("unknown option")]
-    UnknownOption,
-    #[error("-y needs grmtools, original or profile")]
-    Kind,
-    #[error("--minimise needs pager or canonical")]
-    Minimiser,
-    #[error("-r needs none, cpctplus or complete")]
-    Recovery,
-    #[error("--limit needs a number")]
-    Limit,
     #[error("--limit needs -r cpctplus or complete")]
     LimitAlone,
-    #[error("--shifts needs a number")]
-    Shifts,
-    #[error("--shifts must be at least 1")]
-    ZeroShifts,
-    #[error("--format needs brackets, tree, json or dot")]
-    Format,
-    #[error("LEXER and GRAMMAR are missing")]
-    Paths,
     #[error("standard input can be read once")]
     Input,
 }
@@ -48,6 +30,9 @@ pub enum Fault {
     /// The words are no command of the program, as this says.
     #[error("{0}")]
     Usage(Misuse),
+    /// The words are wrong, as this says, which names the word.
+    #[error("{0}")]
+    Words(String),
     /// No lexeme would have to follow a repair.
     #[error("shifts must be at least 1")]
     ZeroShifts,

@@ -124,9 +124,9 @@ fn build_data<O: Write, E: Write>(
                 write_notes(asked, notes, &grm, &sgraph, &stable, out, err)?;
             }
             expect(alloc, reporter, declared, &stable)?;
-            checked(alloc, reporter, grm, sgraph, stable)
+            check_chains(alloc, reporter, grm, sgraph, stable)
         }
-        Err(fault) => Err(unbuilt(alloc, reporter, &grm, fault)),
+        Err(fault) => Err(fault_of_build(alloc, reporter, &grm, fault)),
     }
 }
 
@@ -196,8 +196,8 @@ fn write_notes<O: Write, E: Write>(
     write_messages(out, err, text.as_str())
 }
 
-// The table, after its chains of reductions are checked.
-fn checked(
+// Checks the chains of reductions of a table, and returns it.
+fn check_chains(
     alloc: Global,
     reporter: &Reporter<'_>,
     grm: YaccGrammar<u32>,
@@ -208,12 +208,12 @@ fn checked(
 {
     match ParserData::of_safe(alloc, grm, sgraph, stable, MOST) {
         Ok(data) => Ok(data),
-        Err(refused) => Err(endless(alloc, reporter, refused)),
+        Err(refused) => Err(fault_of_chain(alloc, reporter, refused)),
     }
 }
 
 // The fault of a grammar that has no table.
-fn unbuilt(
+fn fault_of_build(
     alloc: Global,
     reporter: &Reporter<'_>,
     grm: &YaccGrammar<u32>,
@@ -227,7 +227,7 @@ fn unbuilt(
 }
 
 // The fault of a table with a chain of reductions that is too long for any cap.
-fn endless(alloc: Global, reporter: &Reporter<'_>, refused: Refused<u32>) -> Fault {
+fn fault_of_chain(alloc: Global, reporter: &Reporter<'_>, refused: Refused<u32>) -> Fault {
     let CheckFault::ChainTooLong(state, token) = refused.fault() else {
         return Fault::Memory;
     };

@@ -2,10 +2,11 @@
 //! error.
 ghost use Rattle.std.specs.Prelude.{◌≤◌};
 
-use crate::fault_line::{FaultLine, USAGE};
+use crate::command::PossibleValues;
+use crate::fault_line::FaultLine;
 use crate::grammar::{Asked, GrammarTable, make_table};
 use crate::inputs::{STANDARD_INPUT, file_text, input_text};
-use crate::options::{HELP, Options, asks_for_help, options_of};
+use crate::options::{Options, Request, request_of};
 use crate::parse::parse;
 use crate::plan::{Plan, Recovery};
 use crate::rules::{LexerRules, lexer_rules};
@@ -131,17 +132,16 @@ fn run_words<R: Files, I: Read + Drop, O: Write, E: Write>(
     out: &mut O,
     err: &mut E,
 ) -> Result<Status, Fault> {
-    if asks_for_help(args) {
-        return print_help(out);
+    let values = PossibleValues::new();
+    match request_of(alloc, args, &values)? {
+        Request::Help(text) => print_help(text.as_str(), out),
+        Request::Parse(options) => run_files(rt, alloc, &options, terminal, input, out, err),
     }
-    let options = options_of(alloc, args)?;
-    run_files(rt, alloc, &options, terminal, input, out, err)
 }
 
-// Prints the usage line and the help text.
-fn print_help<O: Write>(out: &mut O) -> Result<Status, Fault> {
-    out.write_all(USAGE.as_bytes())?;
-    out.write_all(HELP.as_bytes())?;
+// Prints the help text.
+fn print_help<O: Write>(text: &str, out: &mut O) -> Result<Status, Fault> {
+    out.write_all(text.as_bytes())?;
     Ok(Status::Success)
 }
 
