@@ -1,18 +1,19 @@
 -- Repair sequences and their parts as they are stored, and their texts. `index` gives the number of a value of the storage type, `parts` the
 -- parts of a lexeme, and `names` says what is printed for a token.
 use denote.Ref.{Bor}
-use Rattle.std.specs.Prelude.{◌≡◌, ◌<◌, ◌∷◌, ℕ, List, [], MatchOption, OnOk, Option, Result, String, Vec, length, map}
+use Rattle.std.specs.Prelude.{◌≡◌, ◌<◌, ◌↔◌, ◌∷◌, ℕ, Bool, IsTrue, List, [], MatchOption, OnOk, Option, Result, String, Vec, length, map}
 use Rattle.std.specs.List.{AllByRecursion, AllZip}
-use Rattle.lrpar_grammar_places.specs.Span.{Extent}
+use Rattle.lrpar_grammar_places.specs.Span.{Extent, IsPartOf}
 use Rattle.lrpar_grammar_places.specs.Strings.{Appends}
 use Rattle.lrpar_parse_lexemes.specs.Lexemes.{LexemeParts}
-use Rattle.lrpar_parse_lexemes.specs.Repairs.{repair_of, repairs_of}
+use Rattle.lrpar_parse_lexemes.specs.Repairs.{repairs_of}
 use Rattle.lrpar_parse_lexemes.specs.declared.pp_fault.PpFault.{PpFault}
 use Rattle.lrpar_parse_lexemes.specs.declared.repairs.ParseRepair.{ParseRepair}
+use Rattle.lrpar_parse_lexemes.specs.declared.repairs.ParseRepair.TheVariants as stored
 use Rattle.lrpar_parse_errors.specs.ErrorText.{repairs_text, tokens_of}
 use Rattle.lrpar_parse_errors.specs.Printed.{IsPpFault}
 use Rattle.lrpar_parse_errors.specs.PrintedParts.{part_of, sequence_parts}
-use Rattle.lrpar_parse_errors.specs.SequenceText.{IsPartText, IsPartsText, PartFits, RepairFits, RepairsFit, inserted, inserted_by, joined, parts_of}
+use Rattle.lrpar_parse_errors.specs.SequenceText.{IsPartText, IsPartsText, PartFits, RepairsFit, inserted, inserted_by, joined, parts_of}
 use Rattle.lrpar_parse_errors.specs.declared.printed_parts.Part.{Part}
 use Rattle.lrpar_parse_errors.specs.declared.printed_parts.Part.TheVariants.{Delete}
 
@@ -32,6 +33,25 @@ IsPartFault index names part = IsPpFault index names (inserted_by (part_of index
 abbrev pub LeavesFewer : {S X : Type 0} → List (ParseRepair X S) → Part S × Bor (List (ParseRepair X S)) → Type 0
 LeavesFewer repairs = λ next. length next.1.now < length repairs
 
+module _ {S X : Type 0} (parts : X → LexemeParts S) (input : List ℕ) where
+  -- the part of the input that the repair names starts and ends between two characters of the input
+  abbrev pub FitsRepair : ParseRepair X S → Type 0
+  FitsRepair (stored.Insert token) = Unit {0}
+  FitsRepair (stored.Delete lexeme) = IsPartOf input (parts lexeme).span
+  FitsRepair (stored.Shift lexeme) = IsPartOf input (parts lexeme).span
+
+  -- the part of the input that each repair of a sequence names starts and ends between two characters of the input
+  abbrev pub FitRepairs : List (ParseRepair X S) → Type 0
+  FitRepairs sequence = AllByRecursion FitsRepair sequence
+
+  -- true exactly if the part of the input that the repair names starts and ends between two characters of the input
+  abbrev pub TellsIfFits : ParseRepair X S → Bool → Type 0
+  TellsIfFits repair fits = IsTrue fits ↔ FitsRepair repair
+
+  -- true exactly if the part of the input that each repair of a sequence names starts and ends between two characters of the input
+  abbrev pub TellsIfFit : List (ParseRepair X S) → Bool → Type 0
+  TellsIfFit sequence fit = IsTrue fit ↔ FitRepairs sequence
+
 module _ {S X : Type 0} (index : S → ℕ) (parts : X → LexemeParts S) where
   -- the first part that is printed for the repairs, and the repairs after it; none if there are no repairs
   abbrev pub FindsPart : List (ParseRepair X S) → Option (Part S × Bor (List (ParseRepair X S))) → Type 0
@@ -44,14 +64,6 @@ module _ {S X : Type 0} (index : S → ℕ) (parts : X → LexemeParts S) where
   JoinsDeletions first repairs whole =
       joined first (sequence_parts index (λ x. (parts x).span) repairs)
       ≡ part_of index (Delete whole.0) ∷ sequence_parts index (λ x. (parts x).span) whole.1.now
-
-  -- the part of the input that the repair names starts and ends between two characters of the input
-  abbrev pub FitsRepair : List ℕ → ParseRepair X S → Type 0
-  FitsRepair input repair = RepairFits (λ x. (parts x).span) input (repair_of index repair)
-
-  -- the part of the input that each repair of a sequence names starts and ends between two characters of the input
-  abbrev pub FitRepairs : List ℕ → List (ParseRepair X S) → Type 0
-  FitRepairs input repairs = RepairsFit (λ x. (parts x).span) input (map (repair_of index) repairs)
 
   -- the part of the input that each repair of each sequence names starts and ends between two characters of the input
   abbrev pub FitSequences : {A : Type 0} → List ℕ → List (Vec (ParseRepair X S) A) → Type 0

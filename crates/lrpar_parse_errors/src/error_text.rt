@@ -3,7 +3,7 @@ ghost use Rattle.std.specs.Prelude.{◌↔◌, IfOk, IfErr, IsTrue};
 ghost use Rattle.std.specs.Str.{IsCharBoundary};
 ghost use Rattle.lrpar_grammar.specs.SpansFit.{IsPartOf};
 ghost use Rattle.lrpar_parse_errors.specs.ErrorText.{numbering, place_text};
-ghost use Rattle.lrpar_parse_errors.specs.StoredSequences.{FitRepairs, FitSequences, FitsRepair, IsPpFaultOf, PushesRepairs};
+ghost use Rattle.lrpar_parse_errors.specs.StoredSequences.{FitSequences, IsPpFaultOf, PushesRepairs, TellsIfFit, TellsIfFits};
 ghost use Rattle.lrpar_parse_lexemes.specs.Strings.{Pushes};
 
 use crate::errors::LexParseError;
@@ -113,7 +113,7 @@ fn repairs_fit<LexemeT: Lexeme<StorageT>, StorageT: StorageIndex>(
     repairs: &[ParseRepair<LexemeT, StorageT>],
     input: &str,
 ) -> bool
-    ensures { IsTrue result ↔ FitRepairs StorageT.index LexemeT.parts input.now repairs.now }
+    ensures { TellsIfFit LexemeT.parts input.now repairs.now result }
 {
     repairs.iter().all(|repair| repair_fits(repair, input))
 }
@@ -123,7 +123,7 @@ fn repair_fits<LexemeT: Lexeme<StorageT>, StorageT: StorageIndex>(
     repair: &ParseRepair<LexemeT, StorageT>,
     input: &str,
 ) -> bool
-    ensures { IsTrue result ↔ FitsRepair StorageT.index LexemeT.parts input.now repair.now }
+    ensures { TellsIfFits LexemeT.parts input.now repair.now result }
 {
     match repair {
         ParseRepair::Insert(_) => true,

@@ -75,7 +75,7 @@ pub(crate) fn push_sequence<
     sequence: &Vec<ParseRepair<LexemeT, StorageT>>,
 ) -> Result<(), PpFault<StorageT>>
     requires names { N.can_name names.now }
-    requires fits { FitRepairs StorageT.index LexemeT.parts (L.text lexer.now) sequence.now.items }
+    requires fits { FitRepairs LexemeT.parts (L.text lexer.now) sequence.now.items }
     ensures text { PushesSequence StorageT.index LexemeT.parts
         (N.prints names.now) (L.text lexer.now) sequence.now out.old out.new result }
     ensures fault { IfErr result (IsFaultIn StorageT.index LexemeT.parts (N.prints names.now) sequence.now) }

@@ -43,9 +43,9 @@ pub record IsStop {X : Type 0} (token : X → ℕ) (at : Asked X) : Type 0 where
   pub stack : IsStack at.checked.table at.stack
   pub fails : top_action at.checked.table (token_at token at.checked.grammar at.lexemes at.place) at.stack ≡ Fails
 
--- the parse stops there: an error point over lexemes as they are stored, of which `parts` gives the parts
-abbrev pub IsErrorPoint : {S X : Type 0} → (S → ℕ) → (X → LexemeParts S) → Asked X → Type 0
-IsErrorPoint index parts at = IsStop (token_by index parts) at
+-- an error point over lexemes as they are stored, of which `parts` gives the parts
+abbrev pub IsStopBy : {S X : Type 0} → (S → ℕ) → (X → LexemeParts S) → Asked X → Type 0
+IsStopBy index parts at = IsStop (token_by index parts) at
 
 -- the question to a recoverer, with a stack as it is stored
 abbrev pub asked_of : {S X : Type 0} → (S → ℕ) → Checked → ℕ → List X → ℕ → List (StIdx S) → Asked X
@@ -53,4 +53,4 @@ asked_of index d k lexemes place stack = record { checked = d; shifts = k; lexem
 
 -- the question to a recoverer, with a stack as it is stored, is asked at an error point
 abbrev pub StopsAt : {S X : Type 0} → (S → ℕ) → (X → LexemeParts S) → Checked → ℕ → List X → ℕ → List (StIdx S) → Type 0
-StopsAt index parts d k lexemes place stack = IsErrorPoint index parts (asked_of index d k lexemes place stack)
+StopsAt index parts d k lexemes place stack = IsStopBy index parts (asked_of index d k lexemes place stack)

@@ -1,6 +1,6 @@
 -- The engine of repair sequences, as contracts see it; `index` is the number that a storage number represents, and `parts` gives the
 -- parts of a lexeme.
-use Rattle.std.specs.Prelude.{◌<◌, ◌+◌, ◌↔◌, ℕ, Bool, List, Option, Vec, Contains, IsTrue, length}
+use Rattle.std.specs.Prelude.{◌<◌, ◌+◌, ◌↔◌, ℕ, Bool, List, Option, Result, Vec, Contains, IfOk, IsTrue, length}
 use Rattle.lrpar_grammar.specs.Grammar.{Grammar, tokens_len}
 use Rattle.lrpar_grammar_places.specs.declared.span.StIdx.{StIdx}
 use Rattle.lrpar_grammar_places.specs.declared.span.TIdx.{TIdx}
@@ -73,43 +73,45 @@ abbrev pub AreTestsFor : {S X : Type 0} → Engine S X → ℕ → List (List Pl
 AreTestsFor engine height sequences old new =
     AreTestsWithin engine.checked.now.grammar engine.checked.now.table (most_listed engine.checked.now.cap height engine.shifts sequences) old new
 
-module _ {S X : Type 0} (index : S → ℕ) (parts : X → LexemeParts S) where
+-- what calls return, unless they fail
+module _ {S X E : Type 0} (index : S → ℕ) (parts : X → LexemeParts S) where
   -- these are the sequences of the answer that work from the stack at the place, in order
-  abbrev pub ListsWorking : {A B : Type 0} → Engine S X → List ℕ → ℕ → Vec (Vec (RepairStep S) A) B → Vec (Vec (RepairStep S) A) B → Type 0
-  ListsWorking engine st i answer =
-      λ listed. AreThoseWith (WorksBy index parts engine st i) (plain_sequences index answer.items) (plain_sequences index listed.items)
+  abbrev pub ListsWorking : {A B : Type 0} → Engine S X → List ℕ → ℕ → Vec (Vec (RepairStep S) A) B → Result (Vec (Vec (RepairStep S) A) B) E → Type 0
+  ListsWorking engine st i answer result =
+      IfOk result (λ listed. AreThoseWith (WorksBy index parts engine st i) (plain_sequences index answer.items) (plain_sequences index listed.items))
 
   -- true exactly if some sequence of the answer works from the stack at the place
-  abbrev pub TellsSome : {A : Type 0} → Engine S X → List ℕ → ℕ → List (Vec (RepairStep S) A) → Bool → Type 0
-  TellsSome engine st i answer = λ works. IsTrue works ↔ SomeWorksBy index parts engine st i (plain_sequences index answer)
+  abbrev pub TellsSome : {A : Type 0} → Engine S X → List ℕ → ℕ → List (Vec (RepairStep S) A) → Result Bool E → Type 0
+  TellsSome engine st i answer result = IfOk result (λ works. IsTrue works ↔ SomeWorksBy index parts engine st i (plain_sequences index answer))
 
   -- true exactly if the sequence works from the stack at the place
-  abbrev pub TellsWorks : Engine S X → List ℕ → ℕ → List (RepairStep S) → Bool → Type 0
-  TellsWorks engine st i steps = λ works. IsTrue works ↔ WorksBy index parts engine st i (plain_steps index steps)
+  abbrev pub TellsWorks : Engine S X → List ℕ → ℕ → List (RepairStep S) → Result Bool E → Type 0
+  TellsWorks engine st i steps result = IfOk result (λ works. IsTrue works ↔ WorksBy index parts engine st i (plain_steps index steps))
 
   -- true exactly if a parse can go on from the stack at the place
-  abbrev pub TellsGoesOn : Engine S X → List ℕ → ℕ → Bool → Type 0
-  TellsGoesOn engine st i = λ goes_on. IsTrue goes_on ↔ GoesOnFrom index parts engine st i
+  abbrev pub TellsGoesOn : Engine S X → List ℕ → ℕ → Result Bool E → Type 0
+  TellsGoesOn engine st i result = IfOk result (λ goes_on. IsTrue goes_on ↔ GoesOnFrom index parts engine st i)
 
   -- the step was taken, or can't be; `states` gives the states of a stack
-  abbrev pub TakesStep : {Y : Type 0} → (Y → List ℕ) → Engine S X → ℕ → RepairStep S → Y → Y → Option ℕ → Type 0
-  TakesStep states engine i step old new = IsTakenBy index parts engine (states old) i (plain_step index step) (states new)
+  abbrev pub TakesStep : {Y : Type 0} → (Y → List ℕ) → Engine S X → ℕ → RepairStep S → Y → Y → Result (Option ℕ) E → Type 0
+  TakesStep states engine i step old new result = IfOk result (IsTakenBy index parts engine (states old) i (plain_step index step) (states new))
 
   -- the token was inserted, or can't be
-  abbrev pub Inserts : {Y : Type 0} → (Y → List ℕ) → Engine S X → ℕ → TIdx S → Y → Y → Option ℕ → Type 0
-  Inserts states engine i token old new = IsTakenBy index parts engine (states old) i (PlainInsert (index token.0)) (states new)
+  abbrev pub Inserts : {Y : Type 0} → (Y → List ℕ) → Engine S X → ℕ → TIdx S → Y → Y → Result (Option ℕ) E → Type 0
+  Inserts states engine i token old new result = IfOk result (IsTakenBy index parts engine (states old) i (PlainInsert (index token.0)) (states new))
 
   -- the lexeme at the place was kept, or can't be
-  abbrev pub Shifts : {Y : Type 0} → (Y → List ℕ) → Engine S X → ℕ → Y → Y → Option ℕ → Type 0
-  Shifts states engine i old new = IsTakenBy index parts engine (states old) i PlainShift (states new)
+  abbrev pub Shifts : {Y : Type 0} → (Y → List ℕ) → Engine S X → ℕ → Y → Y → Result (Option ℕ) E → Type 0
+  Shifts states engine i old new result = IfOk result (IsTakenBy index parts engine (states old) i PlainShift (states new))
 
--- the token was fed, or can't be
-abbrev pub FeedsToken : {S X : Type 0} → (S → ℕ) → Engine S X → TIdx S → List ℕ → List ℕ → Bool → Type 0
-FeedsToken index engine token st after = IsTokenFed engine.checked.now.grammar engine.checked.now.table (index token.0) st after
+-- unless the call fails, the token was fed, or can't be
+abbrev pub FeedsToken : {S X E : Type 0} → (S → ℕ) → Engine S X → TIdx S → List ℕ → List ℕ → Result Bool E → Type 0
+FeedsToken index engine token st after result =
+    IfOk result (IsTokenFed engine.checked.now.grammar engine.checked.now.table (index token.0) st after)
 
--- true exactly if the stack accepts, after all reductions at the end token
-abbrev pub TellsAccepts : {S X : Type 0} → Engine S X → List ℕ → Bool → Type 0
-TellsAccepts engine st = λ accepts. IsTrue accepts ↔ AcceptsAtEnd engine.checked.now.grammar engine.checked.now.table st
+-- unless the call fails, it returns true exactly if the stack accepts, after all reductions at the end token
+abbrev pub TellsAccepts : {S X E : Type 0} → Engine S X → List ℕ → Result Bool E → Type 0
+TellsAccepts engine st result = IfOk result (λ accepts. IsTrue accepts ↔ AcceptsAtEnd engine.checked.now.grammar engine.checked.now.table st)
 
 -- tests of the sequences make one overlay of another, with no more reductions than they may cost
 abbrev pub TestsAnswer : {S X A : Type 0} → (S → ℕ) → Engine S X → List (Vec (RepairStep S) A) → Overlaid → Overlaid → Type 0

@@ -1,5 +1,5 @@
 -- What recoverers supply, as it is stored. `index` gives the number of a value of the storage type, and `parts` the parts of a lexeme.
-use Rattle.std.specs.Prelude.{◌≡◌, ◌↔◌, ℕ, Bool, List, Vec, IsTrue}
+use Rattle.std.specs.Prelude.{◌≡◌, ◌↔◌, ℕ, Bool, List, Vec, IfOk, IsTrue, Result}
 use Rattle.lrpar_parse_lexemes.specs.Lexemes.{LexemeParts}
 use Rattle.lrpar_parse_lexemes.specs.Views.{token_by}
 use Rattle.lrpar_table_check.specs.Checked.{Checked}
@@ -13,9 +13,9 @@ use Rattle.lrpar_parse_repair.specs.declared.repair_step.RepairStep.{RepairStep}
 abbrev pub IsAllowed : {S A B : Type 0} → (S → ℕ) → (List (List PlainStep) → Type 0) → Vec (Vec (RepairStep S) A) B → Type 0
 IsAllowed index allowed = λ answer. allowed (plain_sequences index answer.items)
 
--- the answer has these sequences
-abbrev pub HasSequences : {S A B : Type 0} → (S → ℕ) → List (List PlainStep) → Vec (Vec (RepairStep S) A) B → Type 0
-HasSequences index sequences = λ answer. plain_sequences index answer.items ≡ sequences
+-- if there is an answer, it has these sequences
+abbrev pub GivesSequences : {S A B E : Type 0} → (S → ℕ) → List (List PlainStep) → Result (Vec (Vec (RepairStep S) A) B) E → Type 0
+GivesSequences index sequences result = IfOk result (λ answer. plain_sequences index answer.items ≡ sequences)
 
 -- these are the sequences that the recoverer supplies
 abbrev pub Supplies : {S A B : Type 0} → (S → ℕ) → Vec (Vec (RepairStep S) A) B → List (List PlainStep) → Type 0

@@ -1,5 +1,5 @@
 //! The engine of repair sequences: what their steps make of a stack of any kind, and whether a parse can go on from one.
-ghost use Rattle.std.specs.Prelude.{◌≡◌, ◌≤◌, ◌+◌, ◌↔◌, length, IfOk, OnOk, IsTrue};
+ghost use Rattle.std.specs.Prelude.{◌≡◌, ◌≤◌, ◌+◌, ◌↔◌, length, OnOk, IsTrue};
 ghost use Rattle.lrpar_table_rows.specs.PlainRows.{plain_action};
 ghost use Rattle.lrpar_table_rows.specs.Table.{Accepts};
 ghost use Rattle.lrpar_table_stacks.specs.Stack.{states_of};
@@ -56,7 +56,7 @@ impl<'a, StorageT: StorageIndex, LexemeT: Lexeme<StorageT>> Engine<'a, StorageT,
         requires tokens { HasTokens StorageT.index LexemeT.parts self.now }
         requires stack { HasStack StorageT.index self.now stack.now }
         requires within { place ≤ length self.now.lexemes.now }
-        ensures listed { IfOk result (ListsWorking StorageT.index LexemeT.parts self.now (states_of StorageT.index stack.now) place answer) }
+        ensures listed { ListsWorking StorageT.index LexemeT.parts self.now (states_of StorageT.index stack.now) place answer result }
     {
         let mut states = Overlay::new(alloc, stack);
         self.retain_working(alloc, &mut states, place, answer)
@@ -73,7 +73,7 @@ impl<'a, StorageT: StorageIndex, LexemeT: Lexeme<StorageT>> Engine<'a, StorageT,
         requires tokens { HasTokens StorageT.index LexemeT.parts self.now }
         requires stack { HasStates self.now states.old.base }
         requires within { place ≤ length self.now.lexemes.now }
-        ensures listed { IfOk result (ListsWorking StorageT.index LexemeT.parts self.now states.old.base place answer) }
+        ensures listed { ListsWorking StorageT.index LexemeT.parts self.now states.old.base place answer result }
 
         // The tests make at most as many reductions as the sequences may cost.
         ensures bounded { OnOk result (TestsAnswer StorageT.index self.now answer.items states.old states.new) }
@@ -101,7 +101,7 @@ impl<'a, StorageT: StorageIndex, LexemeT: Lexeme<StorageT>> Engine<'a, StorageT,
         requires tokens { HasTokens StorageT.index LexemeT.parts self.now }
         requires stack { HasStack StorageT.index self.now stack.now }
         requires within { place ≤ length self.now.lexemes.now }
-        ensures works { IfOk result (TellsSome StorageT.index LexemeT.parts self.now (states_of StorageT.index stack.now) place answer.now) }
+        ensures works { TellsSome StorageT.index LexemeT.parts self.now (states_of StorageT.index stack.now) place answer.now result }
     {
         let mut states = Overlay::new(alloc, stack);
         self.has_working(&mut states, place, answer)
@@ -117,7 +117,7 @@ impl<'a, StorageT: StorageIndex, LexemeT: Lexeme<StorageT>> Engine<'a, StorageT,
         requires tokens { HasTokens StorageT.index LexemeT.parts self.now }
         requires stack { HasStates self.now states.old.base }
         requires within { place ≤ length self.now.lexemes.now }
-        ensures works { IfOk result (TellsSome StorageT.index LexemeT.parts self.now states.old.base place answer.now) }
+        ensures works { TellsSome StorageT.index LexemeT.parts self.now states.old.base place answer.now result }
 
         // The tests make at most as many reductions as the sequences may cost.
         ensures bounded { OnOk result (TestsAnswer StorageT.index self.now answer.now states.old states.new) }
@@ -140,7 +140,7 @@ impl<'a, StorageT: StorageIndex, LexemeT: Lexeme<StorageT>> Engine<'a, StorageT,
         requires tokens { HasTokens StorageT.index LexemeT.parts self.now }
         requires stack { HasStates self.now states.old.base }
         requires within { place ≤ length self.now.lexemes.now }
-        ensures works { IfOk result (TellsWorks StorageT.index LexemeT.parts self.now states.old.base place steps.now) }
+        ensures works { TellsWorks StorageT.index LexemeT.parts self.now states.old.base place steps.now result }
 
         // The test makes at most as many reductions as the sequence may cost.
         ensures tested { OnOk result (IsTestOf self.now steps.now states.old states.new) }
@@ -160,7 +160,7 @@ impl<'a, StorageT: StorageIndex, LexemeT: Lexeme<StorageT>> Engine<'a, StorageT,
         requires suits { SuitsAll S.suits self.now }
         requires stack { HasStates self.now (S.states stack.old) }
         requires within { place ≤ length self.now.lexemes.now }
-        ensures works { IfOk result (TellsWorks StorageT.index LexemeT.parts self.now (S.states stack.old) place steps.now) }
+        ensures works { TellsWorks StorageT.index LexemeT.parts self.now (S.states stack.old) place steps.now result }
         ensures stack { HasStates self.now (S.states stack.new) }
         ensures moved { OnOk result (IsMovedFor self.now S.states S.reduces S.shifts (length steps.now + self.now.shifts) stack.old stack.new) }
     {
@@ -185,7 +185,7 @@ impl<'a, StorageT: StorageIndex, LexemeT: Lexeme<StorageT>> Engine<'a, StorageT,
         requires suits { SuitsAll S.suits self.now }
         requires stack { HasStates self.now (S.states stack.old) }
         requires within { place ≤ length self.now.lexemes.now }
-        ensures goes_on { IfOk result (TellsGoesOn StorageT.index LexemeT.parts self.now (S.states stack.old) place) }
+        ensures goes_on { TellsGoesOn StorageT.index LexemeT.parts self.now (S.states stack.old) place result }
         ensures stack { HasStates self.now (S.states stack.new) }
         ensures moved { OnOk result (IsMovedFor self.now S.states S.reduces S.shifts self.now.shifts stack.old stack.new) }
     {
@@ -212,7 +212,7 @@ impl<'a, StorageT: StorageIndex, LexemeT: Lexeme<StorageT>> Engine<'a, StorageT,
         requires tokens { HasTokens StorageT.index LexemeT.parts self.now }
         requires suits { SuitsAll S.suits self.now }
         requires stack { HasStates self.now (S.states stack.old) }
-        ensures taken { IfOk result (TakesStep StorageT.index LexemeT.parts S.states self.now place step stack.old stack.new) }
+        ensures taken { TakesStep StorageT.index LexemeT.parts S.states self.now place step stack.old stack.new result }
         ensures stack { HasStates self.now (S.states stack.new) }
         ensures moved { OnOk result (IsMovedFor self.now S.states S.reduces S.shifts 1 stack.old stack.new) }
     {
@@ -238,7 +238,7 @@ impl<'a, StorageT: StorageIndex, LexemeT: Lexeme<StorageT>> Engine<'a, StorageT,
     ) -> Result<Option<usize>, AllocError>
         requires suits { SuitsAll S.suits self.now }
         requires stack { HasStates self.now (S.states stack.old) }
-        ensures taken { IfOk result (Inserts StorageT.index LexemeT.parts S.states self.now place token stack.old stack.new) }
+        ensures taken { Inserts StorageT.index LexemeT.parts S.states self.now place token stack.old stack.new result }
         ensures stack { HasStates self.now (S.states stack.new) }
         ensures moved { OnOk result (IsMovedFor self.now S.states S.reduces S.shifts 1 stack.old stack.new) }
     {
@@ -260,7 +260,7 @@ impl<'a, StorageT: StorageIndex, LexemeT: Lexeme<StorageT>> Engine<'a, StorageT,
         requires tokens { HasTokens StorageT.index LexemeT.parts self.now }
         requires suits { SuitsAll S.suits self.now }
         requires stack { HasStates self.now (S.states stack.old) }
-        ensures taken { IfOk result (Shifts StorageT.index LexemeT.parts S.states self.now place stack.old stack.new) }
+        ensures taken { Shifts StorageT.index LexemeT.parts S.states self.now place stack.old stack.new result }
         ensures stack { HasStates self.now (S.states stack.new) }
         ensures moved { OnOk result (IsMovedFor self.now S.states S.reduces S.shifts 1 stack.old stack.new) }
     {
@@ -280,7 +280,7 @@ impl<'a, StorageT: StorageIndex, LexemeT: Lexeme<StorageT>> Engine<'a, StorageT,
         requires token { HasToken StorageT.index self.now token }
         requires suits { SuitsAll S.suits self.now }
         requires stack { HasStates self.now (S.states stack.old) }
-        ensures fed { IfOk result (FeedsToken StorageT.index self.now token (S.states stack.old) (S.states stack.new)) }
+        ensures fed { FeedsToken StorageT.index self.now token (S.states stack.old) (S.states stack.new) result }
         ensures stack { HasStates self.now (S.states stack.new) }
         ensures moved { OnOk result (IsMovedFor self.now S.states S.reduces S.shifts 1 stack.old stack.new) }
     {
@@ -293,12 +293,13 @@ impl<'a, StorageT: StorageIndex, LexemeT: Lexeme<StorageT>> Engine<'a, StorageT,
     pub fn try_accept<S: ShiftStack<StorageT>>(&self, stack: &mut S) -> Result<bool, AllocError>
         requires suits { SuitsAll S.suits self.now }
         requires stack { HasStates self.now (S.states stack.old) }
-        ensures accepts { IfOk result (TellsAccepts self.now (S.states stack.old)) }
+        ensures accepts { TellsAccepts self.now (S.states stack.old) result }
         ensures stack { HasStates self.now (S.states stack.new) }
         ensures moved { OnOk result (IsMovedFor self.now S.states S.reduces S.shifts 1 stack.old stack.new) }
     {
-        // Checked: the table has the grammar's end token.
-        let (_table, end) = (self.checked.stable(), self.checked.grm().eof_token_idx());
+        // A checked table has the grammar's end token.
+        let _lemma = self.checked.stable();
+        let end = self.checked.grm().eof_token_idx();
         let settled = self.checked.settle_on(stack, end)?;
         Ok(is_accept(settled.action))
     }

@@ -1,6 +1,6 @@
 //! The sequences of an error as repairs, each with its lexemes.
-ghost use Rattle.std.specs.Prelude.{◌≡◌, IfOk, IfSome, None};
-ghost use Rattle.lrpar_parse_repair.specs.ListedRepairs.{AreRepairsOf, AreRepairsOfOne, BeginBy, EndAt};
+ghost use Rattle.std.specs.Prelude.{IfOk};
+ghost use Rattle.lrpar_parse_repair.specs.ListedRepairs.{AreRepairsOf, AreRepairsOfOne, IsRepairOver};
 
 use crate::repair_step::RepairStep;
 use lrpar_grammar::span::StorageIndex;
@@ -51,8 +51,7 @@ fn repair_over<'a, StorageT: StorageIndex, LexemeT: Lexeme<StorageT>>(
     step: RepairStep<StorageT>,
     left: &'a [LexemeT],
 ) -> Option<(ParseRepair<LexemeT, StorageT>, &'a [LexemeT])>
-    ensures none { result ≡ None → EndAt StorageT.index left.now step }
-    ensures some { IfSome result (BeginBy StorageT.index left.now step) }
+    ensures { IsRepairOver StorageT.index left.now step result }
 {
     match step {
         RepairStep::Insert(token) => Some((ParseRepair::Insert(token), left)),

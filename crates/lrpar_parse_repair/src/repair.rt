@@ -3,8 +3,8 @@ ghost use Rattle.std.specs.Prelude.{◌≡◌, [], List, IfOk, IsOk};
 ghost use Rattle.lrpar_table_stacks.specs.Stack.{states_of};
 ghost use Rattle.lrpar_parse_repair.specs.Sequences.{PlainStep};
 ghost use Rattle.lrpar_parse_repair.specs.AlwaysRepairs.{in_turn};
-ghost use Rattle.lrpar_parse_repair.specs.Asked.{Asked, IsErrorPoint, StopsAt, asked_of};
-ghost use Rattle.lrpar_parse_repair.specs.Supplied.{HasSequences, IsAllowed, Supplies};
+ghost use Rattle.lrpar_parse_repair.specs.Asked.{Asked, IsStopBy, StopsAt, asked_of};
+ghost use Rattle.lrpar_parse_repair.specs.Supplied.{GivesSequences, IsAllowed, Supplies};
 
 use crate::or::Or;
 pub use crate::repair_step::RepairStep;
@@ -76,7 +76,7 @@ impl<'a, StorageT: StorageIndex, LexemeT: Lexeme<StorageT>> RecoveryPoint<'a, St
     /// The grammar with its checked table.
     pub fn data(&self) -> &'a ParserData<StorageT>
         ensures data { result.now ≡ self.now.checked }
-        ensures stop { IsErrorPoint StorageT.index LexemeT.parts self.now }
+        ensures stop { IsStopBy StorageT.index LexemeT.parts self.now }
     {
         self.data
     }
@@ -84,7 +84,7 @@ impl<'a, StorageT: StorageIndex, LexemeT: Lexeme<StorageT>> RecoveryPoint<'a, St
     /// How many lexemes must follow a repair: at least one.
     pub fn shifts(&self) -> usize
         ensures shifts { result ≡ self.now.shifts }
-        ensures stop { IsErrorPoint StorageT.index LexemeT.parts self.now }
+        ensures stop { IsStopBy StorageT.index LexemeT.parts self.now }
     {
         self.shifts
     }
@@ -92,7 +92,7 @@ impl<'a, StorageT: StorageIndex, LexemeT: Lexeme<StorageT>> RecoveryPoint<'a, St
     /// All lexemes of the parse, also those before the error. Each has a token of the grammar other than the end token.
     pub fn lexemes(&self) -> &'a [LexemeT]
         ensures lexemes { result.now ≡ self.now.lexemes }
-        ensures stop { IsErrorPoint StorageT.index LexemeT.parts self.now }
+        ensures stop { IsStopBy StorageT.index LexemeT.parts self.now }
     {
         self.lexemes
     }
@@ -100,7 +100,7 @@ impl<'a, StorageT: StorageIndex, LexemeT: Lexeme<StorageT>> RecoveryPoint<'a, St
     /// The place of the lexeme that has no action, counted from 0. At the end of the input it is the number of lexemes.
     pub fn place(&self) -> usize
         ensures place { result ≡ self.now.place }
-        ensures stop { IsErrorPoint StorageT.index LexemeT.parts self.now }
+        ensures stop { IsStopBy StorageT.index LexemeT.parts self.now }
     {
         self.place
     }
@@ -109,7 +109,7 @@ impl<'a, StorageT: StorageIndex, LexemeT: Lexeme<StorageT>> RecoveryPoint<'a, St
     /// They are a stack of the table, and the state on top has no action at that token.
     pub fn stack(&self) -> &'a [StIdx<StorageT>]
         ensures stack { states_of StorageT.index result.now ≡ self.now.stack }
-        ensures stop { IsErrorPoint StorageT.index LexemeT.parts self.now }
+        ensures stop { IsStopBy StorageT.index LexemeT.parts self.now }
     {
         self.stack
     }
@@ -153,7 +153,7 @@ impl<StorageT: StorageIndex, LexemeT: Lexeme<StorageT>> Recoverer<StorageT, Lexe
         alloc: Global,
         _point: &RecoveryPoint<'_, StorageT, LexemeT>,
     ) -> Result<Vec<Vec<RepairStep<StorageT>>>, AllocError>
-        ensures allowed { IfOk result (HasSequences StorageT.index []) }
+        ensures allowed { GivesSequences StorageT.index [] result }
         ensures ok { IsOk result }
     {
         Ok(Vec::new(alloc))
@@ -202,7 +202,7 @@ impl<StorageT: StorageIndex, LexemeT: Lexeme<StorageT>> Recoverer<StorageT, Lexe
         _alloc: Global,
         _point: &RecoveryPoint<'_, StorageT, LexemeT>,
     ) -> Result<Vec<Vec<RepairStep<StorageT>>>, AllocError>
-        ensures allowed { IfOk result (HasSequences StorageT.index self.now) }
+        ensures allowed { GivesSequences StorageT.index self.now result }
     {
         self.sequences.clone()
     }

@@ -1,6 +1,6 @@
 -- Levels, the productions that name one of them, and symbols, as the code stores them. `index` is the number that a storage number
 -- represents.
-use Rattle.std.specs.Prelude.{◌≡◌, ◌<◌, ◌++◌, ℕ, List, All, Option, length, map, option_map, Vec}
+use Rattle.std.specs.Prelude.{◌≡◌, ◌<◌, ◌++◌, ℕ, List, All, IfOk, Option, Result, length, map, option_map, Vec}
 use Rattle.std.specs.Option.{option_and_then}
 use Rattle.lrpar_grammar_places.specs.declared.span.PIdx.{PIdx}
 use Rattle.lrpar_grammar_places.specs.declared.span.Symbol.{Symbol}
@@ -31,14 +31,14 @@ module _ {S : Type 0} (index : S → ℕ) where
   abbrev pub AreDeclaredOnce : List (Level S) → List (PIdx S × ℕ) → Type 0
   AreDeclaredOnce levels named = AreOnce (levels_of levels) (names_of named)
 
-  -- each token has the precedence that the levels declare for it
-  abbrev pub HasTokens : List (Level S) → PrecedenceLists → Type 0
-  HasTokens levels made = (t : ℕ) → token_precedence made t ≡ declared_token (levels_of levels) t
+  -- if there are precedences, each token has the one that the levels declare for it
+  abbrev pub GivesTokens : {E : Type 0} → List (Level S) → Result PrecedenceLists E → Type 0
+  GivesTokens levels result = IfOk result (λ made. (t : ℕ) → token_precedence made t ≡ declared_token (levels_of levels) t)
 
-  -- each production of the grammar has the precedence that the levels declare for it
-  abbrev pub HasProds : Grammar → List (Level S) → List (PIdx S × ℕ) → PrecedenceLists → Type 0
-  HasProds g levels named made =
-      (p : ℕ) → p < prods_len g → prod_precedence made p ≡ declared_prod g (levels_of levels) (names_of named) p
+  -- if there are precedences, each production of the grammar has the one that the levels declare for it
+  abbrev pub GivesProds : {E : Type 0} → Grammar → List (Level S) → List (PIdx S × ℕ) → Result PrecedenceLists E → Type 0
+  GivesProds g levels named result =
+      IfOk result (λ made. (p : ℕ) → p < prods_len g → prod_precedence made p ≡ declared_prod g (levels_of levels) (names_of named) p)
 
   -- the fault says why the levels make no precedences
   abbrev pub IsLevelsFaultOf : Grammar → List (Level S) → List (PIdx S × ℕ) → PrecedenceFault → Type 0
@@ -72,25 +72,25 @@ module _ {S : Type 0} (index : S → ℕ) where
   abbrev pub IsOfLevel : List (Level S) → ℕ → Precedence → Type 0
   IsOfLevel levels n precedence = precedence ≡ precedence_at (levels_of levels) n
 
-  -- these are the tokens of the levels, each with its precedence
-  abbrev pub AreTokensOf : {A : Type 0} → List (Level S) → Vec (ℕ × Precedence) A → Type 0
-  AreTokensOf levels entries = entries.items ≡ token_entries (levels_of levels)
+  -- if there is a list, it has the tokens of the levels, each with its precedence
+  abbrev pub ListsTokens : {A E : Type 0} → List (Level S) → Result (Vec (ℕ × Precedence) A) E → Type 0
+  ListsTokens levels result = IfOk result (λ entries. entries.items ≡ token_entries (levels_of levels))
 
-  -- these are the productions that name a level, each with its precedence
-  abbrev pub AreProdsOf : {A : Type 0} → List (Level S) → List (PIdx S × ℕ) → Vec (ℕ × Precedence) A → Type 0
-  AreProdsOf levels named entries = entries.items ≡ prod_entries (levels_of levels) (names_of named)
+  -- if there is a list, it has the productions that name a level, each with its precedence
+  abbrev pub ListsNamed : {A E : Type 0} → List (Level S) → List (PIdx S × ℕ) → Result (Vec (ℕ × Precedence) A) E → Type 0
+  ListsNamed levels named result = IfOk result (λ entries. entries.items ≡ prod_entries (levels_of levels) (names_of named))
 
   -- the tokens were appended, each with this precedence
   abbrev pub AppendsTokens : {A : Type 0} → Precedence → List (TIdx S) → Vec (ℕ × Precedence) A → Vec (ℕ × Precedence) A → Type 0
   AppendsTokens precedence tokens old new = new.items ≡ old.items ++ map (λ t. (index t.0, precedence)) tokens
 
-  -- the slots have the tokens of the levels, each of which is there once
-  abbrev pub HaveTokens : {A : Type 0} → List (Level S) → Vec (Option Precedence) A → Type 0
-  HaveTokens levels slots = AreFilled (token_entries (levels_of levels)) slots.items
+  -- if there are slots, they have the tokens of the levels, each of which is there once
+  abbrev pub FillsTokens : {A E : Type 0} → List (Level S) → Result (Vec (Option Precedence) A) E → Type 0
+  FillsTokens levels result = IfOk result (λ slots. AreFilled (token_entries (levels_of levels)) slots.items)
 
-  -- the slots have the productions that name a level, each of which is there once
-  abbrev pub HaveNamed : {A : Type 0} → List (Level S) → List (PIdx S × ℕ) → Vec (Option Precedence) A → Type 0
-  HaveNamed levels named slots = AreFilled (prod_entries (levels_of levels) (names_of named)) slots.items
+  -- if there are slots, they have the productions that name a level, each of which is there once
+  abbrev pub FillsNamed : {A E : Type 0} → List (Level S) → List (PIdx S × ℕ) → Result (Vec (Option Precedence) A) E → Type 0
+  FillsNamed levels named result = IfOk result (λ slots. AreFilled (prod_entries (levels_of levels) (names_of named)) slots.items)
 
   -- this is the last token among the symbols; none, if there is none
   abbrev pub IsLastToken : List (Symbol S) → Option (TIdx S) → Type 0

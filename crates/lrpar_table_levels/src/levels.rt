@@ -1,6 +1,6 @@
 //! Levels of precedence: their tokens, and the productions that name one of them.
-ghost use Rattle.std.specs.Prelude.{◌<◌, IfOk, IsTrue, ◌↔◌, OnOk, length};
-ghost use Rattle.lrpar_table_levels.specs.Stored.{AppendsTokens, AreBelow, AreKnown, AreLevelsKnown, AreNamedBelow, AreProdsOf, AreTokensOf, HaveTokensBelow, IsOfLevel};
+ghost use Rattle.std.specs.Prelude.{◌<◌, IsTrue, ◌↔◌, OnOk, length};
+ghost use Rattle.lrpar_table_levels.specs.Stored.{AppendsTokens, AreBelow, AreKnown, AreLevelsKnown, AreNamedBelow, HaveTokensBelow, IsOfLevel, ListsNamed, ListsTokens};
 
 use lrpar_grammar::grammar::YaccGrammar;
 use lrpar_grammar::span::{PIdx, StorageIndex, TIdx};
@@ -58,7 +58,7 @@ pub(crate) fn entries_of_tokens<StorageT: StorageIndex>(
     alloc: Global,
     levels: &[Level<StorageT>],
 ) -> Result<Vec<(usize, Precedence)>, AllocError>
-    ensures { IfOk result (AreTokensOf StorageT.index levels.now) }
+    ensures { ListsTokens StorageT.index levels.now result }
 {
     let mut entries = Vec::new(alloc);
     for number in 0..levels.len() {
@@ -98,7 +98,7 @@ pub(crate) fn entries_of_prods<StorageT: StorageIndex>(
     named: &[(PIdx<StorageT>, usize)],
 ) -> Result<Vec<(usize, Precedence)>, AllocError>
     requires { AreLevelsKnown StorageT.index levels.now named.now }
-    ensures { IfOk result (AreProdsOf StorageT.index levels.now named.now) }
+    ensures { ListsNamed StorageT.index levels.now named.now result }
 {
     let mut entries = Vec::with_capacity(alloc, named.len())?;
     for entry in named {

@@ -1,9 +1,9 @@
 //! The precedences that levels of tokens declare for a grammar.
-ghost use Rattle.std.specs.Prelude.{◌≡◌, ◌↔◌, IfErr, IfOk, IsErrOf, length};
+ghost use Rattle.std.specs.Prelude.{◌≡◌, ◌↔◌, IfErr, IfOk, IsErrOf, OnOk, length};
 ghost use Rattle.lrpar_grammar.specs.Grammar.{prods_len};
 ghost use Rattle.lrpar_table_levels.specs.Filled.{AreProdSlots, AssignsLast};
 ghost use Rattle.lrpar_table_levels.specs.Levels.{HasNoOtherProds};
-ghost use Rattle.lrpar_table_levels.specs.Stored.{AreDeclaredOnce, AreKnown, AreTokensKnown, HasProds, HasTokens, HaveNamed, HaveTokens, IsLevelsFaultOf, IsLastToken, IsTokenFault, last_precedence};
+ghost use Rattle.lrpar_table_levels.specs.Stored.{AreDeclaredOnce, AreKnown, AreTokensKnown, FillsNamed, FillsTokens, GivesProds, GivesTokens, IsLastToken, IsLevelsFaultOf, IsTokenFault, last_precedence};
 ghost use Rattle.lrpar_table_levels.specs.declared.fault.PrecedenceFault.TheVariants.{BadIndex};
 
 use crate::fault::PrecedenceFault;
@@ -31,10 +31,10 @@ pub fn precedences_of_levels<StorageT: StorageIndex>(
     levels: &[Level<StorageT>],
     named: &[(PIdx<StorageT>, usize)],
 ) -> Result<Precedences, PrecedenceFault>
-    ensures tokens { IfOk result (HasTokens StorageT.index levels.now) }
-    ensures prods { IfOk result (HasProds StorageT.index grm.now levels.now named.now) }
+    ensures tokens { GivesTokens StorageT.index levels.now result }
+    ensures prods { GivesProds StorageT.index grm.now levels.now named.now result }
     ensures others { IfOk result (HasNoOtherProds grm.now) }
-    ensures once { IfOk result (λ _. AreDeclaredOnce StorageT.index levels.now named.now) }
+    ensures once { OnOk result (AreDeclaredOnce StorageT.index levels.now named.now) }
     ensures bad_index { IsErrOf result BadIndex ↔ ¬ (AreKnown StorageT.index grm.now levels.now named.now) }
     ensures refused { IfErr result (IsLevelsFaultOf StorageT.index grm.now levels.now named.now) }
 {
@@ -52,10 +52,10 @@ fn made<StorageT: StorageIndex>(
     named: &[(PIdx<StorageT>, usize)],
 ) -> Result<Precedences, PrecedenceFault>
     requires { AreKnown StorageT.index grm.now levels.now named.now }
-    ensures tokens { IfOk result (HasTokens StorageT.index levels.now) }
-    ensures prods { IfOk result (HasProds StorageT.index grm.now levels.now named.now) }
+    ensures tokens { GivesTokens StorageT.index levels.now result }
+    ensures prods { GivesProds StorageT.index grm.now levels.now named.now result }
     ensures others { IfOk result (HasNoOtherProds grm.now) }
-    ensures once { IfOk result (λ _. AreDeclaredOnce StorageT.index levels.now named.now) }
+    ensures once { OnOk result (AreDeclaredOnce StorageT.index levels.now named.now) }
     ensures refused { IfErr result (IsLevelsFaultOf StorageT.index grm.now levels.now named.now) }
 {
     let tokens = token_slots(alloc, grm, levels)?;
@@ -71,7 +71,7 @@ fn token_slots<StorageT: StorageIndex>(
     levels: &[Level<StorageT>],
 ) -> Result<Vec<Option<Precedence>>, PrecedenceFault>
     requires { AreTokensKnown StorageT.index grm.now levels.now }
-    ensures filled { IfOk result (HaveTokens StorageT.index levels.now) }
+    ensures filled { FillsTokens StorageT.index levels.now result }
     ensures refused { IfErr result (IsTokenFault StorageT.index grm.now levels.now) }
 {
     let entries = entries_of_tokens(alloc, levels)?;
@@ -90,7 +90,7 @@ fn prod_slots<StorageT: StorageIndex>(
     named: &[(PIdx<StorageT>, usize)],
 ) -> Result<Vec<Option<Precedence>>, PrecedenceFault>
     requires { AreKnown StorageT.index grm.now levels.now named.now }
-    ensures filled { IfOk result (HaveNamed StorageT.index levels.now named.now) }
+    ensures filled { FillsNamed StorageT.index levels.now named.now result }
     ensures len { IfOk result (AreProdSlots grm.now) }
     ensures refused { IfErr result (IsLevelsFaultOf StorageT.index grm.now levels.now named.now) }
 {
@@ -109,7 +109,7 @@ pub(crate) fn add_last_tokens<StorageT: StorageIndex>(
     prods: &mut [Option<Precedence>],
 )
     requires { length prods.old ≡ prods_len grm.now }
-    ensures each { AssignsLast grm.now tokens.now prods.old prods.new }
+    ensures { AssignsLast grm.now tokens.now prods.old prods.new }
 {
     for number in 0..grm.prods_len() {
         let pidx = PIdx(StorageT::from_index(number).unwrap());

@@ -3,6 +3,7 @@ use Rattle.std.proofs.lemmas.List.{nil_from_length}
 use Rattle.std.specs.String.{string_bytes}
 use Rattle.lrpar_parse_errors.proofs.SequenceTextLemmas.{err_same}
 use Rattle.lrpar_parse_errors.proofs.ErrorTextLemmas.{fault_listed, listed_after, listed_all, listed_next, listed_none, sequence_fits}
+use Rattle.lrpar_parse_errors.proofs.TestLemmas.{repairs_alike}
 use Rattle.lrpar_parse_errors.proofs.error_text.push_repairs.Goals as goal
 
 pub returns-then-is_empty-clause-text : goal.returns-then-is_empty-clause-text
@@ -17,13 +18,11 @@ loop-i-init g c = listed_none _ _ _ _
 pub push_sequence-requires : goal.push_sequence-requires
 push_sequence-requires g c κs =
     let index = g.StorageT.StorageIndex.index in
-    let span = λ (x : g.row.LexemeT.Denot). (g.LexemeT.Lexeme.parts x).span in (
-      (refl, tt),
-      (
-        c.requires.names,
-        sequence_fits index span (g.L.NonStreamingLexer.text c.args.lexer.now) c.args.sequences.now c.loop-i.i c.index-sequences-i.result c.loop-i-test.true c.index-sequences-i.is c.requires.fits,
-      ),
-    )
+    let span = λ (x : g.row.LexemeT.Denot). (g.LexemeT.Lexeme.parts x).span in
+    let input = g.L.NonStreamingLexer.text c.args.lexer.now in
+    let sequence = c.index-sequences-i.result in
+    let fits = sequence_fits index span input c.args.sequences.now c.loop-i.i sequence c.loop-i-test.true c.index-sequences-i.is c.requires.fits in
+    ((refl, tt), (c.requires.names, (repairs_alike index g.LexemeT.Lexeme.parts input sequence.items).1 fits))
 
 pub returns-in_err-push_sequence-clause-fault : goal.returns-in_err-push_sequence-clause-fault
 returns-in_err-push_sequence-clause-fault g c =

@@ -3,6 +3,7 @@ use Rattle.std.specs.String.{string_bytes}
 use Rattle.lrpar_parse_errors.specs.PrintedParts.{part_of, sequence_parts}
 use Rattle.lrpar_parse_lexemes.specs.Repairs.{repair_of}
 use Rattle.lrpar_parse_errors.proofs.SequenceTextLemmas.{printed_none, printed_more, printed_all, parts_fit, fault_next, err_same}
+use Rattle.lrpar_parse_errors.proofs.TestLemmas.{repairs_alike}
 use Rattle.lrpar_parse_errors.proofs.sequence_text.push_sequence.Goals as goal
 
 pub loop-part-init : goal.loop-part-init
@@ -12,7 +13,10 @@ loop-part-init g c =
     let span = λ (x : g.row.LexemeT.Denot). (g.LexemeT.Lexeme.parts x).span in
     record {
       utf8 = search rules;
-      fits = rw c.as_slice-rest.ensures.value (parts_fit span input (map (repair_of index) c.args.sequence.now.items) c.requires.fits);
+      fits =
+          rw c.as_slice-rest.ensures.value
+          (parts_fit span input (map (repair_of index) c.args.sequence.now.items)
+          ((repairs_alike index g.LexemeT.Lexeme.parts input c.args.sequence.now.items).0 c.requires.fits));
       printed =
           rw c.as_slice-rest.ensures.value
           (printed_none (g.N.TokenNames.prints c.args.names.now) input (sequence_parts index span c.args.sequence.now.items) (string_bytes c.args.out.now));

@@ -5,13 +5,13 @@ pub loop-step-preserved : goal.loop-step-preserved
 loop-step-preserved g c =
     let l = c.loop-step in
     step_more g.StorageT.StorageIndex.index l.rest.now c.in-Some.after.now c.args.steps.now l.step-index c.step-item.result l.repairs.items c.push.new.self.items
-    c.in-Some.repair _ c.loop-step-test.true c.step-item.is c.in-Some.ensures.some l.invariant c.in_ok-push-in-Some.ensures.items
+    c.in-Some.repair _ c.loop-step-test.true c.step-item.is c.in-Some.ensures l.invariant c.in_ok-push-in-Some.ensures.items
 
 pub returns-in-None : goal.returns-in-None
 returns-in-None g c =
     let l = c.loop-step in record {
       repairs = step_none g.StorageT.StorageIndex.index l.rest.now c.args.steps.now l.step-index c.step-item.result l.repairs.items _ c.loop-step-test.true c.step-item.is
-          (c.repair_over.ensures.none c.in-None.is) l.invariant;
+          c.in-None.ensures l.invariant;
     }
 
 pub returns : goal.returns

@@ -38,7 +38,7 @@ returns-clause-prods g c = λ p below.
     let low : p < length c.deref_mut-2.result.now = omega (arith, below, room, len, full, c.in_ok-prods.ensures.len, c.prods_len.ensures.len) in
     let last = last_token (symbols_of grm p) in
     let slots : slot_at c.deref_mut-2.result.now p ≡ option_and_then (token_by_name grm levels) last =
-    ap (λ s. slot_at s p) (c.deref_mut-2.ensures.value ∙ with_items_is c.in_ok-prods.prods first len) ∙ c.add_last_tokens.ensures.each p below
+    ap (λ s. slot_at s p) (c.deref_mut-2.ensures.value ∙ with_items_is c.in_ok-prods.prods first len) ∙ c.add_last_tokens.ensures p below
     ∙ ap (λ s. option_or (slot_at s p) (option_and_then (slot_at c.deref-2.result.now) last)) c.deref_mut.ensures.value
     ∙ ap (λ o. option_or o (option_and_then (slot_at c.deref-2.result.now) last)) (c.in_ok-prods.ensures.empty p)
     ∙ and_then_same (slot_at c.deref-2.result.now) (token_by_name grm levels) tokens last in

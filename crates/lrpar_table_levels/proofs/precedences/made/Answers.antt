@@ -19,7 +19,7 @@ returns-clause-prods g c = λ p below.
     ap (λ slots. slot_at slots p) (c.from_slots.ensures.prods ∙ with_items_is c.in_ok-prods.prods c.add_last_tokens.new.prods len)
     ∙ declared_is c.args.grm.now (map (level_of index) c.args.levels.now) (map (named_of index) c.args.named.now) c.in_ok-tokens.tokens.items
     c.in_ok-prods.prods.items c.deref.result.now c.deref_mut.result.now c.add_last_tokens.new.prods c.deref.ensures.value c.deref_mut.ensures.value
-    c.in_ok-tokens.ensures.filled c.in_ok-prods.ensures.filled p (c.add_last_tokens.ensures.each p below)
+    c.in_ok-tokens.ensures.filled c.in_ok-prods.ensures.filled p (c.add_last_tokens.ensures p below)
 
 pub returns-clause-once : goal.returns-clause-once
 returns-clause-once g c =
