@@ -55,9 +55,9 @@ pub(crate) struct Language {
 /// Makes the language. `Err` if the texts above don't fit one another, or `PRODS`.
 pub(crate) fn new_language(alloc: Global) -> Result<Language, Failed> {
     let grm = YaccGrammar::<u32>::new_with_storaget(alloc, GRAMMAR)?;
-    let rules = rules_of(alloc, &grm, LEXER)?;
-    let spelled = grm.prods_spelled(alloc, &PRODS)?;
     let data = parser_data(alloc, grm, 10_000, 1_000)?;
+    let rules = rules_of(alloc, data.grm(), LEXER)?;
+    let spelled = data.grm().prods_spelled(alloc, &PRODS)?;
     Ok(Language {
         data,
         rules,

@@ -29,16 +29,28 @@ fn main(rt: HostRuntime) -> Result<(), Failed> {
 /// A report for each error of a text, and then a line for each setting, if the repairs make it a text of settings.
 pub(crate) fn shown(alloc: Global, language: &Language, text: &str) -> Result<String, Failed> {
     let (file, errors) = parse(alloc, language, text)?;
-    let reporter = Reporter::new(alloc, text, "input", Look::Plain)?;
     let mut out = String::new(alloc);
-    for error in &errors {
-        let report = error_report(alloc, &language.data, text, error)?;
-        reporter.push(&mut out, alloc, &report)?;
-    }
+    push_errors(&mut out, alloc, language, text, &errors)?;
     if let Some(Value::File(settings)) = &file {
         push_settings(&mut out, settings)?;
     }
     Ok(out)
+}
+
+/// Adds a report for each error.
+fn push_errors(
+    out: &mut String,
+    alloc: Global,
+    language: &Language,
+    text: &str,
+    errors: &[LexParseError<u32, TokenTypes>],
+) -> Result<(), AllocError> {
+    let reporter = Reporter::new(alloc, text, "input", Look::Plain)?;
+    for error in errors {
+        let report = error_report(alloc, &language.data, text, error)?;
+        reporter.push(out, alloc, &report)?;
+    }
+    Ok(())
 }
 
 /// The settings of a text, if the repairs make it a text of settings, and its errors.

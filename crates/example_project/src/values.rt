@@ -16,7 +16,7 @@ pub(crate) const PRODS: [&str; 5] = [
 ];
 
 /// A name, and its number.
-#[derive(Clone, Copy, Debug, PartialEq, Eq)]
+#[derive(Clone, Copy)]
 pub(crate) struct Setting<'text> {
     pub(crate) name: &'text str,
     pub(crate) value: u64,

@@ -8,7 +8,6 @@ use lrpar::repair::CpctPlus;
 use lrpar::span::{PIdx, RIdx, Span, Symbol};
 use lrpar::{LexParseError, RTParserBuilder};
 use lrpar_lexer::{RuleLexer, Token, TokenTypes};
-use lrpar_report::{Look, Reporter};
 use std::alloc::{AllocError, Global};
 
 const GRAMMAR: &str = "%% Expr: Expr '+' Term | Term;
@@ -87,13 +86,16 @@ pub(crate) fn run(alloc: Global, text: &str) -> Result<String, Failed> {
 // Adds the errors of a line, and its value.
 fn push_line(out: &mut String, alloc: Global, sums: &Language, line: &str) -> Result<(), Failed> {
     let (value, errors) = parse(alloc, sums, line)?;
-    let reporter = Reporter::new(alloc, line, "line", Look::Plain)?;
-    push_errors(out, alloc, sums, &reporter, line, &errors)?;
+    push_errors(out, alloc, sums, "line", line, &errors)?;
+    Ok(push_value(out, line, value)?)
+}
+
+// Adds a line, and its value.
+fn push_value(out: &mut String, line: &str, value: Option<u64>) -> Result<(), AllocError> {
     match value {
-        Some(number) => writeln!(out, "{line} = {number}")?,
-        None => writeln!(out, "{line} has no value")?,
+        Some(number) => writeln!(out, "{line} = {number}"),
+        None => writeln!(out, "{line} has no value"),
     }
-    Ok(())
 }
 
 // The value of a line, if it has one, and its errors.

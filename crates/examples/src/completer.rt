@@ -1,8 +1,9 @@
 //! A completer for sums: for each beginning of a line that ends with a lexeme, the tokens that may come next.
 use crate::language::{Failed, Language, language_of};
+use lrpar::span::TIdx;
 use lrpar::{Lexeme, Lexer, RTParserBuilder};
-use lrpar_lexer::{RuleLexer, TokenTypes};
-use std::alloc::Global;
+use lrpar_lexer::RuleLexer;
+use std::alloc::{AllocError, Global};
 
 const GRAMMAR: &str = "%% Sum: Sum '+' Term | Term; Term: '(' Sum ')' | 'INT';";
 
@@ -39,14 +40,23 @@ fn push_line(out: &mut String, alloc: Global, sums: &Language, line: &str) -> Re
 
 // Adds a text, and the tokens that may come after it.
 fn push_next(out: &mut String, alloc: Global, sums: &Language, text: &str) -> Result<(), Failed> {
+    let lexer = RuleLexer::new(alloc, &sums.rules, text)?;
+    let expected = RTParserBuilder::new(&sums.data).expected(alloc, &lexer)?;
+    Ok(push_tokens(out, sums, text, &expected.tokens)?)
+}
+
+// Adds a text, and these tokens.
+fn push_tokens(
+    out: &mut String,
+    sums: &Language,
+    text: &str,
+    tokens: &[TIdx<u32>],
+) -> Result<(), AllocError> {
     out.push_str(text)?;
     out.push_str(" ->")?;
-    let lexer = RuleLexer::new(alloc, &sums.rules, text)?;
-    let parser = RTParserBuilder::<u32, TokenTypes, _>::new(&sums.data);
-    for token in parser.expected(alloc, &lexer)?.tokens {
+    for token in tokens {
         out.push(' ')?;
-        out.push_str(sums.data.grm().epp_of(token))?;
+        out.push_str(sums.data.grm().epp_of(*token))?;
     }
-    out.push('\n')?;
-    Ok(())
+    out.push('\n')
 }

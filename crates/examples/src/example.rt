@@ -4,7 +4,7 @@ use crate::{calculator, completer, formatter, linter, queries};
 use std::alloc::Global;
 
 /// An example: what it prints of a text.
-#[derive(Clone, Copy, Debug)]
+#[derive(Clone, Copy)]
 pub(crate) enum Example {
     Calculator,
     Completer,

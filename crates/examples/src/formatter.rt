@@ -2,7 +2,6 @@
 use crate::language::{Failed, Language, language_of, push_errors};
 use lrpar::{Lexeme, Lexer, RTParserBuilder};
 use lrpar_lexer::RuleLexer;
-use lrpar_report::{Look, Reporter};
 use std::alloc::Global;
 
 const GRAMMAR: &str =
@@ -36,8 +35,7 @@ fn push_formatted(
     if errors.is_empty() {
         push_settings(out, alloc, &lexer, text)
     } else {
-        let reporter = Reporter::new(alloc, text, "input", Look::Plain)?;
-        Ok(push_errors(out, alloc, settings, &reporter, text, &errors)?)
+        Ok(push_errors(out, alloc, settings, "input", text, &errors)?)
     }
 }
 
@@ -53,11 +51,11 @@ fn push_settings(
             continue;
         };
         let span = lexeme.span();
-        match text.get(span.start()..span.end()).unwrap_or("") {
-            "=" => out.push_str(" = ")?,
-            ";" => out.push_str(";\n")?,
-            word => out.push_str(word)?,
-        }
+        out.push_str(match text.get(span.start()..span.end()).unwrap_or("") {
+            "=" => " = ",
+            ";" => ";\n",
+            word => word,
+        })?;
     }
     Ok(())
 }

@@ -4,7 +4,7 @@ use lrpar::grammar::{GrammarFault, SpelledFault, YaccGrammar};
 use lrpar::parser::ParseFault;
 use lrpar::{LexParseError, ParserData};
 use lrpar_lexer::{LexRule, RulesFault, TokenTypes, rules_of};
-use lrpar_report::{Reporter, error_report};
+use lrpar_report::{Look, Reporter, error_report};
 use std::alloc::{AllocError, Global};
 use std::io;
 use thiserror::Error;
@@ -40,20 +40,21 @@ pub(crate) struct Language {
 /// The language of these texts.
 pub(crate) fn language_of(alloc: Global, grammar: &str, lexer: &str) -> Result<Language, Failed> {
     let grm = YaccGrammar::<u32>::new_with_storaget(alloc, grammar)?;
-    let rules = rules_of(alloc, &grm, lexer)?;
     let data = parser_data(alloc, grm, 10_000, 1_000)?;
+    let rules = rules_of(alloc, data.grm(), lexer)?;
     Ok(Language { data, rules })
 }
 
-/// Adds the report of each error of a parse of the reporter's text.
+/// Adds the report of each error of a parse of the text, which is named so.
 pub(crate) fn push_errors(
     out: &mut String,
     alloc: Global,
     language: &Language,
-    reporter: &Reporter<'_>,
+    name: &str,
     text: &str,
     errors: &[LexParseError<u32, TokenTypes>],
 ) -> Result<(), AllocError> {
+    let reporter = Reporter::new(alloc, text, name, Look::Plain)?;
     for error in errors {
         let report = error_report(alloc, &language.data, text, error)?;
         reporter.push(out, alloc, &report)?;

@@ -43,12 +43,11 @@ fn push_reports(
     text: &str,
 ) -> Result<(), Failed> {
     let lexer = RuleLexer::new(alloc, &json.rules, text)?;
-    let parser = RTParserBuilder::new(&json.data).recoverer(CpctPlus::new(10_000));
-    let errors = parser.parse_noaction(alloc, &lexer)?;
-    let reporter = Reporter::new(alloc, text, "input", Look::Plain)?;
-    push_errors(out, alloc, json, &reporter, text, &errors)?;
-    push_lints(out, alloc, &lexer, &reporter, text)?;
-    Ok(())
+    let errors = RTParserBuilder::new(&json.data)
+        .recoverer(CpctPlus::new(10_000))
+        .parse_noaction(alloc, &lexer)?;
+    push_errors(out, alloc, json, "input", text, &errors)?;
+    Ok(push_lints(out, alloc, &lexer, text)?)
 }
 
 // Adds a warning for each key that its object already has, and a line for how deep the lexemes nest.
@@ -56,9 +55,9 @@ fn push_lints<'a>(
     out: &mut String,
     alloc: Global,
     lexer: &RuleLexer<'_, 'a>,
-    reporter: &Reporter<'_>,
     text: &'a str,
 ) -> Result<(), AllocError> {
+    let reporter = Reporter::new(alloc, text, "input", Look::Plain)?;
     // The keys so far of each object and array that is open, with their places.
     let mut open = Vec::new(alloc);
     let mut deepest = 0usize;
@@ -75,7 +74,7 @@ fn push_lints<'a>(
             }
             ":" => {
                 let key = text.get(last.start()..last.end()).unwrap_or("");
-                push_key(out, alloc, reporter, &mut open, key, last)?;
+                push_key(out, alloc, &reporter, &mut open, key, last)?;
             }
             _ => {}
         }
@@ -91,18 +90,17 @@ fn push_key<'a>(
     out: &mut String,
     alloc: Global,
     reporter: &Reporter<'_>,
-    open: &mut Vec<BTreeMap<&'a str, TextRange>>,
+    open: &mut [BTreeMap<&'a str, TextRange>],
     key: &'a str,
     range: TextRange,
 ) -> Result<(), AllocError> {
-    let Some(mut keys) = open.pop() else {
+    let Some(keys) = open.last_mut() else {
         return Ok(());
     };
-    if let Some(first) = keys.insert(key, range)? {
-        push_repeated(out, alloc, reporter, key, range, first)?;
+    match keys.insert(key, range)? {
+        Some(first) => push_repeated(out, alloc, reporter, key, range, first),
+        None => Ok(()),
     }
-    open.push(keys)?;
-    Ok(())
 }
 
 // Adds the warning of a key that its object already has, at another place.

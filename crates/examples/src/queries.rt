@@ -21,19 +21,24 @@ type Parsed<'text> = (Option<Value<'text>>, Vec<LexParseError<u32, TokenTypes>>)
 /// The reports about the file.
 pub(crate) fn run(alloc: Global, text: &str) -> Result<String, Failed> {
     let queries = language_of(alloc, GRAMMAR, LEXER)?;
-    linted(alloc, &queries, text)
+    let mut out = String::new(alloc);
+    push_reports(&mut out, alloc, &queries, text)?;
+    Ok(out)
 }
 
-// The reports about a file: its errors, and what may be wrong with the statements of the file as repaired.
-fn linted(alloc: Global, queries: &Language, text: &str) -> Result<String, Failed> {
+// Adds the reports about a file: its errors, and what may be wrong with the statements of the file as repaired.
+fn push_reports(
+    out: &mut String,
+    alloc: Global,
+    queries: &Language,
+    text: &str,
+) -> Result<(), Failed> {
     let (file, errors) = parse(alloc, queries, text)?;
-    let reporter = Reporter::new(alloc, text, "input", Look::Plain)?;
-    let mut out = String::new(alloc);
-    push_errors(&mut out, alloc, queries, &reporter, text, &errors)?;
+    push_errors(out, alloc, queries, "input", text, &errors)?;
     if let Some(Value::File(queries)) = &file {
-        push_lints(&mut out, alloc, &reporter, queries)?;
+        push_lints(out, alloc, text, queries)?;
     }
-    Ok(out)
+    Ok(())
 }
 
 // The syntax tree of a file as repaired, if it has one, and its errors.
@@ -43,9 +48,9 @@ fn parse<'text>(
     text: &'text str,
 ) -> Result<Parsed<'text>, Failed> {
     let grm = queries.data.grm();
-    let spelled = grm.prods_spelled_in_parts(alloc, &[&QUERY_PRODS, &EXPR_PRODS])?;
     let unmatched = grm.token_idx("UNMATCHED").ok_or(Failed::Symbols)?;
     let lexer = RuleLexer::new(alloc, &queries.rules, text)?.with_unmatched(unmatched);
+    let spelled = grm.prods_spelled_in_parts(alloc, &[&QUERY_PRODS, &EXPR_PRODS])?;
     let parser = RTParserBuilder::new(&queries.data).recoverer(CpctPlus::new(10_000));
     let values = Queries { spelled: &spelled };
     parser.parse_values(alloc, &lexer, &values)
@@ -55,9 +60,10 @@ fn parse<'text>(
 fn push_lints(
     out: &mut String,
     alloc: Global,
-    reporter: &Reporter<'_>,
+    text: &str,
     file: &[Query<'_>],
 ) -> Result<(), AllocError> {
+    let reporter = Reporter::new(alloc, text, "input", Look::Plain)?;
     for warning in &lints(alloc, file)? {
         reporter.push(out, alloc, warning)?;
     }

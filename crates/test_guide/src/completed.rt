@@ -1,24 +1,11 @@
 //! Trees of any text: a completion repairs each error.
-use crate::example::language;
-use lrpar::parser::ParseFault;
-use lrpar::repair::{Completion, NoCompletion};
+use crate::expectations::same;
+use lrpar::repair::Completion;
 use lrpar::{ParserData, RTParserBuilder};
 use lrpar_lexer::{LexRule, RuleLexer};
-use std::alloc::{AllocError, Global};
+use std::alloc::Global;
 use std::process::Abort;
-use std::test::Fail;
-use thiserror::Error;
-
-/// Why there is no tree.
-#[derive(Debug, Drop, Error)]
-enum Failed {
-    #[error("completion: {0}")]
-    Completion(#[from] NoCompletion<u32>),
-    #[error("parse: {0}")]
-    Parse(#[from] ParseFault),
-    #[error("out of memory")]
-    Memory(#[from] AllocError),
-}
+use std::test::Fail as Failed;
 
 /// The errors of a text with their repairs, and its tree, which there is whatever is wrong with the text.
 fn completed<'a>(
@@ -44,33 +31,32 @@ fn completed<'a>(
     Ok(text)
 }
 
-#[test]
-fn texts_are_completed(rt: HostRuntime) -> Result<(), Fail> {
-    let (data, rules) = language(rt.alloc())?;
-    are_completed(&rt, rt.alloc(), &data, &rules)
-}
+// Texts, and what is shown of each: a value and a sign are missing; a value and all that comes after it; and there is nothing to go on with.
+const COMPLETED: [(&str, &str); 3] = [
+    (
+        "width = height = 80;",
+        "Parsing error at line 1 column 9. Repair sequences found:\n   1: Insert NUMBER, Insert ;\nFile\n File\n  File\n  Setting\n   NAME width\n   = =\n   Value\n    NUMBER \n   ; \n Setting\n  NAME height\n  = =\n  Value\n   NUMBER 80\n  ; ;\n",
+    ),
+    (
+        "width =",
+        "Parsing error at line 1 column 8. Repair sequences found:\n   1: Insert NUMBER, Insert ;\nFile\n File\n Setting\n  NAME width\n  = =\n  Value\n   NUMBER \n  ; \n",
+    ),
+    (
+        "; 80 \"a\"",
+        "Parsing error at line 1 column 1. Repair sequences found:\n   1: Delete ;, Delete 80, Delete \"a\"\nFile\n",
+    ),
+];
 
-// A value and a sign are missing; a value and all that comes after it; and there is nothing to go on with.
-fn are_completed(
+/// The texts of the language of settings are completed.
+pub(crate) fn are_completed(
     rt: &impl Abort,
     alloc: Global,
     data: &ParserData<u32>,
     rules: &[LexRule],
-) -> Result<(), Fail> {
-    let found = completed(alloc, data, rules, "width = height = 80;")?;
-    assert_eq!(rt;
-        found.as_str(),
-        "Parsing error at line 1 column 9. Repair sequences found:\n   1: Insert NUMBER, Insert ;\nFile\n File\n  File\n  Setting\n   NAME width\n   = =\n   Value\n    NUMBER \n   ; \n Setting\n  NAME height\n  = =\n  Value\n   NUMBER 80\n  ; ;\n"
-    );
-    let found = completed(alloc, data, rules, "width =")?;
-    assert_eq!(rt;
-        found.as_str(),
-        "Parsing error at line 1 column 8. Repair sequences found:\n   1: Insert NUMBER, Insert ;\nFile\n File\n Setting\n  NAME width\n  = =\n  Value\n   NUMBER \n  ; \n"
-    );
-    let found = completed(alloc, data, rules, "; 80 \"a\"")?;
-    assert_eq!(rt;
-        found.as_str(),
-        "Parsing error at line 1 column 1. Repair sequences found:\n   1: Delete ;, Delete 80, Delete \"a\"\nFile\n"
-    );
+) -> Result<(), Failed> {
+    for (input, expected) in COMPLETED {
+        let found = completed(alloc, data, rules, input)?;
+        same(rt, &input, &found.as_str(), &expected);
+    }
     Ok(())
 }

@@ -1,5 +1,7 @@
 //! What the guide shows beside the example: a walk through a tree, and the tokens that may come next.
+use crate::completed::are_completed;
 use crate::example::{Failed, language, report};
+use crate::expectations::same;
 use lrpar::span::TIdx;
 use lrpar::{Lexeme, Node, ParserData, RTParserBuilder};
 use lrpar_lexer::{LexRule, RuleLexer, Token};
@@ -62,32 +64,22 @@ fn completions(
 #[test]
 fn settings(rt: HostRuntime) -> Result<(), Fail> {
     let (data, rules) = language(rt.alloc())?;
-    are_shown(&rt, rt.alloc(), &data, &rules)
+    names_are_listed(&rt, rt.alloc(), &data, &rules);
+    values_may_come_after_an_equals_sign(&rt, rt.alloc(), &data, &rules);
+    settings_are_reported(&rt, rt.alloc(), &data, &rules);
+    are_completed(&rt, rt.alloc(), &data, &rules)
 }
 
-// The names of settings, what may come next, and the reports are as the guide shows them.
-fn are_shown(
-    rt: &impl Abort,
-    alloc: Global,
-    data: &ParserData<u32>,
-    rules: &[LexRule],
-) -> Result<(), Fail> {
-    names_are_listed(rt, alloc, data, rules)?;
-    values_may_come_after_an_equals_sign(rt, alloc, data, rules)?;
-    settings_are_reported(rt, alloc, data, rules)
-}
-
-fn names_are_listed(
-    rt: &impl Abort,
-    alloc: Global,
-    data: &ParserData<u32>,
-    rules: &[LexRule],
-) -> Result<(), Fail> {
+fn names_are_listed(rt: &impl Abort, alloc: Global, data: &ParserData<u32>, rules: &[LexRule]) {
     let input = "width = 80; title = \"a\";";
-    let lexer = RuleLexer::new(alloc, rules, input)?;
-    let names = names(alloc, data, &lexer, input)?;
-    assert_eq!(rt; names.as_slice(), ["width", "title"].as_slice());
-    Ok(())
+    let lexer = RuleLexer::new(alloc, rules, input).expect(rt, "memory");
+    let names = names(alloc, data, &lexer, input).expect(rt, "names");
+    same(
+        rt,
+        &"names",
+        &names.as_slice(),
+        &["width", "title"].as_slice(),
+    );
 }
 
 fn values_may_come_after_an_equals_sign(
@@ -95,11 +87,10 @@ fn values_may_come_after_an_equals_sign(
     alloc: Global,
     data: &ParserData<u32>,
     rules: &[LexRule],
-) -> Result<(), Fail> {
-    let lexer = RuleLexer::new(alloc, rules, "width =")?;
-    let text = completions(alloc, data, &lexer)?;
-    assert_eq!(rt; text.as_str(), "NUMBER\nTEXT\n");
-    Ok(())
+) {
+    let lexer = RuleLexer::new(alloc, rules, "width =").expect(rt, "memory");
+    let text = completions(alloc, data, &lexer).expect(rt, "tokens");
+    same(rt, &"what may come", &text.as_str(), &"NUMBER\nTEXT\n");
 }
 
 // Texts, and the reports about them.
@@ -119,10 +110,9 @@ fn settings_are_reported(
     alloc: Global,
     data: &ParserData<u32>,
     rules: &[LexRule],
-) -> Result<(), Fail> {
-    for (input, expected) in &REPORTS {
-        let text = report(alloc, data, rules, *input)?;
-        assert_eq!(rt; text.as_str(), *expected);
+) {
+    for (input, expected) in REPORTS {
+        let text = report(alloc, data, rules, input).expect(rt, "a report");
+        same(rt, &input, &text.as_str(), &expected);
     }
-    Ok(())
 }

@@ -1,14 +1,12 @@
 //! A tree by the files of an lrpar project, as a user writes it.
-use lrpar::build::{TableOptions, Unbuilt};
-use lrpar::parser::ParseFault;
+use crate::expectations::same;
+use lrpar::build::TableOptions;
 use lrpar::precedences::precedences_of_declarations;
-use lrpar::yacc::{YaccFile, YaccFileFault, YaccKind};
+use lrpar::yacc::{YaccFile, YaccKind};
 use lrpar::{ParserData, RTParserBuilder};
-use lrpar_lexer_lrlex::{LrlexFault, StateLexer, rules_of_lrlex};
-use std::alloc::{AllocError, Global};
-use std::process::Abort;
-use std::test::Fail;
-use thiserror::Error;
+use lrpar_lexer_lrlex::{StateLexer, rules_of_lrlex};
+use std::alloc::Global;
+use std::test::Fail as Failed;
 
 /// A grammar with actions and precedences.
 const GRAMMAR: &str = "%start Expr
@@ -38,21 +36,6 @@ const RULES: &str = r#"%x COMMENT
 \^ "^"
 [ \n] ;
 "#;
-
-/// Why there is no tree.
-#[derive(Debug, Drop, Error)]
-enum Failed {
-    #[error("grammar: {0}")]
-    Grammar(#[from] YaccFileFault),
-    #[error("table: {0}")]
-    Table(#[from] Unbuilt<u32>),
-    #[error("rules: {0}")]
-    Rules(#[from] LrlexFault),
-    #[error("parse: {0}")]
-    Parse(#[from] ParseFault),
-    #[error("out of memory")]
-    Memory(#[from] AllocError),
-}
 
 // The checked table of a `.y` file.
 fn table_of(alloc: Global, text: &str) -> Result<ParserData<u32>, Failed> {
@@ -101,9 +84,9 @@ const TREE: &str = "Expr
 ";
 
 #[test]
-fn tree_by_precedences(rt: HostRuntime) -> Result<(), Fail> {
-    let data = table_of(rt.alloc(), GRAMMAR).expect(&rt, "a table");
-    let tree = shown(rt.alloc(), &data, RULES, "1 - 2 /* * */ - 3 * 4").expect(&rt, "a tree");
-    assert_eq!(rt; tree.as_str(), TREE);
+fn tree_by_precedences(rt: HostRuntime) -> Result<(), Failed> {
+    let data = table_of(rt.alloc(), GRAMMAR)?;
+    let tree = shown(rt.alloc(), &data, RULES, "1 - 2 /* * */ - 3 * 4")?;
+    same(&rt, &"a tree", &tree.as_str(), &TREE);
     Ok(())
 }

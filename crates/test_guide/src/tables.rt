@@ -1,31 +1,16 @@
 //! A parse by a table that the user made, and a calculation, as a user writes them.
 use crate::calculation::calculated;
-use lrpar::check::CheckFault;
-use lrpar::grammar::{GrammarFault, YaccGrammar};
-use lrpar::parser::ParseFault;
+use crate::expectations::same;
+use lrpar::grammar::YaccGrammar;
 use lrpar::span::{PIdx, StIdx, TIdx};
-use lrpar::table::{Action, Item, StateGraph, StateTable, TableFault, TableRows};
+use lrpar::table::{Action, Item, StateGraph, StateTable, TableRows};
 use lrpar::{LexParseError, Node, ParserData, RTParserBuilder};
 use lrpar_lexer::{Token, TokenTypes};
 use std::alloc::Global;
 use std::process::Abort;
-use std::test::Fail;
+use std::test::Fail as Failed;
 use test_parts::built::{CALC, built, lists};
 use test_parts::lexer::{ListLexer, lexer_of};
-use thiserror::Error;
-
-/// Why there is no tree.
-#[derive(Debug, Drop, Error)]
-enum Failed {
-    #[error("grammar: {0}")]
-    Grammar(#[from] GrammarFault),
-    #[error("table: {0}")]
-    Table(#[from] TableFault),
-    #[error("check: {0}")]
-    Check(#[from] CheckFault),
-    #[error("parse: {0}")]
-    Parse(#[from] ParseFault),
-}
 
 /// A tree, if there is one, and the errors.
 type Answer = (
@@ -64,7 +49,7 @@ const ACTIONS: [&[Action<u32>]; 3] = [
 const GOTOS: [&[Option<StIdx<u32>>]; 3] = [&[None, Some(StIdx(1))], &[None, None], &[None, None]];
 
 // The rows of these states.
-fn rows(alloc: Global) -> Result<TableRows<u32>, Fail> {
+fn rows(alloc: Global) -> Result<TableRows<u32>, Failed> {
     Ok(TableRows {
         start: StIdx(0),
         tokens: 2,
@@ -76,11 +61,11 @@ fn rows(alloc: Global) -> Result<TableRows<u32>, Fail> {
 }
 
 #[test]
-fn tree_of_a_token(rt: HostRuntime) -> Result<(), Fail> {
+fn tree_of_a_token(rt: HostRuntime) -> Result<(), Failed> {
     let alloc = rt.alloc();
     let (items, rows) = (lists(alloc, &ITEMS)?, rows(alloc)?);
     let (tree, errors) = tree_of(alloc, "%% S: 'a';", items, rows, &lexer_of(&[(0, 1)]))?;
-    assert!(rt; tree.is_some() && errors.is_empty());
+    same(&rt, &"a tree", &(tree.is_some(), errors.len()), &(true, 0));
     Ok(())
 }
 
@@ -109,28 +94,17 @@ const LINES: [(&str, &str, Option<u64>); 9] = [
     ("18446744073709551615 + 1", "", None),
 ];
 
-// Whether the line has these errors and this number.
-fn holds(
-    alloc: Global,
-    data: &ParserData<u32>,
-    line: &str,
-    errors: &str,
-    number: Option<u64>,
-) -> Result<bool, Fail> {
-    let found = calculated(alloc, data, line)?;
-    Ok(found.0.as_str() == errors && found.1 == number)
-}
-
-// Whether each line has its errors and its number.
-fn lines_hold(rt: &impl Abort, alloc: Global, data: &ParserData<u32>) -> Result<(), Fail> {
-    for (line, errors, number) in &LINES {
-        assert!(rt; holds(alloc, data, *line, *errors, *number)?, "{line}");
+// Each line has its errors and its number.
+fn are_calculated(rt: &impl Abort, alloc: Global, data: &ParserData<u32>) -> Result<(), Failed> {
+    for (line, errors, number) in LINES {
+        let (text, found) = calculated(alloc, data, line)?;
+        same(rt, &line, &(text.as_str(), found), &(errors, number));
     }
     Ok(())
 }
 
 #[test]
-fn lines_of_a_calculator(rt: HostRuntime) -> Result<(), Fail> {
+fn lines_of_a_calculator(rt: HostRuntime) -> Result<(), Failed> {
     let data = built(rt.alloc(), CALC)?;
-    lines_hold(&rt, rt.alloc(), &data)
+    are_calculated(&rt, rt.alloc(), &data)
 }

@@ -2,7 +2,7 @@
 //! of them finds no memory; and how often the text of an error asks for a token's.
 use crate::actions::failing_at;
 use crate::expectations::{holds, same};
-use crate::recoverer::{Asked, Deleting};
+use crate::recoverer::Deleting;
 use lrpar_grammar::span::{StIdx, TIdx};
 use lrpar_lexer::{Token, TokenTypes};
 use lrpar_parse::RTParserBuilder;
@@ -177,7 +177,7 @@ fn asks(
     row: &Row,
 ) -> (String, (usize, usize)) {
     let (given, last, (lexing, recovery), _, _) = *row;
-    let (calls, asked) = (Cell::new(0), Cell::new((0, 0, [0, 0, 0], 0, false)));
+    let calls = Cell::new(0);
     let lexer = ListLexer {
         given,
         last,
@@ -186,42 +186,12 @@ fn asks(
     };
     let parser = RTParserBuilder::new(data).recoverer(Deleting {
         calls: &calls,
-        asked: &asked,
         fails_at: recovery,
     });
     let mut text = String::new(alloc);
     push_outcome(rt, &mut text, errors_by(alloc, call, &parser, &lexer));
     push_outcome(rt, &mut text, errors_by(alloc, call, &parser, &lexer));
     (text, (lexer.calls.get(), calls.get()))
-}
-
-// How often and where the recoverer is asked.
-fn asked(
-    rt: &impl Abort,
-    alloc: Global,
-    data: &ParserData<u32>,
-    given: &[Given],
-) -> (usize, Asked) {
-    let (calls, asked) = (Cell::new(0), Cell::new((0, 0, [0, 0, 0], 0, false)));
-    let parser = RTParserBuilder::<u32, TokenTypes>::new(data).recoverer(Deleting {
-        calls: &calls,
-        asked: &asked,
-        fails_at: 0,
-    });
-    match parser.parse_noaction(alloc, &lexer_of(given)) {
-        Ok(errors) => drop_errors(errors),
-        Err(fault) => panic!(rt; "{fault}"),
-    }
-    (calls.get(), asked.get())
-}
-
-// At the second name after a bracket the recoverer is called once, and gets what belongs to that place.
-#[test]
-fn what_a_recoverer_gets(rt: HostRuntime) -> Result<(), Fail> {
-    let data = built(rt.alloc(), BRACKETS)?;
-    let found = asked(&rt, rt.alloc(), &data, &[(2, 1), (0, 1), (0, 1)]);
-    same(&rt, &"asked", &found, &(1, (2, 3, [0, 3, 6], 3, true)));
-    Ok(())
 }
 
 // Counts one more question.
@@ -298,13 +268,15 @@ fn calls_of(rt: &impl Abort, alloc: Global, data: &ParserData<u32>, given: &[Giv
     calls.get()
 }
 
-/// Lexemes, and the calls of the functions in their order.
-type Order = (&'static [Given], &'static [Called]);
+/// A grammar, lexemes, and the calls of the functions in their order.
+type Order = (&'static str, &'static [Given], &'static [Called]);
 
-// The sums `a+b`, `a+` and the empty one. A token's value is asked for when its production is reduced, so not for tokens that are on the
-// stack at an error; and there is no call for the start rule of the augmented grammar.
-const SUMS: [Order; 3] = [
+// The sums `a+b`, `a+` and the empty one, and the lexemes of one right side, from left to right: `(n)`. A token's value is asked for when
+// its production is reduced, so not for tokens that are on the stack at an error; and there is no call for the start rule of the augmented
+// grammar.
+const ORDERS: [Order; 4] = [
     (
+        SUM,
         &[(1, 1), (0, 1), (1, 1)],
         &[
             Called::Lexeme(0),
@@ -316,40 +288,31 @@ const SUMS: [Order; 3] = [
             Called::Rule(1),
         ],
     ),
-    (&[(1, 1), (0, 1)], &[Called::Lexeme(0), Called::Rule(2)]),
-    (&[], &[]),
+    (
+        SUM,
+        &[(1, 1), (0, 1)],
+        &[Called::Lexeme(0), Called::Rule(2)],
+    ),
+    (SUM, &[], &[]),
+    (
+        BRACKETS,
+        &[(2, 1), (0, 1), (3, 1)],
+        &[
+            Called::Lexeme(1),
+            Called::Rule(1),
+            Called::Lexeme(0),
+            Called::Lexeme(2),
+            Called::Rule(1),
+        ],
+    ),
 ];
-
-// The lexemes of one right side, from left to right: `(n)`.
-const IN_BRACKETS: [Order; 1] = [(
-    &[(2, 1), (0, 1), (3, 1)],
-    &[
-        Called::Lexeme(1),
-        Called::Rule(1),
-        Called::Lexeme(0),
-        Called::Lexeme(2),
-        Called::Rule(1),
-    ],
-)];
 
 #[test]
 fn calls_of_the_functions(rt: HostRuntime) -> Result<(), Fail> {
-    let data = built(rt.alloc(), SUM)?;
-    are_called(&rt, rt.alloc(), &data, &SUMS);
-    Ok(())
-}
-
-#[test]
-fn calls_of_one_right_side(rt: HostRuntime) -> Result<(), Fail> {
-    let data = built(rt.alloc(), BRACKETS)?;
-    are_called(&rt, rt.alloc(), &data, &IN_BRACKETS);
-    Ok(())
-}
-
-// In each row the functions are called as the row says.
-fn are_called(rt: &impl Abort, alloc: Global, data: &ParserData<u32>, rows: &[Order]) {
-    for (given, expected) in rows {
-        let (count, noted) = calls_of(rt, alloc, data, *given);
-        same(rt, &count, &noted.get(..count), &Some(*expected));
+    for (text, given, expected) in ORDERS {
+        let data = built(rt.alloc(), text)?;
+        let (count, noted) = calls_of(&rt, rt.alloc(), &data, given);
+        same(&rt, &count, &noted.get(..count), &Some(expected));
     }
+    Ok(())
 }

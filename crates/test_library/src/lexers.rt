@@ -1,21 +1,14 @@
-//! Lexers by rules with a token for unmatched characters, and lexers over lists.
+//! Lexers by rules, with a token for unmatched characters and without one, and lexers over lists.
 use crate::expectations::{holds, same};
-use lrpar_grammar::grammar::YaccGrammar;
-use lrpar_grammar::span::{Span, StorageIndex, TIdx};
-use lrpar_lexer::{LexRule, ListFault, ListLexer, NoToken, RuleLexer, Token, TokenTypes, rules_of};
-use lrpar_parse::parser::RTParserBuilder;
-use lrpar_parse_lexemes::lex_api::{InputLexer, LexError, Lexeme, Lexer, NonStreamingLexer};
-use lrpar_table::build::parser_data;
+use lrpar_grammar::span::{Span, TIdx};
+use lrpar_lexer::{LexRule, ListLexer, NoToken, RuleLexer, Token, TokenTypes};
+use lrpar_parse_lexemes::lex_api::{InputLexer, Lexeme, Lexer};
 use std::alloc::Global;
 use std::process::Abort;
 use std::test::Fail;
 
 // What a lexer gives: the texts of lexemes and of errors.
-fn written<StorageT: StorageIndex, L: Lexer<TokenTypes<StorageT>>>(
-    rt: &impl Abort,
-    alloc: Global,
-    lexer: &L,
-) -> String {
+fn written<L: Lexer<TokenTypes>>(rt: &impl Abort, alloc: Global, lexer: &L) -> String {
     let mut all = String::new(alloc);
     for answer in lexer.iter(alloc).expect(rt, "memory") {
         let done = match answer {
@@ -27,19 +20,36 @@ fn written<StorageT: StorageIndex, L: Lexer<TokenTypes<StorageT>>>(
     all
 }
 
-// The rules of words, which are the token 3, and of blanks.
-fn rules(rt: &impl Abort, alloc: Global) -> Vec<LexRule<u8>> {
-    let Ok(word) = LexRule::new(alloc, "[a-z]+", Some(TIdx(3))) else {
-        panic!(rt; "no rule of words")
-    };
-    let Ok(blank) = LexRule::new(alloc, " +", None) else {
-        panic!(rt; "no rule of blanks")
-    };
-    vec![in alloc; word, blank].expect(rt, "memory")
+// The rule of a pattern.
+fn rule(rt: &impl Abort, alloc: Global, pattern: &str, token: Option<TIdx<u32>>) -> LexRule {
+    match LexRule::new(alloc, pattern, token) {
+        Ok(rule) => rule,
+        Err(_) => panic!(rt; "no rule"),
+    }
 }
 
-// A text, and its lexemes: words are the token 3, blanks are skipped, and unmatched characters are the token 7.
-const UNMATCHED: &[(&str, &str)] = &[
+// The rules of words, which are the token 3, and of blanks.
+fn rules(rt: &impl Abort, alloc: Global) -> Vec<LexRule> {
+    let mut rules = Vec::new(alloc);
+    for (pattern, token) in [("[a-z]+", Some(TIdx(3))), (" +", None)] {
+        rules
+            .push(rule(rt, alloc, pattern, token))
+            .expect(rt, "memory");
+    }
+    rules
+}
+
+// A text, and its lexemes and the error that ends them: words are the token 3, and blanks are skipped.
+const MATCHED: [(&str, &str); 5] = [
+    ("", ""),
+    ("   ", ""),
+    ("ab  c", "token 3 at 0..2\ntoken 3 at 4..5\n"),
+    ("a ?b", "token 3 at 0..1\nno token fits at byte 2\n"),
+    ("?b", "no token fits at byte 0\n"),
+];
+
+// A text, and its lexemes, where unmatched characters are the token 7.
+const UNMATCHED: [(&str, &str); 8] = [
     ("", ""),
     ("ab c", "token 3 at 0..2\ntoken 3 at 3..4\n"),
     ("?", "token 7 at 0..1\n"),
@@ -54,168 +64,60 @@ const UNMATCHED: &[(&str, &str)] = &[
 ];
 
 #[test]
-fn unmatched_characters_are_lexemes(rt: HostRuntime) -> Result<(), Fail> {
-    let alloc = rt.alloc();
-    let rules = rules(&rt, alloc);
-    for (input, expected) in UNMATCHED {
-        let lexer = RuleLexer::new(alloc, &rules, *input)?.with_unmatched(TIdx(7));
-        same(&rt, input, &written(&rt, alloc, &lexer).as_str(), expected);
-        let lexed = lexer.lexed(alloc)?;
-        same(&rt, input, &written(&rt, alloc, &lexed).as_str(), expected);
-    }
+fn lexemes_of_rules(rt: HostRuntime) -> Result<(), Fail> {
+    let rules = rules(&rt, rt.alloc());
+    are_given(&rt, rt.alloc(), &rules);
     Ok(())
 }
 
-// A text, and its lexemes and the error that ends them.
-const MATCHED: &[(&str, &str)] = &[
-    ("", ""),
-    ("ab  c", "token 3 at 0..2\ntoken 3 at 4..5\n"),
-    ("a ?b", "token 3 at 0..1\nno token fits at byte 2\n"),
-];
-
-#[test]
-fn lexed_texts_give_the_same_lexemes(rt: HostRuntime) -> Result<(), Fail> {
-    let alloc = rt.alloc();
-    let rules = rules(&rt, alloc);
+// The rules give these lexemes over each text.
+fn are_given(rt: &impl Abort, alloc: Global, rules: &[LexRule]) {
     for (input, expected) in MATCHED {
-        let lexed = RuleLexer::new(alloc, &rules, *input)?.lexed(alloc)?;
-        same(&rt, input, &written(&rt, alloc, &lexed).as_str(), expected);
-        same(&rt, input, &lexed.input(), input);
+        let lexer = RuleLexer::new(alloc, rules, input).expect(rt, "memory");
+        gives(rt, alloc, &lexer, expected);
     }
-    Ok(())
+    for (input, expected) in UNMATCHED {
+        let lexer = RuleLexer::new(alloc, rules, input).expect(rt, "memory");
+        gives(rt, alloc, &lexer.with_unmatched(TIdx(7)), expected);
+    }
 }
 
-// The start of a lexeme and its length, and its part of the text `aé\nb`, whose `é` has two bytes.
-const PARTS: &[(u8, u8, &str)] = &[
-    (0, 1, "a"),
-    (1, 2, "é"),
-    (0, 5, "aé\nb"),
-    (5, 0, ""),
-    (2, 1, ""),
-    (0, 2, ""),
-    (4, 2, ""),
-    (9, 1, ""),
-];
+// The lexer gives these lexemes, and so does the list of them.
+fn gives(rt: &impl Abort, alloc: Global, lexer: &RuleLexer<'_, '_>, expected: &str) {
+    let found = written(rt, alloc, lexer);
+    same(rt, &"lexemes", &found.as_str(), &expected);
+    let lexed = lexer.lexed(alloc).expect(rt, "memory");
+    let found = written(rt, alloc, &lexed);
+    same(rt, &"lexed", &found.as_str(), &expected);
+}
 
 const PARTED: &str = "aé\nb";
 
-#[test]
-fn lexemes_have_their_texts(rt: HostRuntime) -> Result<(), Fail> {
-    let alloc = rt.alloc();
-    let rules = rules(&rt, alloc);
-    let lexer = RuleLexer::new(alloc, &rules, PARTED)?;
-    let list = ListLexer::new(alloc, PARTED, Vec::new(alloc))?;
-    for (start, len, expected) in PARTS {
-        let (start, len) = (usize::from(*start), usize::from(*len));
-        let lexeme: Token<u8> = Token::new(3, start, len);
-        holds(&rt, expected, lexer.text(&lexeme) == *expected);
-        holds(&rt, expected, list.text(&lexeme) == *expected);
-    }
-    holds(&rt, &"input", lexer.input() == PARTED);
-    Ok(())
-}
-
-// A list for the text `aé\nb`.
-fn listed(alloc: Global) -> Result<ListLexer<'static, u16>, Fail> {
+// A list for that text, whose `é` has two bytes.
+fn listed(rt: &impl Abort, alloc: Global) -> ListLexer<'static> {
+    let error = NoToken::new(Span::new(3, 4)).clone().expect(rt, "memory");
     let mut answers = Vec::new(alloc);
-    answers.push(Ok(Token::new(1, 0, 3)))?;
-    answers.push(Err(NoToken::new(Span::new(3, 4))))?;
-    answers.push(Ok(Token::new(2, 4, 1)))?;
-    Ok(ListLexer::new(alloc, PARTED, answers)?)
-}
-
-/// The lines and columns of both ends of a span.
-type Ends = ((usize, usize), (usize, usize));
-
-// Whether this part of the lexer's input, its lines, and the lines and columns of its ends are these.
-fn has(lexer: &ListLexer<'_, u16>, span: Span, part: &str, lines: &str, ends: Ends) -> bool {
-    let input = lexer.input();
-    if !input.is_char_boundary(span.start()) {
-        return false;
+    for answer in [Ok(Token::new(1, 0, 3)), Err(error), Ok(Token::new(2, 4, 1))] {
+        answers.push(answer).expect(rt, "memory");
     }
-    if !input.is_char_boundary(span.end()) {
-        return false;
-    }
-    lexer.span_str(span) == part
-        && lexer.span_lines_str(span) == lines
-        && lexer.line_col(span) == ends
+    ListLexer::new(alloc, PARTED, answers).expect(rt, "a lexer")
 }
-
-const LISTED: &str = "token 1 at 0..3\nno token fits at byte 3\ntoken 2 at 4..5\n";
 
 #[test]
 fn lists_are_lexers(rt: HostRuntime) -> Result<(), Fail> {
-    let lexer = listed(rt.alloc())?;
-    let all = written(&rt, rt.alloc(), &lexer);
-    holds(&rt, &"list", all.as_str() == LISTED);
-    holds(&rt, &"input", lexer.input() == PARTED);
-    let ends = ((1, 2), (2, 1));
-    holds(
-        &rt,
-        &"two lines",
-        has(&lexer, Span::new(1, 4), "é\n", PARTED, ends),
+    let lexer = listed(&rt, rt.alloc());
+    is_list(&rt, rt.alloc(), &lexer);
+    Ok(())
+}
+
+// What the list gives, its input and the text of a lexeme are these.
+fn is_list(rt: &impl Abort, alloc: Global, lexer: &ListLexer<'_>) {
+    let all = written(rt, alloc, lexer);
+    let found = (
+        all.as_str(),
+        lexer.input(),
+        lexer.text(&Token::new(1, 1, 2)),
     );
-    let ends = ((1, 2), (1, 3));
-    holds(
-        &rt,
-        &"a line",
-        has(&lexer, Span::new(1, 3), "é", "aé", ends),
-    );
-    Ok(())
-}
-
-#[test]
-fn errors_are_copied(rt: HostRuntime) -> Result<(), Fail> {
-    let error = NoToken::new(Span::new(3, 4));
-    let copy = error.clone()?;
-    same(&rt, &"clone", &copy.span(), &error.span());
-    Ok(())
-}
-
-// A text, lexemes by their starts and lengths, and the place of the first that doesn't fit the text, if there is one.
-const PLACES: &[(&str, &[(u8, u8)], Option<usize>)] = &[
-    ("", &[], None),
-    ("", &[(0, 0)], None),
-    ("", &[(0, 1)], Some(0)),
-    ("ab", &[(0, 1), (1, 1), (2, 0)], None),
-    ("ab", &[(0, 1), (1, 2), (5, 0)], Some(1)),
-    ("ab", &[(0, 2), (3, 0)], Some(1)),
-    ("é", &[(0, 2), (1, 1)], Some(1)),
-    ("é", &[(0, 1)], Some(0)),
-];
-
-// The fault of a list of lexemes, if it has one.
-fn fault_of(alloc: Global, text: &str, places: &[(u8, u8)]) -> Result<Option<ListFault>, Fail> {
-    let mut answers: Vec<Result<Token<u32>, NoToken>> = Vec::new(alloc);
-    for (start, len) in places {
-        answers.push(Ok(Token::new(0, usize::from(*start), usize::from(*len))))?;
-    }
-    Ok(ListLexer::new(alloc, text, answers).err())
-}
-
-#[test]
-fn lists_fit_their_texts(rt: HostRuntime) -> Result<(), Fail> {
-    for (text, places, expected) in PLACES {
-        let expected = expected.map(ListFault::Misplaced);
-        same(&rt, text, &fault_of(rt.alloc(), *text, *places)?, &expected);
-    }
-    Ok(())
-}
-
-// Whether `ab` is a sentence, with tokens of 16 bits.
-fn parses(alloc: Global) -> Result<bool, Fail> {
-    let grm = YaccGrammar::<u16>::new_with_storaget(alloc, "%% S: 'A' 'B';")?;
-    let rules = rules_of(alloc, &grm, "a 'A'\nb 'B'")?;
-    let Ok(data) = parser_data(alloc, grm, 10, 2) else {
-        return Ok(false);
-    };
-    let lexer = RuleLexer::new(alloc, &rules, "ab")?;
-    let (tree, errors) = RTParserBuilder::new(&data).parse_generictree(alloc, &lexer)?;
-    Ok(tree.is_some() && errors.is_empty())
-}
-
-#[test]
-fn rules_number_tokens_as_their_grammar_does(rt: HostRuntime) -> Result<(), Fail> {
-    holds(&rt, &"a tree", parses(rt.alloc())?);
-    Ok(())
+    let expected = "token 1 at 0..3\nno token fits at byte 3\ntoken 2 at 4..5\n";
+    same(rt, &"list", &found, &(expected, PARTED, "é"));
 }

@@ -4,6 +4,8 @@
 #[cfg(test)]
 mod actions;
 #[cfg(test)]
+mod conflicts;
+#[cfg(test)]
 mod counts;
 #[cfg(test)]
 mod errors;
@@ -12,17 +14,9 @@ mod expectations;
 #[cfg(test)]
 mod lexers;
 #[cfg(test)]
-mod lines;
-#[cfg(test)]
-mod messages;
-#[cfg(test)]
-mod precedences;
-#[cfg(test)]
 mod recoverer;
 #[cfg(test)]
 mod repairs;
-#[cfg(test)]
-mod rules;
 #[cfg(test)]
 mod shown;
 #[cfg(test)]
@@ -30,10 +24,6 @@ mod sizes;
 #[cfg(test)]
 mod span;
 #[cfg(test)]
-mod table;
-#[cfg(test)]
 mod trees;
-#[cfg(test)]
-mod two_recoverers;
 #[cfg(test)]
 mod values;

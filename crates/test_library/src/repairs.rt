@@ -1,10 +1,10 @@
 //! Many repairs, and how many lexemes have to follow one.
 use crate::expectations::same;
 use lrpar_grammar::span::TIdx;
-use lrpar_lexer::{Token, TokenTypes};
+use lrpar_lexer::TokenTypes;
 use lrpar_parse::RTParserBuilder;
 use lrpar_parse_errors::errors::LexParseError;
-use lrpar_parse_repair::repair::{FixedRecoverer, NoRecovery, Recoverer, RepairStep};
+use lrpar_parse_repair::repair::{FixedRecoverer, RepairStep};
 use lrpar_table::check::ParserData;
 use std::alloc::Global;
 use std::process::Abort;
@@ -18,57 +18,6 @@ const D: RepairStep<u32> = RepairStep::Delete;
 const I0: RepairStep<u32> = RepairStep::Insert(TIdx(0));
 
 const I1: RepairStep<u32> = RepairStep::Insert(TIdx(1));
-
-// The parse of two lexemes `N` of the grammar *brackets* with these sequences: how many are listed, the length of the first one, and
-// how many leaves the value has.
-fn counted(
-    rt: &impl Abort,
-    alloc: Global,
-    data: &ParserData<u32>,
-    sequences: Vec<Vec<RepairStep<u32>>>,
-) -> (usize, usize, usize) {
-    let parser = RTParserBuilder::new(data).recoverer(FixedRecoverer::new(sequences));
-    counted_by(rt, alloc, &parser)
-}
-
-/// How many errors this parser finds, and how many repairs they list.
-pub(crate) fn counted_by<R: Recoverer<u32, Token<u32>> + Drop>(
-    rt: &impl Abort,
-    alloc: Global,
-    parser: &RTParserBuilder<'_, u32, TokenTypes, R>,
-) -> (usize, usize, usize) {
-    let lexer = lexer_of(&[(0, 1), (0, 1)]);
-    match parser.parse_map(alloc, &lexer, |_| 1, |_, below| sum(&below)) {
-        Ok((leaves, errors)) => {
-            let (count, first) = listed(&errors).unwrap_or((0, 0));
-            drop_errors(errors);
-            (count, first, leaves.unwrap_or(0))
-        }
-        Err(fault) => panic!(rt; "{fault}"),
-    }
-}
-
-// How many sequences the first error lists, and the length of the first one, if it is a parse error.
-fn listed(errors: &[LexParseError<u32, TokenTypes>]) -> Option<(usize, usize)> {
-    let Some(LexParseError::ParseError(error)) = errors.first() else {
-        return None;
-    };
-    let listed = error.repairs();
-    let first = match listed.first() {
-        Some(sequence) => sequence.len(),
-        None => 0,
-    };
-    Some((listed.len(), first))
-}
-
-// The sum of the numbers.
-fn sum(numbers: &[usize]) -> usize {
-    let mut sum = 0usize;
-    for number in numbers {
-        sum = sum.saturating_add(*number);
-    }
-    sum
-}
 
 // These steps `times` times, and then the last one.
 fn repeated(
@@ -86,64 +35,74 @@ fn repeated(
     made
 }
 
-// 5,000 deletions, and a sequence that ends before a name.
-fn long(rt: &impl Abort, alloc: Global) -> Vec<Vec<RepairStep<u32>>> {
-    let deletions = repeated(rt, alloc, &[D], 4_999, D);
-    let insertions = repeated(rt, alloc, &[I1, I0], 2_500, I1);
-    vec![in alloc; deletions, insertions].expect(rt, "memory")
-}
-
-// 10,000 sequences of one deletion.
-fn many(rt: &impl Abort, alloc: Global) -> Vec<Vec<RepairStep<u32>>> {
+// 5,000 deletions; a sequence that ends before a name; and 10,000 of one deletion.
+fn sequences(rt: &impl Abort, alloc: Global) -> Vec<Vec<RepairStep<u32>>> {
     let mut sequences = Vec::new(alloc);
-    for _ in 0..10_000 {
-        sequences
-            .push(repeated(rt, alloc, &[], 0, D))
-            .expect(rt, "memory");
+    let rows: [(&[RepairStep<u32>], usize, RepairStep<u32>, usize); 3] = [
+        (&[D], 4_999, D, 1),
+        (&[I1, I0], 2_500, I1, 1),
+        (&[], 0, D, 10_000),
+    ];
+    for (steps, times, last, copies) in rows {
+        for _ in 0..copies {
+            sequences
+                .push(repeated(rt, alloc, steps, times, last))
+                .expect(rt, "memory");
+        }
     }
     sequences
 }
 
-// Two long sequences and many short ones are listed, and each first one is replayed.
+// How many sequences the error of two lexemes `N` of the grammar *brackets* lists, and the length of the first one.
+fn listed(rt: &impl Abort, alloc: Global, data: &ParserData<u32>) -> Option<(usize, usize)> {
+    let recoverer = FixedRecoverer::new(sequences(rt, alloc));
+    let parser = RTParserBuilder::new(data).recoverer(recoverer);
+    match parser.parse_noaction(alloc, &lexer_of(&[(0, 1), (0, 1)])) {
+        Ok(errors) => {
+            let listed = listed_by(&errors);
+            drop_errors(errors);
+            listed
+        }
+        Err(fault) => panic!(rt; "{fault}"),
+    }
+}
+
+// How many sequences the only error lists, and the length of the first one.
+fn listed_by(errors: &[LexParseError<u32, TokenTypes>]) -> Option<(usize, usize)> {
+    match errors {
+        [LexParseError::ParseError(error)] => {
+            Some((error.repairs().len(), error.repairs().first()?.len()))
+        }
+        _ => None,
+    }
+}
+
+// The first deletions don't work: there is one lexeme to delete. All the others are listed, and the first of them is made.
 #[test]
 fn long_sequences_and_many(rt: HostRuntime) -> Result<(), Fail> {
-    let (alloc, data) = (rt.alloc(), built(rt.alloc(), BRACKETS)?);
-    let of_long = counted(&rt, alloc, &data, long(&rt, alloc));
-    let of_many = counted(&rt, alloc, &data, many(&rt, alloc));
-    same(&rt, &"long", &of_long, &(1, 5_001, 5_003));
-    same(&rt, &"many", &of_many, &(10_000, 1, 1));
+    let data = built(rt.alloc(), BRACKETS)?;
+    same(
+        &rt,
+        &"listed",
+        &listed(&rt, rt.alloc(), &data),
+        &Some((10_001, 5_001)),
+    );
     Ok(())
 }
 
-// The numbers of lexemes that have to follow a repair: of a new parser, of one with another recoverer, and of one that was refused
-// another number.
-fn shift_counts(rt: &impl Abort, alloc: Global, data: &ParserData<u32>) -> [usize; 3] {
-    let new = RTParserBuilder::<u32, TokenTypes>::new(data);
-    let first = new.shift_count();
-    let Ok(seven) = new.shifts(7) else {
-        panic!(rt; "seven are refused")
-    };
-    let other = seven.recoverer(NoRecovery);
-    let second = other.shift_count();
-    match other.shifts(0) {
+// The numbers of lexemes that have to follow a repair: of a new parser, and of one that was refused another number.
+fn shift_counts(rt: &impl Abort, data: &ParserData<u32>) -> (usize, usize) {
+    let parser = RTParserBuilder::<u32, TokenTypes>::new(data);
+    let count = parser.shift_count();
+    match parser.shifts(0) {
         Ok(_) => panic!(rt; "no lexeme has to follow"),
-        Err(refused) => {
-            let text = format!(in alloc; "{refused}").expect(rt, "memory");
-            same(
-                rt,
-                &"a refusal",
-                &text.as_str(),
-                &"shifts must be at least 1",
-            );
-            [first, second, refused.into_builder().shift_count()]
-        }
+        Err(refused) => (count, refused.into_builder().shift_count()),
     }
 }
 
 #[test]
 fn numbers_of_lexemes_that_follow(rt: HostRuntime) -> Result<(), Fail> {
     let data = built(rt.alloc(), BRACKETS)?;
-    let counts = shift_counts(&rt, rt.alloc(), &data);
-    same(&rt, &"counts", &counts, &[3, 7, 7]);
+    same(&rt, &"counts", &shift_counts(&rt, &data), &(3, 3));
     Ok(())
 }
