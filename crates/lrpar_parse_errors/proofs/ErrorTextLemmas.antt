@@ -6,9 +6,10 @@ use Rattle.std.proofs.lemmas.Grind.{flat_map-append}
 use Rattle.lrpar_grammar_places.specs.Span.{Extent}
 use Rattle.lrpar_parse_lexemes.specs.declared.repairs.ParseRepair.{ParseRepair}
 use Rattle.lrpar_parse_errors.specs.Printed.{IsPpFault}
-use Rattle.lrpar_parse_errors.specs.PrintedParts.{sequence_parts}
+use Rattle.lrpar_parse_lexemes.specs.PrintedParts.{sequence_parts}
 use Rattle.lrpar_parse_lexemes.specs.Repairs.{repair_of, repairs_of}
-use Rattle.lrpar_parse_errors.specs.SequenceText.{Part, IsPartsText, RepairsFit, inserted, parts_of, IsFirstUnnamed}
+use Rattle.lrpar_parse_lexemes.specs.PrintedSequence.{Part, parts_of}
+use Rattle.lrpar_parse_errors.specs.SequenceText.{IsPartsText, RepairsFit, inserted, IsFirstUnnamed}
 use Rattle.lrpar_parse_errors.specs.ErrorText.{digits, numbering, numbered, repairs_text, tokens_of}
 use Rattle.lrpar_parse_lexemes.specs.declared.pp_fault.PpFault.{PpFault}
 use Rattle.lrpar_parse_lexemes.specs.declared.pp_fault.PpFault.TheVariants.{NoPrintedName, Memory}

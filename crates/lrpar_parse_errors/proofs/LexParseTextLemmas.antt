@@ -5,7 +5,8 @@ use Rattle.lrpar_grammar_places.specs.Span.{Extent}
 use Rattle.lrpar_parse_lexemes.specs.Repair.{Repair}
 use Rattle.lrpar_parse_lexemes.specs.declared.pp_fault.PpFault.{PpFault}
 use Rattle.lrpar_parse_errors.specs.Printed.{IsPpFault}
-use Rattle.lrpar_parse_errors.specs.SequenceText.{IsPartsText, parts_of}
+use Rattle.lrpar_parse_lexemes.specs.PrintedSequence.{parts_of}
+use Rattle.lrpar_parse_errors.specs.SequenceText.{IsPartsText}
 use Rattle.lrpar_parse_errors.specs.Failure.{Failure}
 use Rattle.lrpar_parse_errors.specs.ErrorText.{IsFailureText, place_text, repairs_text, tokens_of}
 use Rattle.lrpar_parse_errors.specs.LexParseText.{IsErrorText, error_tokens}

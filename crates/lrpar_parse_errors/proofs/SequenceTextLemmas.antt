@@ -8,7 +8,8 @@ use Rattle.lrpar_parse_lexemes.specs.Repair.{Repair, Inserted, Deleted, Shifted}
 use Rattle.lrpar_parse_errors.specs.Printed.{IsPpFault}
 use Rattle.lrpar_parse_lexemes.specs.declared.pp_fault.PpFault.{PpFault}
 use Rattle.lrpar_parse_lexemes.specs.declared.pp_fault.PpFault.TheVariants.{NoPrintedName, Memory}
-use Rattle.lrpar_parse_errors.specs.SequenceText.{on_one_line, Part, Inserts, Deletes, Shifts, joined, parts_of, IsPartText, IsPartsText, PartFits, RepairsFit, inserted_by, inserted, IsFirstUnnamed}
+use Rattle.lrpar_parse_lexemes.specs.PrintedSequence.{Part, Inserts, Deletes, Shifts, joined, parts_of}
+use Rattle.lrpar_parse_errors.specs.SequenceText.{on_one_line, IsPartText, IsPartsText, PartFits, RepairsFit, inserted_by, inserted, IsFirstUnnamed}
 
 -- a line feed
 abbrev feeds : ℕ → Bool

@@ -7,7 +7,8 @@ use Rattle.lrpar_grammar_places.specs.Span.{Extent}
 use Rattle.lrpar_grammar.specs.SpansFit.{IsPartOf}
 use Rattle.lrpar_parse_lexemes.specs.Repair.{Repair}
 use Rattle.lrpar_parse_errors.specs.Failure.{Failure}
-use Rattle.lrpar_parse_errors.specs.SequenceText.{IsPartsText, RepairsFit, inserted, parts_of}
+use Rattle.lrpar_parse_lexemes.specs.PrintedSequence.{parts_of}
+use Rattle.lrpar_parse_errors.specs.SequenceText.{IsPartsText, RepairsFit, inserted}
 
 -- how many decimal digits a number has
 abbrev pub digits : ℕ → ℕ

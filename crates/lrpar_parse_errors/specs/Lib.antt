@@ -5,7 +5,6 @@ pub mod LexParse
 pub mod ErrorText
 pub mod LexParseText
 pub mod SequenceText
-pub mod PrintedParts
 pub mod ActedOn
 pub mod StoredRepairs
 pub mod StoredSequences

@@ -1,34 +1,14 @@
 -- The texts of repair sequences, over the bytes of the input. `names` says what is printed for a token: a name, or nothing.
-use Rattle.std.specs.Prelude.{◌≡◌, ◌==◌, if◌then◌else◌, ℕ, List, [], ◌∷◌, ◌++◌, codes, slice_range, Option, Some, None}
+use Rattle.std.specs.Prelude.{◌≡◌, if◌then◌else◌, ℕ, List, [], ◌∷◌, ◌++◌, codes, slice_range, Option, Some, None}
 use Rattle.std.specs.List.{AllByRecursion, AllZip, flat_map, join_by}
 use Rattle.lrpar_grammar_places.specs.Lines.{is_line_feed}
 use Rattle.lrpar_grammar_places.specs.Span.{Extent, IsPartOf}
+use Rattle.lrpar_parse_lexemes.specs.PrintedSequence.{Part, Inserts, Deletes, Shifts}
 use Rattle.lrpar_parse_lexemes.specs.Repair.{Repair, Inserted, Deleted, Shifted}
 
 -- a text on one line: each line feed prints as the two characters `\n`
 abbrev pub on_one_line : List ℕ → List ℕ
 on_one_line text = flat_map (λ byte. if is_line_feed byte then 92 ∷ 110 ∷ [] else byte ∷ []) text
-
--- a part of a printed sequence: a token to insert, or a part of the input to delete or to shift
-pub data Part : Type 0 where
-  Inserts : (token : ℕ) → Part
-  Deletes : (span : Extent) → Part
-  Shifts : (span : Extent) → Part
-
--- a deletion before other parts: joined with the first of these, if that is a deletion that starts at the byte where this one ends
-abbrev pub joined : Extent → List Part → List Part
-joined a [] = Deletes a ∷ []
-joined a (Inserts t ∷ parts) = Deletes a ∷ Inserts t ∷ parts
-joined a (Shifts b ∷ parts) = Deletes a ∷ Shifts b ∷ parts
-joined a (Deletes b ∷ parts) =
-    if a.end == b.start then Deletes (record { start = a.start; end = b.end }) ∷ parts else Deletes a ∷ Deletes b ∷ parts
-
--- the parts of a sequence
-abbrev pub parts_of : {X : Type 0} → (X → Extent) → List (Repair X) → List Part
-parts_of span [] = []
-parts_of span (Inserted t ∷ repairs) = Inserts t ∷ parts_of span repairs
-parts_of span (Deleted x ∷ repairs) = joined (span x) (parts_of span repairs)
-parts_of span (Shifted x ∷ repairs) = Shifts (span x) ∷ parts_of span repairs
 
 -- the text of a part
 abbrev pub IsPartText : (ℕ → Option (List ℕ) → Type 0) → List ℕ → Part → List ℕ → Type 0

@@ -1,9 +1,8 @@
 -- Repair sequences and their parts as they are stored, and their texts. `index` gives the number of a value of the storage type, `parts` the
 -- parts of a lexeme, and `names` says what is printed for a token.
-use denote.Ref.{Bor}
-use Rattle.std.specs.Prelude.{◌≡◌, ◌<◌, ◌↔◌, ◌∷◌, ℕ, Bool, IsTrue, List, [], MatchOption, OnOk, Option, Result, String, Vec, length, map}
+use Rattle.std.specs.Prelude.{◌↔◌, ℕ, Bool, IsTrue, List, OnOk, Option, Result, String, Vec, map}
 use Rattle.std.specs.List.{AllByRecursion, AllZip}
-use Rattle.lrpar_grammar_places.specs.Span.{Extent, IsPartOf}
+use Rattle.lrpar_grammar_places.specs.Span.{IsPartOf}
 use Rattle.lrpar_grammar_places.specs.Strings.{Appends}
 use Rattle.lrpar_parse_lexemes.specs.Lexemes.{LexemeParts}
 use Rattle.lrpar_parse_lexemes.specs.Repairs.{repairs_of}
@@ -12,10 +11,10 @@ use Rattle.lrpar_parse_lexemes.specs.declared.repairs.ParseRepair.{ParseRepair}
 use Rattle.lrpar_parse_lexemes.specs.declared.repairs.ParseRepair.TheVariants as stored
 use Rattle.lrpar_parse_errors.specs.ErrorText.{repairs_text, tokens_of}
 use Rattle.lrpar_parse_errors.specs.Printed.{IsPpFault}
-use Rattle.lrpar_parse_errors.specs.PrintedParts.{part_of, sequence_parts}
-use Rattle.lrpar_parse_errors.specs.SequenceText.{IsPartText, IsPartsText, PartFits, RepairsFit, inserted, inserted_by, joined, parts_of}
-use Rattle.lrpar_parse_errors.specs.declared.printed_parts.Part.{Part}
-use Rattle.lrpar_parse_errors.specs.declared.printed_parts.Part.TheVariants.{Delete}
+use Rattle.lrpar_parse_lexemes.specs.PrintedSequence.{parts_of}
+use Rattle.lrpar_parse_lexemes.specs.PrintedParts.{part_of, sequence_parts}
+use Rattle.lrpar_parse_errors.specs.SequenceText.{IsPartText, IsPartsText, PartFits, RepairsFit, inserted, inserted_by}
+use Rattle.lrpar_parse_lexemes.specs.declared.printed_parts.Part.{Part}
 
 -- the part of the input that a printed part names starts and ends between two characters of the input
 abbrev pub FitsPart : {S : Type 0} → (S → ℕ) → List ℕ → Part S → Type 0
@@ -28,10 +27,6 @@ PushesPart index names input part old new result = OnOk result ((text : List ℕ
 -- the fault names the part's token, for which nothing is printed, or is `Memory`
 abbrev pub IsPartFault : {S : Type 0} → (S → ℕ) → (ℕ → Option (List ℕ) → Type 0) → Part S → PpFault S → Type 0
 IsPartFault index names part = IsPpFault index names (inserted_by (part_of index part))
-
--- fewer repairs are left after the next part
-abbrev pub LeavesFewer : {S X : Type 0} → List (ParseRepair X S) → Part S × Bor (List (ParseRepair X S)) → Type 0
-LeavesFewer repairs = λ next. length next.1.now < length repairs
 
 module _ {S X : Type 0} (parts : X → LexemeParts S) (input : List ℕ) where
   -- the part of the input that the repair names starts and ends between two characters of the input
@@ -53,18 +48,6 @@ module _ {S X : Type 0} (parts : X → LexemeParts S) (input : List ℕ) where
   TellsIfFit sequence fit = IsTrue fit ↔ FitRepairs sequence
 
 module _ {S X : Type 0} (index : S → ℕ) (parts : X → LexemeParts S) where
-  -- the first part that is printed for the repairs, and the repairs after it; none if there are no repairs
-  abbrev pub FindsPart : List (ParseRepair X S) → Option (Part S × Bor (List (ParseRepair X S))) → Type 0
-  FindsPart repairs found =
-      MatchOption found (sequence_parts index (λ x. (parts x).span) repairs ≡ [])
-      (λ next. sequence_parts index (λ x. (parts x).span) repairs ≡ part_of index next.0 ∷ sequence_parts index (λ x. (parts x).span) next.1.now)
-
-  -- a deletion before the repairs is printed as one with the deletions that touch it: as `whole.0`, and the repairs `whole.1` are left
-  abbrev pub JoinsDeletions : Extent → List (ParseRepair X S) → Extent × Bor (List (ParseRepair X S)) → Type 0
-  JoinsDeletions first repairs whole =
-      joined first (sequence_parts index (λ x. (parts x).span) repairs)
-      ≡ part_of index (Delete whole.0) ∷ sequence_parts index (λ x. (parts x).span) whole.1.now
-
   -- the part of the input that each repair of each sequence names starts and ends between two characters of the input
   abbrev pub FitSequences : {A : Type 0} → List ℕ → List (Vec (ParseRepair X S) A) → Type 0
   FitSequences input sequences = AllByRecursion (RepairsFit (λ x. (parts x).span) input) (repairs_of index sequences)

@@ -6,7 +6,6 @@ pub mod errors;
 mod expected;
 mod message;
 mod names;
-pub mod printed_parts;
 mod sequence_text;
 
 pub use errors::{LexParseError, ParseError, ParseRepair, PpFault};

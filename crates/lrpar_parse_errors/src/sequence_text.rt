@@ -5,9 +5,9 @@ ghost use Rattle.lrpar_parse_errors.specs.StoredSequences.{FitRepairs, FitsPart,
 ghost use Rattle.lrpar_parse_lexemes.specs.Strings.{Pushes};
 
 use crate::names::TokenNames;
-use crate::printed_parts::{Part, next_part};
 use lrpar_grammar::span::StorageIndex;
 use lrpar_parse_lexemes::lex_api::{Lexeme, LexerTypes, NonStreamingLexer};
+use lrpar_parse_lexemes::printed_parts::{Part, next_part};
 use lrpar_parse_lexemes::{ParseRepair, PpFault};
 use std::alloc::AllocError;
 

@@ -5,5 +5,8 @@ pub mod Repairs
 pub mod FaultText
 pub mod Views
 pub mod Strings
+pub mod PrintedSequence
+pub mod PrintedParts
+pub mod NextPart
 pub mod PlacedSpans
 pub mod RisingSpans

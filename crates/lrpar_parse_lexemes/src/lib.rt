@@ -6,6 +6,7 @@ pub mod lex_api;
 pub mod placed;
 pub mod places;
 pub mod pp_fault;
+pub mod printed_parts;
 pub mod repairs;
 pub mod spaces;
 

@@ -4,7 +4,7 @@ ghost use Rattle.std.specs.Prelude.{◌≡◌, IfOk};
 use crate::errors::part_text;
 use lrpar_grammar::grammar::YaccGrammar;
 use lrpar_grammar::span::StorageIndex;
-use lrpar_parse_errors::printed_parts::{Part, next_part};
+use lrpar_parse_lexemes::printed_parts::{Part, next_part};
 use lrpar_parse_lexemes::ParseRepair;
 use lrpar_parse_lexemes::lex_api::Lexeme;
 use lrpar_report_lines::Report;

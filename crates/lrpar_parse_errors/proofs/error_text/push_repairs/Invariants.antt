@@ -1,7 +1,7 @@
 use Rattle.std.proofs.Common.{map, take}
 use Rattle.std.specs.String.{string_bytes}
 use Rattle.lrpar_parse_lexemes.specs.Repairs.{repairs_of}
-use Rattle.lrpar_parse_errors.specs.SequenceText.{parts_of}
+use Rattle.lrpar_parse_lexemes.specs.PrintedSequence.{parts_of}
 use Rattle.lrpar_parse_errors.proofs.ErrorTextLemmas.{AreListed}
 use Rattle.lrpar_parse_errors.proofs.error_text.push_repairs.Given as goal
 

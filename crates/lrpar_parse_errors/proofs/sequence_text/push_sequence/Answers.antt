@@ -1,6 +1,6 @@
 use Rattle.std.proofs.Common.{rules, ◌++◌, ap, ◌∙◌, map}
 use Rattle.std.specs.String.{string_bytes}
-use Rattle.lrpar_parse_errors.specs.PrintedParts.{part_of, sequence_parts}
+use Rattle.lrpar_parse_lexemes.specs.PrintedParts.{part_of, sequence_parts}
 use Rattle.lrpar_parse_lexemes.specs.Repairs.{repair_of}
 use Rattle.lrpar_parse_errors.proofs.SequenceTextLemmas.{printed_none, printed_more, printed_all, parts_fit, fault_next, err_same}
 use Rattle.lrpar_parse_errors.proofs.TestLemmas.{repairs_alike}

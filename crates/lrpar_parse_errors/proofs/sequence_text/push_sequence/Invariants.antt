@@ -3,7 +3,7 @@ use denote.Text.{Utf8}
 use Rattle.std.proofs.Common.{length}
 use Rattle.std.specs.List.{AllByRecursion}
 use Rattle.std.specs.String.{string_bytes}
-use Rattle.lrpar_parse_errors.specs.PrintedParts.{sequence_parts}
+use Rattle.lrpar_parse_lexemes.specs.PrintedParts.{sequence_parts}
 use Rattle.lrpar_parse_errors.specs.SequenceText.{PartFits}
 use Rattle.lrpar_parse_errors.proofs.SequenceTextLemmas.{IsPrintedSoFar}
 use Rattle.lrpar_parse_errors.proofs.sequence_text.push_sequence.Given as goal

@@ -2,10 +2,10 @@
 use Rattle.std.specs.Prelude.{ℕ, List, map}
 use Rattle.lrpar_grammar_places.specs.Span.{Extent}
 use Rattle.lrpar_parse_lexemes.specs.Repairs.{repair_of}
-use Rattle.lrpar_parse_errors.specs.SequenceText as texts
+use Rattle.lrpar_parse_lexemes.specs.PrintedSequence as texts
 use Rattle.lrpar_parse_lexemes.specs.declared.repairs.ParseRepair.{ParseRepair}
-use Rattle.lrpar_parse_errors.specs.declared.printed_parts.Part.{Part}
-use Rattle.lrpar_parse_errors.specs.declared.printed_parts.Part.TheVariants.{Insert, Delete, Shift}
+use Rattle.lrpar_parse_lexemes.specs.declared.printed_parts.Part.{Part}
+use Rattle.lrpar_parse_lexemes.specs.declared.printed_parts.Part.TheVariants.{Insert, Delete, Shift}
 
 -- a printed part as it is stored, with its token by number
 abbrev pub part_of : {S : Type 0} → (S → ℕ) → Part S → texts.Part

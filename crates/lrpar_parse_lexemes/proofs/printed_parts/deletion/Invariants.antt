@@ -1,7 +1,7 @@
 use Rattle.std.proofs.Common.{◌≡◌, ◌≤◌, length}
-use Rattle.lrpar_parse_errors.specs.PrintedParts.{sequence_parts}
-use Rattle.lrpar_parse_errors.specs.SequenceText.{joined}
-use Rattle.lrpar_parse_errors.proofs.printed_parts.deletion.Given as goal
+use Rattle.lrpar_parse_lexemes.specs.PrintedParts.{sequence_parts}
+use Rattle.lrpar_parse_lexemes.specs.PrintedSequence.{joined}
+use Rattle.lrpar_parse_lexemes.proofs.printed_parts.deletion.Given as goal
 
 -- the deletion so far and what is left make the whole
 abbrev pub invariant-loop-lexeme : goal.invariant-loop-lexeme

@@ -1,10 +1,10 @@
 //! The parts of a printed repair sequence.
 ghost use Rattle.std.specs.Prelude.{◌≤◌, IfSome, length};
-ghost use Rattle.lrpar_parse_errors.specs.StoredSequences.{FindsPart, JoinsDeletions, LeavesFewer};
+ghost use Rattle.lrpar_parse_lexemes.specs.NextPart.{FindsPart, JoinsDeletions, LeavesFewer};
 
+use crate::lex_api::Lexeme;
+use crate::repairs::ParseRepair;
 use lrpar_grammar_places::span::{Span, StorageIndex, TIdx};
-use lrpar_parse_lexemes::ParseRepair;
-use lrpar_parse_lexemes::lex_api::Lexeme;
 
 /// A part of a printed sequence.
 #[derive(Clone, Copy, Drop)]
