@@ -247,25 +247,29 @@ fn add_paths<'a>(alloc: Global, command: Command<'a>) -> Result<Command<'a>, All
 // Adds the options that take no word.
 fn add_flags<'a>(alloc: Global, command: Command<'a>) -> Result<Command<'a>, AllocError> {
     command
-        .arg(
-            Arg::new(alloc, QUIET)
-                .short('q')
-                .help("Print errors only: no trees, no warnings, no notes")
-                .action(ArgAction::SetTrue),
-        )?
-        .arg(
-            Arg::new(alloc, STATES)
-                .short('d')
-                .help("Print the states of the table")
-                .long_help(LONG_HELP_OF_STATES)
-                .action(ArgAction::SetTrue),
-        )?
-        .arg(
-            Arg::new(alloc, VERBOSE)
-                .short('v')
-                .help("Say whether states are merged, and how many actions and gotos the table has")
-                .action(ArgAction::SetTrue),
-        )
+        .arg(flag(
+            alloc,
+            QUIET,
+            'q',
+            "Print errors only: no trees, no warnings, no notes",
+        ))?
+        .arg(flag(alloc, STATES, 'd', "Print the states of the table").long_help(
+            LONG_HELP_OF_STATES,
+        ))?
+        .arg(flag(
+            alloc,
+            VERBOSE,
+            'v',
+            "Say whether states are merged, and how many actions and gotos the table has",
+        ))
+}
+
+// An option of one letter that takes no word.
+fn flag<'a>(alloc: Global, id: &'a str, letter: char, help: &'a str) -> Arg<'a> {
+    Arg::new(alloc, id)
+        .short(letter)
+        .help(help)
+        .action(ArgAction::SetTrue)
 }
 
 // Adds the options about the grammar and its table.

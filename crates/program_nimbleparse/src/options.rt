@@ -66,10 +66,7 @@ pub(crate) fn request_of<'a>(
 // The options that were found in the words. What has a default or has to be there is found.
 fn options_of<'a>(alloc: Global, matches: &ArgMatches<'a>) -> Result<Options<'a>, Fault> {
     let recovery = recovery_of(matches)?;
-    let mut inputs = Vec::new(alloc);
-    for input in matches.get_strs(INPUT).unwrap_or(&[]) {
-        inputs.push(*input)?;
-    }
+    let inputs = inputs_of(alloc, matches)?;
     Ok(Options {
         is_quiet: matches.get_flag(QUIET),
         shows_states: matches.get_flag(STATES),
@@ -83,6 +80,15 @@ fn options_of<'a>(alloc: Global, matches: &ArgMatches<'a>) -> Result<Options<'a>
         grammar: matches.get_str(GRAMMAR).unwrap_or(""),
         inputs,
     })
+}
+
+// The paths of the inputs.
+fn inputs_of<'a>(alloc: Global, matches: &ArgMatches<'a>) -> Result<Vec<&'a str>, AllocError> {
+    let mut inputs = Vec::new(alloc);
+    for input in matches.get_strs(INPUT).unwrap_or(&[]) {
+        inputs.push(*input)?;
+    }
+    Ok(inputs)
 }
 
 // Which repairs are looked for. A limit needs a search that it limits.
