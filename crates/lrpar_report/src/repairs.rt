@@ -4,9 +4,9 @@ ghost use Rattle.std.specs.Prelude.{◌≡◌, IfOk};
 use crate::errors::part_text;
 use lrpar_grammar::grammar::YaccGrammar;
 use lrpar_grammar::span::StorageIndex;
-use lrpar_parse_lexemes::printed_parts::{Part, next_part};
 use lrpar_parse_lexemes::ParseRepair;
 use lrpar_parse_lexemes::lex_api::Lexeme;
+use lrpar_parse_lexemes::printed_parts::{Part, next_part};
 use lrpar_report_lines::Report;
 use std::alloc::{AllocError, Global};
 
