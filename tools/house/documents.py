@@ -17,7 +17,7 @@ FILE = re.compile(r"`(\w+\.(?:rt|antt))`")
 SPEC = re.compile(r"`(lrpar\w*)/([A-Z]\w*)`")
 # Names that stand for any file.
 EXAMPLES = {"NAME.rt", "NameLemmas.antt"}
-COSTS = ROOT / "docs" / "CONTRIBUTING.md"
+COSTS = ROOT / "tools" / "costs.txt"
 COST = re.compile(r"^(\w+) +([\d,]+) +([\d,]+)(?: +(?:\d+: )?([\d,]+))?$", re.M)
 SUM = "all"
 
