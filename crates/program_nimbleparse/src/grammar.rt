@@ -22,8 +22,8 @@ use program_files::tables::MAX_STATES;
 use std::alloc::{AllocError, Global};
 use std::io::Write;
 
-/// The cap with which tables are checked. It's the largest one, so a table that is refused with it passes with no cap.
-const MOST: u16 = u16::MAX;
+/// The cap with which tables are checked. It's the largest one, so a table that is refused with it passes with none.
+const CAP: u16 = u16::MAX;
 
 /// What is asked of a grammar file.
 #[derive(Clone, Copy)]
@@ -206,7 +206,7 @@ fn check_chains(
 ) -> Result<ParserData<u32>, Fault>
     requires { IsSafe grm sgraph stable }
 {
-    match ParserData::of_safe(alloc, grm, sgraph, stable, MOST) {
+    match ParserData::of_safe(alloc, grm, sgraph, stable, CAP) {
         Ok(data) => Ok(data),
         Err(refused) => Err(fault_of_chain(alloc, reporter, refused)),
     }
@@ -232,6 +232,6 @@ fn fault_of_chain(alloc: Global, reporter: &Reporter<'_>, refused: Refused<u32>)
         return Fault::Memory;
     };
     let (grm, _, _) = refused.into_parts();
-    let report = chain_report(alloc, &grm, state, token, MOST);
+    let report = chain_report(alloc, &grm, state, token, CAP);
     fault_of_report(alloc, reporter, report)
 }
