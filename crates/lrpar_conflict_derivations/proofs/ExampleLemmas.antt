@@ -11,7 +11,7 @@ use Rattle.lrpar_table_build.specs.BuilderLaws.{lists_in}
 use Rattle.lrpar_table_sentences.specs.Choices.{AreShortest, ChoiceOf}
 use Rattle.lrpar_table_sentences.specs.Moves.{MoveOf, Makes, Takes}
 use Rattle.lrpar_table_sentences.specs.AccessStrings.{StepOf, symbols_in}
-use Rattle.lrpar_conflict_derivations.specs.Example.{AreExamplesFor, ExampleOf, ExamplesOf, IsExample, IsFront, IsLeastTo, IsMadeOf, IsShortestFront, IsTextTo}
+use Rattle.lrpar_conflict_derivations.specs.Example.{AreExamplesFor, ExampleOf, ExamplesOf, IsExample, IsFront, IsLeastTo, IsMadeOf, IsShortestFront, IsTextTo, after_search}
 use Rattle.lrpar_conflict_derivations.specs.Completion.{CanComplete}
 use Rattle.lrpar_conflict_derivations.specs.Conflict.{ConflictOf, IsConflict, IsExampleOf, between_reductions, with_shift}
 use Rattle.lrpar_conflict_derivations.specs.Derivation.{Derives, IsDerivation}
@@ -73,6 +73,23 @@ least_by g graph s steps short_steps front short flag lead least as_many =
           let less = all (symbols_in short_steps) least.front.trees least.front.text.leads least.front.text.fit in
           let more = least.least (symbols_in steps) lead.trees lead.text.leads lead.text.fit in as_many.1 (omega (arith, own, few, less, more)),
     )
+
+-- a counterexample stays one, whatever a search for a unifying one has tried
+pub still_example : (g : Grammar) (graph : Graph) (conflict : ConflictOf) (x : ExampleOf) (tried : ℕ) (complete : Bool) → IsExampleOf g graph conflict x
+    → IsExampleOf g graph conflict (after_search x tried complete)
+still_example g graph conflict x tried complete is = record {
+  symbols = is.symbols;
+  trees = is.trees;
+  before = is.before;
+  shortest = is.shortest;
+  unless = is.unless;
+  tree = is.tree;
+  first = is.first;
+  other_tree = is.other_tree;
+  second = is.second;
+  different = is.different;
+  ambiguous = is.ambiguous;
+}
 
 -- two productions that differ, and a production and a token
 nodes_differ : (p q : ℕ) → p < q → Makes p ≢ Makes q

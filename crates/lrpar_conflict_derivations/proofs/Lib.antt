@@ -13,4 +13,5 @@ pub mod TextLemmas
 pub mod FrontLemmas
 pub mod ExampleLemmas
 pub mod ReplayLemmas
+pub mod SearchLemmas
 pub mod ValidationLemmas

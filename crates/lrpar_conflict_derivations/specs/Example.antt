@@ -24,6 +24,17 @@ pub record ExampleOf : Type 0 where
   pub ambiguous : Bool
   pub shortest : Bool
   pub bound : ℕ
+  pub tried : ℕ
+  pub complete : Bool
+
+-- the counterexample, with what a search for a unifying one has tried, and whether that is all that it came to
+abbrev pub after_search : ExampleOf → ℕ → Bool → ExampleOf
+after_search x tried complete =
+    record { before = x.before; first = x.first; second = x.second; ambiguous = x.ambiguous; shortest = x.shortest; bound = x.bound; tried = tried; complete = complete }
+
+-- both derivations have one text; or the search for two that have has tried as much as the bound allows, or all that it came to
+abbrev pub HasSearched : ℕ → ExampleOf → Type 0
+HasSearched bound x = (IsTrue x.ambiguous) ⊎ ((x.tried ≡ bound) ⊎ (IsTrue x.complete))
 
 -- a counterexample with the tokens of these first moves, these two derivations, this flag and this bound. It is called ambiguous if and only if both have one text
 pub record IsMadeOf (front one other : List MoveOf) (flag : Bool) (most : ℕ) (x : ExampleOf) : Type 0 where

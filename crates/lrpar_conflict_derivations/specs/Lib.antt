@@ -5,4 +5,6 @@ pub mod Completion
 pub mod ClosureLinks
 pub mod Texts
 pub mod Replay
+pub mod Queue
+pub mod Search
 pub mod Stored

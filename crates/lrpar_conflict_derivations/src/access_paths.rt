@@ -1,4 +1,6 @@
 //! The access paths of a state, those with the shortest access strings first.
+ghost use Rattle.std.specs.Prelude.{IfOk};
+ghost use Rattle.lrpar_conflict_derivations.specs.Queue.{HasOne, KeepsItems, Looks};
 
 use crate::context::Context;
 use crate::predecessors::Predecessor;
@@ -19,37 +21,48 @@ struct End<StorageT> {
 }
 
 /// The ends of access paths to a state that were looked at. Those whose access strings may be shortest come first.
-#[derive(Drop)]
 pub(crate) struct AccessPaths<StorageT: StorageIndex> {
     ends: Vec<End<StorageT>>,
-    queue: PriorityQueue,
+    pub(crate) queue: PriorityQueue,
+}
+
+// A drop of its own, so that code that drops one elsewhere proves one call.
+impl<StorageT: StorageIndex> Drop for AccessPaths<StorageT> {
+    fn drop(self) {
+        let AccessPaths { ends, queue } = self;
+        drop(ends);
+        drop(queue);
+    }
 }
 
 impl<StorageT: StorageIndex> AccessPaths<StorageT> {
+    ghost use Rattle.lrpar_conflict_derivations.specs.Search.{KeepsStart, StartsAt, TriesEnd};
+
     /// The state itself.
     pub(crate) fn new(
         alloc: Global,
         context: &Context<'_, StorageT>,
         state: StIdx<StorageT>,
-    ) -> Result<Self, AllocError> {
-        let mut paths = AccessPaths {
-            ends: Vec::new(alloc),
-            queue: PriorityQueue::new(alloc)?,
-        };
-        paths.add(
-            context,
-            End {
-                state,
-                symbol: Symbol::Rule(context.grm.start_rule_idx()),
-                toward: NONE,
-                len: 0,
-            },
-        )?;
-        Ok(paths)
+    ) -> Result<Self, AllocError>
+        ensures start { IfOk result (StartsAt StorageT.index (StorageT.index state.0)) }
+        ensures queued { IfOk result (λ paths. HasOne paths.queue) }
+    {
+        let mut queue = PriorityQueue::new(alloc)?;
+        queue.add(context.len_to(state))?;
+        let mut ends = Vec::new(alloc);
+        ends.push(End {
+            state,
+            symbol: Symbol::Rule(context.grm.start_rule_idx()),
+            toward: NONE,
+            len: 0,
+        })?;
+        Ok(AccessPaths { ends, queue })
     }
 
     /// The least length of an access string that may still be found, if there is one.
-    pub(crate) fn least(&self) -> Option<usize> {
+    pub(crate) fn least(&self) -> Option<usize>
+        ensures { Looks self.now.queue result }
+    {
         self.queue.least()
     }
 
@@ -58,7 +71,10 @@ impl<StorageT: StorageIndex> AccessPaths<StorageT> {
         &mut self,
         context: &Context<'_, StorageT>,
         stacks: &mut Stacks<StorageT>,
-    ) -> Result<Option<(usize, usize)>, AllocError> {
+    ) -> Result<Option<(usize, usize)>, AllocError>
+        ensures tried { IfOk result (λ _. TriesEnd self.old self.new) }
+        ensures start { KeepsStart StorageT.index self.old self.new }
+    {
         let Some(number) = self.queue.pop() else {
             return Ok(None);
         };
@@ -83,11 +99,11 @@ impl<StorageT: StorageIndex> AccessPaths<StorageT> {
     }
 
     // Adds an end, if its state has an access string. A symbol without tokens counts as one, so that no path goes round a cycle for free.
-    fn add(
-        &mut self,
-        context: &Context<'_, StorageT>,
-        end: End<StorageT>,
-    ) -> Result<(), AllocError> {
+    #[tactic(auto, using(crate::proofs::SearchLemmas::start_pushed))]
+    fn add(&mut self, context: &Context<'_, StorageT>, end: End<StorageT>) -> Result<(), AllocError>
+        ensures kept { KeepsItems self.old.queue self.new.queue }
+        ensures start { KeepsStart StorageT.index self.old self.new }
+    {
         let key = context.len_to(end.state).saturating_add(end.len);
         if key != NONE {
             self.ends.push(end)?;
@@ -102,7 +118,10 @@ impl<StorageT: StorageIndex> AccessPaths<StorageT> {
         context: &Context<'_, StorageT>,
         toward: usize,
         end: End<StorageT>,
-    ) -> Result<(), AllocError> {
+    ) -> Result<(), AllocError>
+        ensures kept { KeepsItems self.old.queue self.new.queue }
+        ensures start { KeepsStart StorageT.index self.old self.new }
+    {
         let mut number = context.predecessors.first(end.state);
         for _ in 0..context.predecessors.len() {
             let Some(predecessor) = context.predecessors.get(number) else {
@@ -122,7 +141,10 @@ impl<StorageT: StorageIndex> AccessPaths<StorageT> {
         toward: usize,
         len: usize,
         step: Step<StorageT>,
-    ) -> Result<(), AllocError> {
+    ) -> Result<(), AllocError>
+        ensures kept { KeepsItems self.old.queue self.new.queue }
+        ensures start { KeepsStart StorageT.index self.old self.new }
+    {
         let Step { from, symbol } = step;
         let own = context.len_of(symbol).max(1);
         let len = len.saturating_add(own);

@@ -1,6 +1,7 @@
 //! A counterexample of a conflict.
 ghost use Rattle.std.specs.Prelude.{◌≡◌, ◌↔◌, IfOk, IsTrue};
 ghost use Rattle.lrpar_table_sentences.specs.Moves.{moves_in};
+ghost use Rattle.lrpar_conflict_derivations.specs.Example.{after_search};
 ghost use Rattle.lrpar_conflict_derivations.specs.Stored.{AreSameTokens, AreTokensOf, HaveAsMany, HaveOneText, IsExampleBy};
 ghost use Rattle.lrpar_conflict_derivations.specs.Texts.{token_numbers};
 
@@ -18,6 +19,8 @@ pub struct Example<StorageT: StorageIndex> {
     ambiguous: bool,
     shortest: bool,
     bound: usize,
+    tried: usize,
+    complete: bool,
 }
 
 // A drop of its own, so that code that drops one elsewhere proves one call.
@@ -30,6 +33,8 @@ impl<StorageT: StorageIndex> Drop for Example<StorageT> {
             ambiguous: _,
             shortest: _,
             bound: _,
+            tried: _,
+            complete: _,
         } = self;
         drop(before);
         drop(first);
@@ -44,7 +49,7 @@ impl<StorageT: StorageIndex> Model for Example<StorageT> {
 
     ghost Value = { ExampleOf };
 
-    ghost view = { λ x. record { before = token_numbers StorageT.index x.before.items; first = moves_in StorageT.index x.first.items; second = moves_in StorageT.index x.second.items; ambiguous = x.ambiguous; shortest = x.shortest; bound = x.bound } };
+    ghost view = { λ x. record { before = token_numbers StorageT.index x.before.items; first = moves_in StorageT.index x.first.items; second = moves_in StorageT.index x.second.items; ambiguous = x.ambiguous; shortest = x.shortest; bound = x.bound; tried = x.tried; complete = x.complete } };
 }
 
 impl<StorageT: StorageIndex> Example<StorageT> {
@@ -69,7 +74,19 @@ impl<StorageT: StorageIndex> Example<StorageT> {
             ambiguous,
             shortest,
             bound,
+            tried: 0,
+            complete: false,
         })
+    }
+
+    // The counterexample after a search for a unifying one: how much that has tried, and whether that is all that it came to.
+    pub(crate) fn with_search(self, tried: usize, complete: bool) -> Self
+        ensures { result ≡ after_search self tried complete }
+    {
+        let mut example = self;
+        example.tried = tried;
+        example.complete = complete;
+        example
     }
 
     /// The tokens of an access string of the conflict's state: a shortest one, unless the counterexample is unifying and was found on
@@ -113,6 +130,21 @@ impl<StorageT: StorageIndex> Example<StorageT> {
         ensures { result ≡ self.now.bound }
     {
         self.bound
+    }
+
+    /// How many ends of access paths and configurations a search has tried that found no unifying counterexample. It is 0 if this one is
+    /// unifying.
+    pub fn tried(&self) -> usize
+        ensures { result ≡ self.now.tried }
+    {
+        self.tried
+    }
+
+    /// Whether such a search has tried all that it came to. A larger bound then finds no more.
+    pub fn is_search_complete(&self) -> bool
+        ensures { result ≡ self.now.complete }
+    {
+        self.complete
     }
 }
 

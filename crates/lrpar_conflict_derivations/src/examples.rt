@@ -8,7 +8,8 @@ ghost use Rattle.lrpar_table_sentences.specs.Choices.{AreShortest};
 ghost use Rattle.lrpar_table_sentences.specs.Reachable.{EachReachableHasTree};
 ghost use Rattle.lrpar_conflict_derivations.specs.Completion.{CanComplete};
 ghost use Rattle.lrpar_conflict_derivations.specs.Conflict.{IsConflict, IsExampleOf, IsReduceReduceExample, IsShiftReduceExample, conflict_of};
-ghost use Rattle.lrpar_conflict_derivations.specs.Example.{AreExamplesFor, IsFault};
+ghost use Rattle.lrpar_conflict_derivations.specs.Example.{AreExamplesFor, HasSearched, IsFault};
+ghost use Rattle.lrpar_conflict_derivations.specs.Search.{FindsFor};
 ghost use Rattle.lrpar_conflict_derivations.specs.Stored.{FindsExampleOf, GoesOnBy, IsCalledFor, IsFrontTo, IsStateOf};
 
 use crate::context::Context;
@@ -17,9 +18,9 @@ pub use crate::example::{Example, tokens_of};
 pub use crate::fault::ExampleFault;
 use crate::min_lengths::MinLengths;
 use crate::predecessors::Predecessors;
-use crate::search::Conflict;
+use crate::search::{Conflict, Search};
 use crate::unifying::find_unifying;
-use crate::validation::{symbols_of, validated};
+use crate::validation::symbols_of;
 use lrpar_grammar::grammar::YaccGrammar;
 use lrpar_grammar::span::{PIdx, StIdx, StorageIndex, Symbol, TIdx};
 use lrpar_grammar::token_set::TokenSet;
@@ -68,10 +69,18 @@ impl<StorageT: StorageIndex> Model for Examples<StorageT> {
 }
 
 // The steps of a shortest access path of a state, and the moves of minimal sentences' trees of its symbols.
-#[derive(Drop)]
-pub(crate) struct Front<StorageT> {
+pub(crate) struct Front<StorageT: StorageIndex> {
     pub(crate) steps: Vec<Step<StorageT>>,
     pub(crate) moves: Vec<Move<StorageT>>,
+}
+
+// A drop of its own, so that code that drops one elsewhere proves one call.
+impl<StorageT: StorageIndex> Drop for Front<StorageT> {
+    fn drop(self) {
+        let Front { steps, moves } = self;
+        drop(steps);
+        drop(moves);
+    }
 }
 
 impl<StorageT: StorageIndex> Examples<StorageT> {
@@ -107,8 +116,8 @@ impl<StorageT: StorageIndex> Examples<StorageT> {
     /// production, the other the second.
     ///
     /// If the derivations have different texts, it looks for a unifying counterexample on all access paths of the state, shortest texts
-    /// first, and returns that if it finds one. It tries at most `bound` configurations and ends of access paths; with a bound of 0 it
-    /// doesn't look. Fails only if an allocation does.
+    /// first, and returns that if it finds one. It gives up only after it has tried `bound` configurations and ends of access paths, or all
+    /// that there are; with a bound of 0 it doesn't look. Fails only if an allocation does.
     pub fn of_reduce_reduce(
         &self,
         alloc: Global,
@@ -127,6 +136,7 @@ impl<StorageT: StorageIndex> Examples<StorageT> {
         requires made { AreExamplesFor grm.now sgraph.now stable.now usize.MAX self.now }
         requires member { Contains (lists_in stable.now.conflicts).reduce_reduce (reduce_reduce_of StorageT.index conflict.now) }
         ensures example { IfOk result (IsReduceReduceExample grm.now sgraph.now (reduce_reduce_of StorageT.index conflict.now)) }
+        ensures searched { IfOk result (HasSearched bound) }
         ensures bound { IfOk result (λ x. x.bound ≡ bound) }
     {
         let (token, one, other, state) = *conflict;
@@ -154,6 +164,7 @@ impl<StorageT: StorageIndex> Examples<StorageT> {
         requires made { AreExamplesFor grm.now sgraph.now stable.now usize.MAX self.now }
         requires member { Contains (lists_in stable.now.conflicts).shift_reduce (shift_reduce_of StorageT.index conflict.now) }
         ensures example { IfOk result (IsShiftReduceExample grm.now sgraph.now (shift_reduce_of StorageT.index conflict.now)) }
+        ensures searched { IfOk result (HasSearched bound) }
         ensures bound { IfOk result (λ x. x.bound ≡ bound) }
     {
         let (token, prod, state) = *conflict;
@@ -180,16 +191,18 @@ impl<StorageT: StorageIndex> Examples<StorageT> {
         requires made { AreExamplesFor grm.now sgraph.now stable.now usize.MAX self.now }
         requires conflict { IsConflict grm.now sgraph.now (conflict_of StorageT.index conflict.now) }
         ensures example { IfOk result (IsExampleOf grm.now sgraph.now (conflict_of StorageT.index conflict.now)) }
+        ensures searched { IfOk result (HasSearched bound) }
         ensures bound { IfOk result (λ x. x.bound ≡ bound) }
     {
         let front = self.front(alloc, grm, sgraph, stable, conflict.state)?;
         let plain = self.plain(alloc, grm, sgraph, &front, conflict, bound)?;
-        if bound == 0 || plain.is_ambiguous() {
+        if plain.is_ambiguous() {
             return Ok(plain);
         }
-        match self.one_text(alloc, grm, sgraph, stable, &front, conflict, bound)? {
+        let (found, search) = self.one_text(alloc, grm, sgraph, stable, &front, conflict, bound)?;
+        match found {
             Some(found) => Ok(found),
-            None => Ok(plain),
+            None => Ok(plain.with_search(search.tried(), search.is_over())),
         }
     }
 
@@ -273,7 +286,7 @@ impl<StorageT: StorageIndex> Examples<StorageT> {
         Ok(Front { steps, moves })
     }
 
-    // A unifying counterexample of the conflict, if one is found within the bound.
+    // A unifying counterexample of the conflict, if one is found within the bound, and the search as it ended.
     fn one_text(
         &self,
         alloc: Global,
@@ -283,12 +296,13 @@ impl<StorageT: StorageIndex> Examples<StorageT> {
         front: &Front<StorageT>,
         conflict: &Conflict<StorageT>,
         bound: usize,
-    ) -> Result<Option<Example<StorageT>>, AllocError>
+    ) -> Result<(Option<Example<StorageT>>, Search<StorageT>), AllocError>
         requires built { IsBuilt grm.now sgraph.now stable.now }
         requires made { AreExamplesFor grm.now sgraph.now stable.now usize.MAX self.now }
         requires conflict { IsConflict grm.now sgraph.now (conflict_of StorageT.index conflict.now) }
         requires front { IsFrontTo StorageT.index grm.now sgraph.now conflict.now.state front.now }
-        ensures { IfOk result (FindsExampleOf StorageT.index grm.now sgraph.now conflict.now bound) }
+        ensures example { IfOk result (λ found. FindsExampleOf StorageT.index grm.now sgraph.now conflict.now bound found.0) }
+        ensures searched { IfOk result (FindsFor StorageT.index conflict.now bound) }
     {
         let context = Context {
             grm,
@@ -299,10 +313,7 @@ impl<StorageT: StorageIndex> Examples<StorageT> {
             lengths: &self.lengths,
             predecessors: &self.predecessors,
         };
-        match find_unifying(alloc, &context, conflict, bound)? {
-            None => Ok(None),
-            Some(text) => validated(alloc, &context, front, conflict, &text, bound),
-        }
+        find_unifying(alloc, &context, front, conflict, bound)
     }
 }
 

@@ -6,10 +6,18 @@ use lrpar_table_sentences::shortest::Shortest;
 use std::alloc::{AllocError, Global};
 
 /// For each production and each dot in it the least number of tokens that the symbols after the dot derive.
-#[derive(Drop)]
 pub(crate) struct MinLengths {
     starts: Vec<usize>,
     rests: Vec<usize>,
+}
+
+// A drop of its own, so that code that drops one elsewhere proves one call.
+impl Drop for MinLengths {
+    fn drop(self) {
+        let MinLengths { starts, rests } = self;
+        drop(starts);
+        drop(rests);
+    }
 }
 
 impl MinLengths {

@@ -14,10 +14,21 @@ pub(crate) struct Predecessor<StorageT> {
 }
 
 /// The steps to each state.
-#[derive(Drop)]
 pub(crate) struct Predecessors<StorageT: StorageIndex> {
     heads: Vec<usize>,
     predecessors: Vec<Predecessor<StorageT>>,
+}
+
+// A drop of its own, so that code that drops one elsewhere proves one call.
+impl<StorageT: StorageIndex> Drop for Predecessors<StorageT> {
+    fn drop(self) {
+        let Predecessors {
+            heads,
+            predecessors,
+        } = self;
+        drop(heads);
+        drop(predecessors);
+    }
 }
 
 impl<StorageT: StorageIndex> Predecessors<StorageT> {

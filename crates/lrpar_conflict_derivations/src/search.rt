@@ -1,5 +1,6 @@
 //! Configurations of two derivations with a common text, and the search over them.
-ghost use Rattle.std.specs.Prelude.{IfSome};
+ghost use Rattle.std.specs.Prelude.{◌≡◌, ◌≤◌, ◌↔◌, IfOk, IfSome, IsTrue};
+ghost use Rattle.lrpar_conflict_derivations.specs.Search.{EndsTurn, IsGoingOn, IsNewSearch, IsOver, KeepsTried, LooksFirst, tried_in};
 ghost use Rattle.lrpar_conflict_derivations.specs.Stored.{IsFirstIn, IsStateIn};
 
 use crate::access_paths::AccessPaths;
@@ -88,7 +89,6 @@ pub(crate) enum Turn {
 }
 
 /// The search.
-#[derive(Drop)]
 pub(crate) struct Search<StorageT: StorageIndex> {
     pub(crate) stacks: Stacks<StorageT>,
     paths: AccessPaths<StorageT>,
@@ -99,13 +99,35 @@ pub(crate) struct Search<StorageT: StorageIndex> {
     ahead: usize,
 }
 
+// A drop of its own, so that code that drops one elsewhere proves one call.
+impl<StorageT: StorageIndex> Drop for Search<StorageT> {
+    fn drop(self) {
+        let Search {
+            stacks,
+            paths,
+            configurations,
+            queue,
+            seen,
+            begun: _,
+            ahead: _,
+        } = self;
+        drop(stacks);
+        drop(paths);
+        drop(configurations);
+        drop(queue);
+        drop(seen);
+    }
+}
+
 impl<StorageT: StorageIndex> Search<StorageT> {
     /// Nothing was tried yet.
     pub(crate) fn new(
         alloc: Global,
         context: &Context<'_, StorageT>,
         conflict: &Conflict<StorageT>,
-    ) -> Result<Self, AllocError> {
+    ) -> Result<Self, AllocError>
+        ensures { IfOk result (IsNewSearch StorageT.index conflict.now.state) }
+    {
         Ok(Search {
             stacks: Stacks::new(alloc, context)?,
             paths: AccessPaths::new(alloc, context, conflict.state)?,
@@ -122,7 +144,9 @@ impl<StorageT: StorageIndex> Search<StorageT> {
         &mut self,
         context: &Context<'_, StorageT>,
         conflict: &Conflict<StorageT>,
-    ) -> Result<Turn, AllocError> {
+    ) -> Result<Turn, AllocError>
+        ensures { IfOk result (EndsTurn StorageT.index self.old self.new) }
+    {
         if self.is_path_first() {
             if let Some((level, len)) = self.paths.turn(context, &mut self.stacks)? {
                 self.start(context, conflict, level, len)?;
@@ -133,6 +157,21 @@ impl<StorageT: StorageIndex> Search<StorageT> {
             Some(number) => self.try_configuration(context, conflict, number),
             None => Ok(Turn::Over),
         }
+    }
+
+    /// How many ends of access paths and configurations were tried.
+    pub(crate) fn tried(&self) -> usize
+        requires { tried_in self.now ≤ usize.MAX }
+        ensures { result ≡ tried_in self.now }
+    {
+        self.paths.queue.popped() + self.queue.popped()
+    }
+
+    /// Whether nothing is left to try.
+    pub(crate) fn is_over(&self) -> bool
+        ensures { IsTrue result ↔ IsOver self.now }
+    {
+        self.paths.queue.is_empty() && self.queue.is_empty()
     }
 
     /// How the configuration came about, and its parent's number, if there is such a configuration.
@@ -164,7 +203,10 @@ impl<StorageT: StorageIndex> Search<StorageT> {
     }
 
     // Whether an access path comes before each configuration.
-    fn is_path_first(&self) -> bool {
+    #[tactic(auto, using(crate::proofs::SearchLemmas::looks_first))]
+    fn is_path_first(&self) -> bool
+        ensures { LooksFirst self.now result }
+    {
         match self.paths.least() {
             None => false,
             Some(path) => match self.queue.least() {
@@ -175,13 +217,16 @@ impl<StorageT: StorageIndex> Search<StorageT> {
     }
 
     // Starts a configuration on the access path to the level.
+    #[tactic(auto, using(crate::proofs::SearchLemmas::kept_then))]
     fn start(
         &mut self,
         context: &Context<'_, StorageT>,
         conflict: &Conflict<StorageT>,
         level: usize,
         len: usize,
-    ) -> Result<(), AllocError> {
+    ) -> Result<(), AllocError>
+        ensures { KeepsTried self.old self.new }
+    {
         self.begun = self.begun.saturating_add(1);
         let one = self.apply_move(context, level, conflict.one)?;
         let other = self.apply_move(context, level, conflict.other)?;
@@ -204,7 +249,9 @@ impl<StorageT: StorageIndex> Search<StorageT> {
         context: &Context<'_, StorageT>,
         level: usize,
         next: Move<StorageT>,
-    ) -> Result<usize, AllocError> {
+    ) -> Result<usize, AllocError>
+        ensures { KeepsTried self.old self.new }
+    {
         match next {
             Move::Make(prod) => self.stacks.reduce(context, level, prod),
             Move::Take(_) => Ok(level),
@@ -212,7 +259,10 @@ impl<StorageT: StorageIndex> Search<StorageT> {
     }
 
     // Adds a configuration, if both derivations can be completed and it is new.
-    fn add(&mut self, configuration: Configuration<StorageT>) -> Result<(), AllocError> {
+    #[tactic(auto, using(crate::proofs::SearchLemmas::kept_then))]
+    fn add(&mut self, configuration: Configuration<StorageT>) -> Result<(), AllocError>
+        ensures { KeepsTried self.old self.new }
+    {
         let (Some(one), Some(other)) = (
             self.stacks.get(configuration.one),
             self.stacks.get(configuration.other),
@@ -236,7 +286,9 @@ impl<StorageT: StorageIndex> Search<StorageT> {
     }
 
     // Keeps how many tokens follow the first access path at least, once the conflict's token was shifted on it.
-    fn note_token(&mut self, configuration: &Configuration<StorageT>, rest: usize) {
+    fn note_token(&mut self, configuration: &Configuration<StorageT>, rest: usize)
+        ensures { KeepsTried self.old self.new }
+    {
         if self.begun <= 1 && configuration.past_conflict {
             if let Some(parent) = self.get(configuration.parent) {
                 if !parent.past_conflict {
@@ -264,7 +316,9 @@ impl<StorageT: StorageIndex> Search<StorageT> {
     }
 
     // Keeps the configuration.
-    fn keep(&mut self, configuration: Configuration<StorageT>) -> Result<(), AllocError> {
+    fn keep(&mut self, configuration: Configuration<StorageT>) -> Result<(), AllocError>
+        ensures { KeepsTried self.old self.new }
+    {
         for _ in self.seen.len()..self.stacks.len() {
             self.seen.push(NONE)?;
         }
@@ -278,12 +332,16 @@ impl<StorageT: StorageIndex> Search<StorageT> {
     }
 
     // Whether the configuration is a unifying counterexample; if not, adds what comes of it by one move.
+    #[tactic(auto, using(crate::proofs::SearchLemmas::kept_then))]
     fn try_configuration(
         &mut self,
         context: &Context<'_, StorageT>,
         conflict: &Conflict<StorageT>,
         number: usize,
-    ) -> Result<Turn, AllocError> {
+    ) -> Result<Turn, AllocError>
+        ensures kept { KeepsTried self.old self.new }
+        ensures not_over { IfOk result IsGoingOn }
+    {
         let Some(configuration) = self.get(number) else {
             return Ok(Turn::Further);
         };
@@ -319,6 +377,7 @@ impl<StorageT: StorageIndex> Search<StorageT> {
     }
 
     // Adds the configurations in which the derivation of this side makes one more reduction.
+    #[tactic(auto, using(crate::proofs::SearchLemmas::kept_then))]
     fn reduce(
         &mut self,
         context: &Context<'_, StorageT>,
@@ -326,7 +385,9 @@ impl<StorageT: StorageIndex> Search<StorageT> {
         parent: usize,
         configuration: &Configuration<StorageT>,
         side: Side,
-    ) -> Result<(), AllocError> {
+    ) -> Result<(), AllocError>
+        ensures { KeepsTried self.old self.new }
+    {
         let level = configuration.level_of(side);
         let Some(state) = self.state_at(context, level) else {
             return Ok(());
@@ -377,13 +438,16 @@ impl<StorageT: StorageIndex> Search<StorageT> {
     }
 
     // Adds the configurations that come by shifting a token: the conflict's one, if it wasn't shifted yet.
+    #[tactic(auto, using(crate::proofs::SearchLemmas::kept_then))]
     fn shift_tokens(
         &mut self,
         context: &Context<'_, StorageT>,
         conflict: &Conflict<StorageT>,
         parent: usize,
         configuration: &Configuration<StorageT>,
-    ) -> Result<(), AllocError> {
+    ) -> Result<(), AllocError>
+        ensures { KeepsTried self.old self.new }
+    {
         let Some((state, other)) = self.states_of(context, configuration) else {
             return Ok(());
         };
@@ -411,12 +475,15 @@ impl<StorageT: StorageIndex> Search<StorageT> {
     }
 
     // Adds the configurations that come by a rule that has tokens, by its minimal sentence.
+    #[tactic(auto, using(crate::proofs::SearchLemmas::kept_then))]
     fn shift_rules(
         &mut self,
         context: &Context<'_, StorageT>,
         parent: usize,
         configuration: &Configuration<StorageT>,
-    ) -> Result<(), AllocError> {
+    ) -> Result<(), AllocError>
+        ensures { KeepsTried self.old self.new }
+    {
         let Some((state, other)) = self.states_of(context, configuration) else {
             return Ok(());
         };
@@ -439,6 +506,7 @@ impl<StorageT: StorageIndex> Search<StorageT> {
     }
 
     // Adds the configuration that comes by this symbol, with these states.
+    #[tactic(auto, using(crate::proofs::SearchLemmas::kept_then))]
     fn shift_symbol(
         &mut self,
         context: &Context<'_, StorageT>,
@@ -447,7 +515,9 @@ impl<StorageT: StorageIndex> Search<StorageT> {
         symbol: Symbol<StorageT>,
         one: StIdx<StorageT>,
         other: StIdx<StorageT>,
-    ) -> Result<(), AllocError> {
+    ) -> Result<(), AllocError>
+        ensures { KeepsTried self.old self.new }
+    {
         let one = self.stacks.push(context, configuration.one, symbol, one)?;
         let other = self
             .stacks

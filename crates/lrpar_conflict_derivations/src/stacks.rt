@@ -29,10 +29,18 @@ pub(crate) struct Waiting<StorageT> {
 }
 
 /// The levels, the first of which is the bottom of each stack, and rows with the item that waits for each rule.
-#[derive(Drop)]
 pub(crate) struct Stacks<StorageT: StorageIndex> {
     levels: Vec<Level<StorageT>>,
     rows: Vec<Waiting<StorageT>>,
+}
+
+// A drop of its own, so that code that drops one elsewhere proves one call.
+impl<StorageT: StorageIndex> Drop for Stacks<StorageT> {
+    fn drop(self) {
+        let Stacks { levels, rows } = self;
+        drop(levels);
+        drop(rows);
+    }
 }
 
 impl<StorageT: StorageIndex> Stacks<StorageT> {

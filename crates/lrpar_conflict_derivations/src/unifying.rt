@@ -1,44 +1,93 @@
 //! The search for a unifying counterexample, shortest texts first. Its result is validated by a replay.
-ghost use Rattle.lrpar_conflict_derivations.specs.Stored.{HasSentences};
+ghost use Rattle.std.specs.Prelude.{IfOk};
+ghost use Rattle.lrpar_conflict_derivations.specs.Search.{FindsFor, IfUnifying};
+ghost use Rattle.lrpar_conflict_derivations.specs.Stored.{FindsExample, HasSentences, IsBuiltIn, IsConflictIn, IsFrontIn};
 
 use crate::context::Context;
+use crate::example::Example;
+use crate::examples::Front;
 use crate::minimal_sentences::{push_sentence, push_sentences};
 use crate::search::{Conflict, Origin, Search, Side, Turn};
 use crate::stacks::Stacks;
+use crate::validation::validated;
 use lrpar_grammar::span::{PIdx, StorageIndex, Symbol};
 use lrpar_table_sentences::access_strings::Step;
 use lrpar_table_sentences::moves::Move;
 use std::alloc::{AllocError, Global};
 
 /// The steps of an access path of the conflict's state, and the moves of two derivations after it.
-#[derive(Drop)]
-pub(crate) struct Unifying<StorageT> {
+pub(crate) struct Unifying<StorageT: StorageIndex> {
     pub(crate) steps: Vec<Step<StorageT>>,
     pub(crate) first: Vec<Move<StorageT>>,
     pub(crate) second: Vec<Move<StorageT>>,
 }
 
-/// An access path of the conflict's state, and two derivations after it that begin with the conflict's moves and have one text, if some are
-/// found within this number of turns. Nothing is promised of them.
+// A drop of its own, so that code that drops one elsewhere proves one call.
+impl<StorageT: StorageIndex> Drop for Unifying<StorageT> {
+    fn drop(self) {
+        let Unifying {
+            steps,
+            first,
+            second,
+        } = self;
+        drop(steps);
+        drop(first);
+        drop(second);
+    }
+}
+
+/// The first unifying counterexample of the conflict that is found within this number of turns, and the search as it ended. `front` is that
+/// of a shortest access path.
 pub(crate) fn find_unifying<StorageT: StorageIndex>(
     alloc: Global,
     context: &Context<'_, StorageT>,
+    front: &Front<StorageT>,
     conflict: &Conflict<StorageT>,
     bound: usize,
-) -> Result<Option<Unifying<StorageT>>, AllocError>
-    requires { HasSentences usize.MAX context.now }
+) -> Result<(Option<Example<StorageT>>, Search<StorageT>), AllocError>
+    requires built { IsBuiltIn context.now }
+    requires shortest { HasSentences usize.MAX context.now }
+    requires conflict { IsConflictIn StorageT.index context.now conflict.now }
+    requires front { IsFrontIn StorageT.index context.now conflict.now front.now }
+    ensures example { IfOk result (λ found. FindsExample StorageT.index context.now conflict.now bound found.0) }
+    ensures searched { IfOk result (FindsFor StorageT.index conflict.now bound) }
 {
     let mut search = Search::new(alloc, context, conflict)?;
     for _ in 0..bound {
         match search.turn(context, conflict)? {
-            Turn::Found(number) => return Ok(Some(unifying_of(
-                alloc, context, conflict, &search, number,
-            )?)),
+            Turn::Found(number) => {
+                if let Some(example) = example_at(
+                    alloc, context, front, conflict, &search, number, bound,
+                )? {
+                    return Ok((Some(example), search));
+                }
+            }
             Turn::Further => {}
-            Turn::Over => return Ok(None),
+            Turn::Over => return Ok((None, search)),
         }
     }
-    Ok(None)
+    Ok((None, search))
+}
+
+// The counterexample of the configuration, if its derivations are valid.
+fn example_at<StorageT: StorageIndex>(
+    alloc: Global,
+    context: &Context<'_, StorageT>,
+    front: &Front<StorageT>,
+    conflict: &Conflict<StorageT>,
+    search: &Search<StorageT>,
+    number: usize,
+    bound: usize,
+) -> Result<Option<Example<StorageT>>, AllocError>
+    requires built { IsBuiltIn context.now }
+    requires shortest { HasSentences usize.MAX context.now }
+    requires conflict { IsConflictIn StorageT.index context.now conflict.now }
+    requires front { IsFrontIn StorageT.index context.now conflict.now front.now }
+    ensures example { IfOk result (FindsExample StorageT.index context.now conflict.now bound) }
+    ensures unifying { IfOk result IfUnifying }
+{
+    let text = unifying_of(alloc, context, conflict, search, number)?;
+    validated(alloc, context, front, conflict, &text, bound)
 }
 
 // The access path and the derivations of the configuration.

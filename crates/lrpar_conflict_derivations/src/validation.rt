@@ -3,6 +3,7 @@ ghost use Rattle.std.specs.Prelude.{◌<◌, IfOk, IfSome, IsTrue};
 ghost use Rattle.lrpar_grammar.specs.Grammar.{Terminal};
 ghost use Rattle.lrpar_grammar.specs.Symbols.{symbol_of};
 ghost use Rattle.lrpar_table_rows.specs.Table.{states_len};
+ghost use Rattle.lrpar_conflict_derivations.specs.Search.{IfUnifying};
 ghost use Rattle.lrpar_conflict_derivations.specs.Stored.{AreJoined, AreSymbolsOf, BeginBy, FindsExample, FindsExampleAfter, FindsMovesTo, Goes, HasSentences, HasTwoMoves, IsBuiltIn, IsConflictIn, IsFrontIn, IsSameMove, LeadFromStart, ShiftFirst};
 
 use crate::context::Context;
@@ -33,7 +34,8 @@ pub(crate) fn validated<StorageT: StorageIndex>(
     requires shortest { HasSentences usize.MAX context.now }
     requires conflict { IsConflictIn StorageT.index context.now conflict.now }
     requires front { IsFrontIn StorageT.index context.now conflict.now front.now }
-    ensures { IfOk result (FindsExample StorageT.index context.now conflict.now bound) }
+    ensures example { IfOk result (FindsExample StorageT.index context.now conflict.now bound) }
+    ensures unifying { IfOk result IfUnifying }
 {
     match path_moves(alloc, context, &text.steps, conflict.state)? {
         None => Ok(None),
@@ -150,7 +152,8 @@ fn example_of<StorageT: StorageIndex>(
     bound: usize,
 ) -> Result<Option<Example<StorageT>>, AllocError>
     requires { HasTwoMoves StorageT.index conflict.now }
-    ensures { IfOk result (FindsExampleAfter StorageT.index grm.now conflict.now front.now short.now bound) }
+    ensures example { IfOk result (FindsExampleAfter StorageT.index grm.now conflict.now front.now short.now bound) }
+    ensures unifying { IfOk result IfUnifying }
 {
     let (first, second) = (text.first.as_slice(), text.second.as_slice());
     let (one, other, token) = (conflict.one, conflict.other, conflict.token);

@@ -8,8 +8,8 @@ use Rattle.lrpar_conflict_derivations.proofs.ExampleLemmas.{example_done, least_
 use Rattle.lrpar_conflict_derivations.proofs.ValidationLemmas.{validated_derives}
 use Rattle.lrpar_conflict_derivations.proofs.validation.example_of.Goals as goal
 
-pub returns : goal.returns
-returns g c =
+pub returns-clause-example : goal.returns-clause-example
+returns-clause-example g c =
     let index = g.StorageT.StorageIndex.index in
     let grm = c.args.grm.now in
     let conflict = c.args.conflict.now in
