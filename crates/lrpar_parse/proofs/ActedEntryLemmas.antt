@@ -7,7 +7,7 @@ use Rattle.lrpar_parse_lexemes.specs.PlacedSpans.{arguments_of, last_part, span_
 use Rattle.lrpar_parse_run.specs.Placed.{IsPlacedLexeme, IsPlacedValue}
 use Rattle.lrpar_parse_run.specs.Spans.{last_span, span_after}
 use Rattle.lrpar_parse_lexemes.specs.declared.placed.Placed.{Placed}
-use Rattle.lrpar_parse_run.proofs.PlacedLemmas.{same_ends}
+use Rattle.lrpar_parse_lexemes.proofs.PlacedLemmas.{same_ends}
 use Rattle.lrpar_parse.specs.Acted.{ActedTo, AllActedTo}
 use Rattle.lrpar_parse_run.specs.RunStack.{AllRepresent, Represents}
 use Rattle.lrpar_parse_run.specs.declared.values.AStackType.{AStackType}
