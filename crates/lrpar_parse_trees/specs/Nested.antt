@@ -22,13 +22,15 @@ abbrev pub end_of : Form → List ℕ
 end_of Brackets = codes " ]"
 end_of Json = codes "]}"
 
--- what comes before the trees of a node: the name of its rule, and an opening bracket
+-- what comes before the trees of a node in the form with brackets: the name of its rule, and an opening bracket
 abbrev pub bracket_rule : List ℕ → List ℕ
 bracket_rule name = name ++ codes "["
 
+-- what comes before the trees of a node in JSON: the beginning of an object, with its rule's name, and an opening bracket
 abbrev pub json_rule : List ℕ → List ℕ
 json_rule name = codes "{\"rule\":\"" ++ escaped name ++ codes "\",\"children\":["
 
+-- what comes before the trees of a node, by the form
 abbrev pub rule_front : Form → List ℕ → List ℕ
 rule_front Brackets name = bracket_rule name
 rule_front Json name = json_rule name

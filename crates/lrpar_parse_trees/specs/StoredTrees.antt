@@ -2,6 +2,7 @@
 -- type, and `parts` the parts of a lexeme.
 use Rattle.std.specs.Prelude.{ℕ, List, Option, Result, String, length, string_bytes}
 use Rattle.std.specs.List.{AllByRecursion}
+use Rattle.std.specs.declared.vec.Vec.{Vec}
 use Rattle.lrpar_grammar_places.specs.Strings.{HasText}
 use Rattle.lrpar_grammar.specs.Grammar.{Grammar}
 use Rattle.lrpar_parse_lexemes.specs.Lexemes.{LexemeParts, facts_of}
@@ -28,6 +29,10 @@ module _ {S X : Type 0} (index : S → ℕ) (parts : X → LexemeParts S) (g : G
   abbrev pub RootFits : ℕ → Node X S → Type 0
   RootFits level tree = MetFits (λ x. facts_of index (parts x)) index g input (root_at level tree)
 
+  -- the root of the tree fits, a level deeper than trees for each of which a list has an entry
+  abbrev pub RootFitsUnder : {A Z : Type 0} → Vec A Z → Node X S → Type 0
+  RootFitsUnder above tree = RootFits (length above.items) tree
+
   -- the root of the tree fits at the level that the spaces of a line give
   abbrev pub RootFitsAfter : {A : Type 0} → String A → Node X S → Type 0
   RootFitsAfter line tree = RootFits (length (string_bytes line)) tree
@@ -48,6 +53,10 @@ module _ {S X : Type 0} (index : S → ℕ) (parts : X → LexemeParts S) (g : G
     -- if the call succeeded, the line of the root of the tree was written, at this level
     abbrev pub WritesAt : {T E : Type 0} → ℕ → Node X S → W → W → Result T E → Type 0
     WritesAt level tree old new result = WritesAll (met_line (λ x. facts_of index (parts x)) index g input (root_at level tree)) contents old new result
+
+    -- if the call succeeded, the line of the root of the tree was written, a level deeper than trees for each of which a list has an entry
+    abbrev pub WritesUnder : {A Z T E : Type 0} → Vec A Z → Node X S → W → W → Result T E → Type 0
+    WritesUnder above tree old new result = WritesAt (length above.items) tree old new result
 
     -- if the call succeeded, the line of the root of the tree was written, at the level that the spaces of a line give
     abbrev pub WritesRoot : {A T E : Type 0} → String A → Node X S → W → W → Result T E → Type 0

@@ -1,6 +1,6 @@
 //! The text of a tree, written line by line.
 ghost use Rattle.std.specs.Prelude.{◌≡◌, ◌+◌, ◌++◌, ◌∷◌, [], OnOk, length};
-ghost use Rattle.lrpar_parse_trees.specs.StoredTrees.{FitsIn, RootFits, RootFitsAfter, WritesAt, WritesRoot, WritesTree};
+ghost use Rattle.lrpar_parse_trees.specs.StoredTrees.{FitsIn, RootFitsAfter, RootFitsUnder, WritesRoot, WritesTree, WritesUnder};
 ghost use Rattle.lrpar_parse_trees.specs.Written.{BeginsWithSpaces, HasOnlySpaces, IsSpaces, KeepsSpaces};
 
 use crate::node::Node;
@@ -76,8 +76,8 @@ fn write_child<'a, LexemeT: Lexeme<StorageT>, StorageT: StorageIndex, W: Write>(
     rest: &'a [Node<LexemeT, StorageT>],
 ) -> io::Result<()>
     requires { BeginsWithSpaces (length below.old.items) line.old }
-    ensures text { WritesAt StorageT.index LexemeT.parts grm.now input.now W.contents (length below.new.items) node.now out.old out.new result }
-    ensures fits { OnOk result (RootFits StorageT.index LexemeT.parts grm.now input.now (length below.new.items) node.now) }
+    ensures text { WritesUnder StorageT.index LexemeT.parts grm.now input.now W.contents below.new node.now out.old out.new result }
+    ensures fits { OnOk result (RootFitsUnder StorageT.index LexemeT.parts grm.now input.now below.new node.now) }
     ensures rest { OnOk result (below.new.items ≡ below.old.items ++ rest.entry ∷ []) }
     ensures indent { OnOk result (BeginsWithSpaces (length below.new.items) line.new) }
 {
