@@ -1,5 +1,5 @@
 //! The declarations and rules of a grammar text.
-ghost use Rattle.std.specs.Prelude.{◌≡◌, IfOk, IfErr, OnOk};
+ghost use Rattle.std.specs.Prelude.{◌≡◌, ◌++◌, ◌∷◌, [], IfOk, IfErr, OnOk};
 ghost use Rattle.lrpar_grammar_words.specs.Words.{placed};
 ghost use Rattle.lrpar_grammar_words.specs.declared.outline.OutlineFault.TheVariants.{Memory};
 
@@ -141,16 +141,15 @@ impl<'a> Outline<'a> {
         ensures { OnOk result (outline_of self.new ≡ with_word (outline_of self.old) role (placed word.entry)) }
     {
         match role {
-            Role::Sign => {}
-            Role::Start => self.starts.push(word)?,
-            Role::Declared => self.declared.push(word)?,
-            Role::EppOf => self.epps.push(word)?,
-            Role::Epp => self.epp_texts.push(word)?,
-            Role::Defined => self.defined.push(word)?,
-            Role::Symbol => self.symbols.push(word)?,
-            Role::AlternativeEnd => self.end_alternative(alloc, word)?,
+            Role::Sign => Ok(()),
+            Role::Start => push(&mut self.starts, word),
+            Role::Declared => push(&mut self.declared, word),
+            Role::EppOf => push(&mut self.epps, word),
+            Role::Epp => push(&mut self.epp_texts, word),
+            Role::Defined => push(&mut self.defined, word),
+            Role::Symbol => push(&mut self.symbols, word),
+            Role::AlternativeEnd => self.end_alternative(alloc, word),
         }
-        Ok(())
     }
 
     // Ends the alternative that has the symbols so far.
@@ -165,4 +164,11 @@ impl<'a> Outline<'a> {
         }
         Ok(())
     }
+}
+
+// Appends a word.
+fn push<'a>(words: &mut Vec<Word<'a>>, word: Word<'a>) -> Result<(), AllocError>
+    ensures { OnOk result (words.new.items ≡ words.old.items ++ word.entry ∷ []) }
+{
+    Ok(words.push(word)?)
 }

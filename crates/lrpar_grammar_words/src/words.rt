@@ -178,8 +178,8 @@ fn line_len(text: &[u8]) -> usize
     text.len()
 }
 
-// The number of bytes up to the end of the first `*/`.
-fn closed_len(text: &[u8]) -> Option<usize>
+/// The number of bytes up to the end of the first `*/`, if there is one. Takes time linear in that number.
+pub fn closed_len(text: &[u8]) -> Option<usize>
     ensures len { result ≡ closed_len text.now }
     ensures within { IfSome result (λ len. len ≤ length text.now) }
 {
@@ -253,8 +253,8 @@ fn name_after(first: u8, after: &[u8]) -> Option<Piece>
     }
 }
 
-// The number of bytes at the start of the text that may be in a name.
-fn name_len(text: &[u8]) -> usize
+/// The number of bytes at the start of the text that may be in a name.
+pub fn name_len(text: &[u8]) -> usize
     ensures len { result ≡ prefix_len is_in_name text.now }
     ensures within { result ≤ length text.now }
     ensures ascii { (k : ℕ) → k < result → slice_index text.now k < 128 }
@@ -267,16 +267,16 @@ fn name_len(text: &[u8]) -> usize
     text.len()
 }
 
-// Whether a name may begin with the byte.
-fn begins_name(byte: u8) -> bool
+/// Whether a name may begin with the byte.
+pub fn begins_name(byte: u8) -> bool
     ensures begins { result ≡ begins_name byte }
     ensures ascii { IsTrue result → byte < 128 }
 {
     matches!(byte, b'a'..=b'z' | b'A'..=b'Z' | b'_' | b'.')
 }
 
-// Whether a name may contain the byte.
-fn is_in_name(byte: u8) -> bool
+/// Whether a name may contain the byte.
+pub fn is_in_name(byte: u8) -> bool
     ensures within { result ≡ is_in_name byte }
     ensures ascii { IsTrue result → byte < 128 }
 {

@@ -1,4 +1,3 @@
-pub mod CodeLemmas
 pub mod EndLemmas
 pub mod PartLemmas
 pub mod StepLemmas
@@ -6,5 +5,4 @@ pub mod DeclareLemmas
 pub mod OwnLemmas
 pub mod FaultLemmas
 pub mod BlankLemmas
-pub mod LiteralLemmas
 pub mod YaccFileLemmas

@@ -1,9 +1,7 @@
-pub mod Code
 pub mod Parts
 pub mod Steps
 pub mod Erasure
 pub mod Declares
 pub mod Faults
 pub mod Laws
-pub mod Literals
 pub mod YaccFiles

@@ -7,14 +7,14 @@ use Rattle.lrpar_grammar_words.specs.declared.words.WordKind.TheVariants.{Name, 
 use Rattle.lrpar_grammar_words.specs.declared.word_order.Expected.{Expected}
 use Rattle.lrpar_grammar_words.specs.declared.word_order.Expected.TheVariants.{Declaration, MoreTokens, RuleColon, NextSymbol, TextEnd}
 use Rattle.lrpar_grammar_words.specs.Words.{is_digit, piece_at}
-use Rattle.lrpar_grammar_yacc.specs.declared.code.Run.TheVariants.{Braced, Typed}
+use Rattle.lrpar_grammar_code.specs.declared.code.Run.TheVariants.{Braced, Typed}
 use Rattle.lrpar_table_precedence.specs.declared.precedence.AssocKind.TheVariants.{Left, Right, Nonassoc}
 use Rattle.lrpar_grammar_yacc.specs.declared.parts.Part.{Part}
 use Rattle.lrpar_grammar_yacc.specs.declared.parts.PartKind.{PartKind}
 use Rattle.lrpar_grammar_yacc.specs.declared.parts.PartKind.TheVariants.{Level, AvoidInsert, ExpectUnused, Expect, ExpectRr, ActionType, ParseParam, Header, RuleType, Action, Prec, Empty, Programs}
 use Rattle.lrpar_grammar_yacc.specs.declared.parts.YaccKind.{YaccKind}
 use Rattle.lrpar_grammar_yacc.specs.declared.parts.YaccKind.TheVariants.{Grmtools, Original}
-use Rattle.lrpar_grammar_yacc.specs.Code.{more, run_len}
+use Rattle.lrpar_grammar_code.specs.Code.{more, run_len}
 
 -- a name or a quoted word
 abbrev pub is_name : Option WordKind → Bool

@@ -1,7 +1,6 @@
 //! `.y` files of lrpar and of yacc: their erasure to a grammar text, the grammar that is left, and what they declare beside it.
 #![tactic(auto)]
 
-mod code;
 pub mod declarations;
 pub mod faults;
 pub mod file;

@@ -4,7 +4,7 @@ ghost use Rattle.std.specs.List.{prefix_len};
 ghost use Rattle.lrpar_grammar_words.specs.Words.{is_digit};
 ghost use Rattle.lrpar_grammar_yacc.specs.Parts.{EndsAtAscii, IsPartWithin, blanks_len, braces_len, declaration_at, header_part, is_name, is_original, line_part, names_len, names_part, number_part, other_declaration_at, part_at, prec_part, programs_at, symbol_at, type_at};
 
-use crate::code::{Run, line_len, run_len};
+use lrpar_grammar_code::code::{Run, line_len, run_len};
 use lrpar_grammar_words::word_order::Expected;
 use lrpar_grammar_words::words::{WordKind, piece_at};
 use lrpar_table_precedence::precedence::AssocKind;

@@ -1,6 +1,7 @@
 //! Cases of grammars, of underlined messages, of reports, and of counterexamples.
 #![tactic(auto)]
 
+pub mod bison;
 pub mod examples;
 pub mod grammars;
 pub mod parts;

@@ -3,7 +3,7 @@ use crate::{commands, streams};
 use std::alloc::Global;
 use std::rt::Files;
 use test_case_faults::faults;
-use test_case_grammars::{examples, grammars, parts, reports, spelled, underlines, yacc};
+use test_case_grammars::{bison, examples, grammars, parts, reports, spelled, underlines, yacc};
 use test_case_lexers::lrlex;
 use test_case_lines::cases::Case;
 use test_case_lines::fault::Fault;
@@ -20,6 +20,7 @@ pub(crate) fn inputs_of(kind: &str) -> &'static [&'static str] {
         "streams" => streams::INPUTS,
         "text" | "cuts" => grammars::INPUTS,
         "yacc" | "yacc_cuts" => yacc::INPUTS,
+        "bison" => bison::INPUTS,
         "lrlex" | "lrlex_cuts" => lrlex::INPUTS,
         "parts" => parts::INPUTS,
         "spelled" => spelled::INPUTS,
@@ -54,6 +55,7 @@ pub(crate) fn outcome<R: Files>(
         "cuts" => grammars::outcome_of_cuts(out, alloc, case),
         "yacc" => yacc::outcome(out, alloc, case),
         "yacc_cuts" => yacc::outcome_of_cuts(out, alloc, case),
+        "bison" => bison::outcome(out, alloc, case),
         "lrlex" => lrlex::outcome(out, alloc, case),
         "lrlex_cuts" => lrlex::outcome_of_cuts(out, alloc, case),
         "parts" => parts::outcome(out, alloc, case),

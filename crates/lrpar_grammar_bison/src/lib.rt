@@ -1,0 +1,5 @@
+//! `.y` files as bison reads them: their words.
+#![tactic(auto)]
+
+pub mod word_list;
+pub mod words;

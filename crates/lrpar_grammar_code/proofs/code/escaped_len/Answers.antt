@@ -1,0 +1,11 @@
+use Rattle.std.proofs.Common.{◌+◌, drop, sym, ap, ◌∙◌}
+use Rattle.lrpar_grammar_code.specs.Code.{escaped_len, more}
+use Rattle.lrpar_grammar_code.proofs.CodeLemmas.{escaped_more}
+use Rattle.lrpar_grammar_code.proofs.code.escaped_len.Goals as goal
+
+pub loop-i-preserved : goal.loop-i-preserved
+loop-i-preserved c =
+    let text = c.args.text.now in
+    let i = c.loop-i.i in
+    c.loop-i.invariant ∙ escaped_more c.args.quote c.loop-i.escaped text i c.loop-i-test.true (sym c.is_unescaped.ensures.unescaped ∙ c.if-is_unescaped.false)
+    ∙ ap (λ e. more (i + 1) (escaped_len c.args.quote e (drop (i + 1) text))) (sym c.is_unescaped-escaped.ensures.unescaped)

@@ -1,5 +1,0 @@
-use Rattle.lrpar_grammar_yacc.proofs.LiteralLemmas.{literals_are_one_piece}
-use Rattle.lrpar_grammar_yacc.proofs.laws.literals_are_one_piece.Goals as goal
-
-pub returns : goal.returns
-returns c = literals_are_one_piece
