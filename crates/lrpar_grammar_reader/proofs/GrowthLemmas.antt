@@ -11,13 +11,6 @@ pub take_map_more : {X Y : Type 0} (f : X → Y) (xs : List X) (i : ℕ) (d : X)
 take_map_more f xs i d within =
     take_more (map f xs) i (f d) (omega (arith, length-map xs f)) ∙ ap (λ y. take i (map f xs) ++ y ∷ []) (get_or-map f xs i d (f d) within)
 
--- an element is pushed
-pub pushed : {X Y : Type 0} (f : X → Y) (items new : List X) (base : List Y) (xs : List X) (i : ℕ) (d : X) → i < length xs
-    → new ≡ items ++ get_or xs i d ∷ [] → map f items ≡ base ++ take i (map f xs) → map f new ≡ base ++ take (i + 1) (map f xs)
-pushed f items new base xs i d within is so_far =
-    ap (map f) is ∙ map-append f items (get_or xs i d ∷ []) ∙ ap (λ s. s ++ f (get_or xs i d) ∷ []) so_far
-    ∙ append_assoc base (take i (map f xs)) (f (get_or xs i d) ∷ []) ∙ ap (λ s. base ++ s) (sym (take_map_more f xs i d within))
-
 -- what a filter keeps of a list with one element
 filter_one : {Y : Type 0} (p : Y → Bool) (y : Y) (b : Bool) → p y ≡ b → filter p (y ∷ []) ≡ cond b (y ∷ []) []
 filter_one p y b is = ap (λ c. cond c (y ∷ []) []) is

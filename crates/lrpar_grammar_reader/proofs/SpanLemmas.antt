@@ -3,9 +3,11 @@ use Rattle.std.proofs.Common.{◌≡◌, ◌<◌, ◌≤◌, ◌-◌, ℕ, List,
 use Rattle.std.specs.List.{slice_get}
 use Rattle.std.proofs.lemmas.Bool.{cases_lt}
 use Rattle.std.proofs.lemmas.Option.{get_or_from_slice_get, same_Some, slice_get-get_or, slice_get-map, slice_get_within}
+use Rattle.lrpar_grammar_places.specs.Span.{Extent}
 use Rattle.lrpar_grammar_words.specs.declared.words.Word.{Word}
 use Rattle.lrpar_grammar_words.specs.Words.{PlacedWord, placed}
-use Rattle.lrpar_grammar_words.specs.Outline.{AreWordsInOrder}
+use Rattle.lrpar_grammar_words.specs.Outline.{AreWordsInOrder, TextAlternative}
+use Rattle.lrpar_grammar_reader.specs.Spells.{alternative_span, span_between}
 
 -- a word of the code is one of the mapped list
 pub placed_at : (words items : List Word) (k j : ℕ) (w : Word) → items ≡ words → k ≡ j → ◌≡◌ {A = Option Word} (Some w) (slice_get items k)
@@ -35,3 +37,11 @@ ordered_ends ws a b order first last one other =
           let same : b ≡ a = same_Some b a (sym last ∙ ap (slice_get ws) place ∙ first) in
           subst (λ w. a.span.start ≤ w.span.end) (sym same) one
     ]
+
+-- the place from the start of an alternative's first symbol to the end of its last
+pub between_ends : (x : TextAlternative) (a b : PlacedWord) (span : Extent) → slice_get x.symbols 0 ≡ Some a → slice_get x.symbols (length x.symbols - 1) ≡ Some b
+    → span.start ≡ a.span.start → span.end ≡ b.span.end → span ≡ alternative_span x
+between_ends x a b span first last start end =
+    let none : Extent = record { start = x.end.span.start; end = x.end.span.start } in
+    ap (λ s. record { start = s; end = span.end }) start ∙ ap (λ e. record { start = a.span.start; end = e }) end
+    ∙ sym (ap (λ (r : Option PlacedWord). span_between r (slice_get x.symbols (length x.symbols - 1)) none) first ∙ ap (λ (r : Option PlacedWord). span_between (Some a) r none) last)

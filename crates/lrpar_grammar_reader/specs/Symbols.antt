@@ -22,3 +22,7 @@ IsRuleAmong index rules rule = (0 < index rule.0) × (index rule.0 < rules + 1)
 -- the symbol is among these numbers of listed rules and tokens
 abbrev pub IsSymbolAmong : {S : Type 0} → (S → ℕ) → ℕ → ℕ → Symbol S → Type 0
 IsSymbolAmong index rules tokens symbol = IsDeclaredSymbol (rules + 1) tokens (symbol_of index symbol)
+
+-- this many rules, tokens and productions, with what a grammar adds to them, can be numbered below `limit`
+abbrev pub AreBelow : ℕ → ℕ → ℕ → ℕ → Type 0
+AreBelow limit rules tokens prods = (rules < limit) × (tokens < limit) × (prods < limit)

@@ -52,10 +52,6 @@ NumbersWords numbers words = AreNumbers numbers (map placed words.items)
 abbrev pub AddsName : {A : Type 0} → Vec Word A → Vec Word A → Word → Type 0
 AddsName old new word = map placed new.items ≡ with_name (map placed old.items) (placed word)
 
--- these words were appended
-abbrev pub AppendsWords : {A : Type 0} → Vec Word A → Vec Word A → List Word → Type 0
-AppendsWords old new more = map placed new.items ≡ map placed old.items ++ map placed more
-
 -- the tokens among these words were appended, if those are the declared ones
 abbrev pub AppendsTokens : {A : Type 0} → Vec Word A → Vec Word A → List PlacedWord → List Word → Type 0
 AppendsTokens old new declared symbols = map placed new.items ≡ map placed old.items ++ filter (is_token declared) (map placed symbols)
@@ -64,6 +60,11 @@ AppendsTokens old new declared symbols = map placed new.items ≡ map placed old
 abbrev pub AreTokenWords : {A : Type 0} → List PlacedWord → Outline → Vec Word A → Type 0
 AreTokenWords declared outline words =
     map placed words.items ≡ map placed outline.declared.items ++ used_tokens declared (map alternative_of outline.alternatives.items)
+
+-- these are the tokens that the outline declares or its alternatives use: of each name the first word
+abbrev pub AreTokensBy : List PlacedWord → Outline → List PlacedWord → Type 0
+AreTokensBy declared outline names =
+    names ≡ first_of_each (map placed outline.declared.items ++ used_tokens declared (map alternative_of outline.alternatives.items))
 
 -- no word has one of the names, or the first that has one is at this place
 abbrev pub FindsAmong : List PlacedWord → List Word → Option Extent → Type 0

@@ -1,7 +1,7 @@
 //! The parts of a grammar, as a reader or a caller supplies them, and their faults.
 ghost use Rattle.std.specs.Prelude.{◌≡◌, ◌↔◌, IsTrue, IfSome, IfNone};
 ghost use Rattle.lrpar_grammar_reader.specs.declared.parts.GrammarFault.TheVariants.{Memory};
-ghost use Rattle.lrpar_grammar_reader.specs.Symbols.{IsRuleAmong, IsSymbolAmong};
+ghost use Rattle.lrpar_grammar_reader.specs.Symbols.{AreBelow, IsRuleAmong, IsSymbolAmong};
 
 use lrpar_grammar_places::span::{RIdx, Span, StorageIndex, Symbol};
 use std::alloc::{AllocError, AllocFailed};
@@ -130,9 +130,7 @@ impl<StorageT: StorageIndex> GrammarParts<StorageT> {
     fn fit_storage(&self) -> bool
         ensures { IsTrue result ↔ FitStorage StorageT.limit (parts_of StorageT.index self.now) }
     {
-        StorageT::from_index(self.rules.len()).is_some()
-            && StorageT::from_index(self.tokens.len()).is_some()
-            && StorageT::from_index(self.prods.len()).is_some()
+        can_number::<StorageT>(self.rules.len(), self.tokens.len(), self.prods.len())
     }
 
     // Whether the start rule is a listed rule.
@@ -171,6 +169,15 @@ impl<StorageT: StorageIndex> ProdPart<StorageT> {
         }
         is_declared_rule(self.rule, rules)
     }
+}
+
+// Whether the storage type can number this many rules, tokens and productions, with what a grammar adds to them.
+pub(crate) fn can_number<StorageT: StorageIndex>(rules: usize, tokens: usize, prods: usize) -> bool
+    ensures { IsTrue result ↔ AreBelow StorageT.limit rules tokens prods }
+{
+    StorageT::from_index(rules).is_some()
+        && StorageT::from_index(tokens).is_some()
+        && StorageT::from_index(prods).is_some()
 }
 
 // Whether the rule is one of `rules` listed rules.

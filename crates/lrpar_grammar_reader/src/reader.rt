@@ -10,7 +10,7 @@ ghost use Rattle.lrpar_grammar_reader.specs.TextWords.{AreEppsOf, HasDefinedRule
 use crate::parts::{GrammarFault, GrammarParts};
 use crate::spelled::{fit, spelled_parts};
 use crate::tables::Tables;
-use crate::wrong_names::has_known_names;
+use crate::wrong_names::check_names;
 use lrpar_grammar_places::span::StorageIndex;
 use lrpar_grammar_words::outline::{Outline, OutlineFault};
 use std::alloc::Global;
@@ -58,13 +58,13 @@ fn checked_parts<StorageT: StorageIndex>(
     ensures parts { IfOk result (ArePartsOf StorageT.index StorageT.limit outline.now) }
     ensures err { IfErr result (RefusesOutline StorageT.limit outline.now) }
 {
-    has_one_start(outline)?;
+    refuse_second_start(outline)?;
     let tables = Tables::new(alloc, outline)?;
     named_parts(alloc, outline, &tables)
 }
 
 // Refuses a second `%start`.
-fn has_one_start(outline: &Outline) -> Result<(), GrammarFault>
+fn refuse_second_start(outline: &Outline) -> Result<(), GrammarFault>
     ensures ok { OnOk result (length (outline_of outline.now).starts ≤ 1) }
     ensures err { IfErr result (HasFault (outline_of outline.now)) }
 {
@@ -91,7 +91,7 @@ fn named_parts<StorageT: StorageIndex>(
     if outline.defined.is_empty() {
         return Err(GrammarFault::NoRules);
     }
-    has_known_names(outline, tables)?;
+    check_names(outline, tables)?;
     fitting_parts(alloc, outline, tables)
 }
 

@@ -8,7 +8,7 @@ ghost use Rattle.lrpar_grammar_reader.specs.TextParts.{ArePlacedAs, AreProdsOf, 
 ghost use Rattle.lrpar_grammar_reader.specs.TextWords.{AreEppsOf, AreInOrder, HasDefinedRules, HasSymbolsInOrder, IsInOrder};
 
 use crate::names::Names;
-use crate::parts::{GrammarParts, ProdPart, RulePart, TokenPart};
+use crate::parts::{GrammarParts, ProdPart, RulePart, TokenPart, can_number};
 use crate::tables::{Tables, is_token};
 use lrpar_grammar_places::span::{RIdx, Span, StorageIndex, Symbol, TIdx};
 use lrpar_grammar_words::outline::{Alternative, Outline};
@@ -41,9 +41,11 @@ pub fn spelled_parts<StorageT: StorageIndex>(
 pub fn fit<StorageT: StorageIndex>(outline: &Outline, tables: &Tables) -> bool
     ensures { IsTrue result ↔ HasRoomFor StorageT.limit outline.now tables.now }
 {
-    StorageT::from_index(tables.rules.len()).is_some()
-        && StorageT::from_index(tables.tokens.len()).is_some()
-        && StorageT::from_index(outline.alternatives.len()).is_some()
+    can_number::<StorageT>(
+        tables.rules.len(),
+        tables.tokens.len(),
+        outline.alternatives.len(),
+    )
 }
 
 // The rule after `%start`, else the first rule.

@@ -3,7 +3,7 @@ ghost use Rattle.std.specs.Prelude.{◌≡◌, ◌≤◌, IfErr, IfOk, OnOk, len
 ghost use Rattle.lrpar_grammar_words.specs.Words.{placed};
 ghost use Rattle.lrpar_grammar_words.specs.Outline.{outline_of};
 ghost use Rattle.lrpar_grammar_reader.specs.Spells.{HasFault, is_quoted, is_token};
-ghost use Rattle.lrpar_grammar_reader.specs.TextWords.{AppendsTokens, AppendsWords, AreEppsOf, AreTokenWords, HasDistinctEpps};
+ghost use Rattle.lrpar_grammar_reader.specs.TextWords.{AppendsTokens, AreEppsOf, AreTokenWords, AreTokensBy, HasDistinctEpps};
 
 use crate::names::Names;
 use crate::parts::GrammarFault;
@@ -12,12 +12,27 @@ use lrpar_grammar_words::words::{Word, WordKind};
 use std::alloc::{AllocError, Global};
 
 /// The rules, the declared tokens, all tokens, and the tokens of the `%epp`s of a grammar text.
-#[derive(Drop)]
 pub struct Tables<'a> {
     pub rules: Names<'a>,
     pub declared: Names<'a>,
     pub tokens: Names<'a>,
     pub epps: Names<'a>,
+}
+
+// Hand-written, so that code that drops tables needs the proof of one call only.
+impl<'a> Drop for Tables<'a> {
+    fn drop(self) {
+        let Tables {
+            rules,
+            declared,
+            tokens,
+            epps,
+        } = self;
+        drop(rules);
+        drop(declared);
+        drop(tokens);
+        drop(epps);
+    }
 }
 
 impl<'a> Tables<'a> {
@@ -33,10 +48,17 @@ impl<'a> Tables<'a> {
         ensures err { IfErr result (HasFault (outline_of outline.now)) }
     {
         let epps = Names::of_epps(alloc, outline)?;
+        Ok(Tables::with_epps(alloc, outline, epps)?)
+    }
+
+    // The tables of an outline, with the tokens of its `%epp`s.
+    fn with_epps(alloc: Global, outline: &Outline<'a>, epps: Names<'a>) -> Result<Self, AllocError>
+        ensures numbering { IfOk result (HasNumbering outline.now) }
+        ensures epps { IfOk result (λ tables. tables.epps ≡ epps.entry) }
+    {
         let rules = Names::first_of_each(alloc, &outline.defined)?;
         let declared = Names::first_of_each(alloc, &outline.declared)?;
-        let words = token_words(alloc, outline, &declared)?;
-        let tokens = Names::first_of_each(alloc, &words)?;
+        let tokens = token_names(alloc, outline, &declared)?;
         Ok(Tables {
             rules,
             declared,
@@ -60,6 +82,18 @@ fn is_quoted(kind: WordKind) -> bool
     matches!(kind, WordKind::Quoted)
 }
 
+// The declared tokens and those that the alternatives use: of each name the first word.
+fn token_names<'a>(
+    alloc: Global,
+    outline: &Outline<'a>,
+    declared: &Names,
+) -> Result<Names<'a>, AllocError>
+    ensures { IfOk result (AreTokensBy declared.now outline.now) }
+{
+    let words = token_words(alloc, outline, declared)?;
+    Names::first_of_each(alloc, &words)
+}
+
 // The declared tokens, and after them those that the alternatives use.
 fn token_words<'a>(
     alloc: Global,
@@ -68,22 +102,11 @@ fn token_words<'a>(
 ) -> Result<Vec<Word<'a>>, AllocError>
     ensures { IfOk result (AreTokenWords declared.now outline.now) }
 {
-    let mut words = Vec::new(alloc);
-    push_all(&mut words, &outline.declared)?;
+    let mut words = Vec::from_slice(alloc, &outline.declared)?;
     for alternative in &outline.alternatives {
         push_tokens(&mut words, &alternative.symbols, declared)?;
     }
     Ok(words)
-}
-
-// Appends the words.
-fn push_all<'a>(words: &mut Vec<Word<'a>>, more: &[Word<'a>]) -> Result<(), AllocError>
-    ensures { OnOk result (AppendsWords words.old words.new more.now) }
-{
-    for word in more {
-        words.push(*word)?;
-    }
-    Ok(())
 }
 
 // Appends the words that represent tokens.

@@ -15,7 +15,7 @@ use lrpar_grammar_words::words::Word;
 /// Refuses wrong names. In this order, each at the first such word: with `TokenIsRule` a rule that has the name of a declared
 /// token, with `UnknownRule` a name after `%start` that is no rule or a symbol that is neither a rule nor a token, and with
 /// `UnknownToken` a name after `%epp` that is no token. The caller must have ruled out the faults that come before these.
-pub fn has_known_names(outline: &Outline, tables: &Tables) -> Result<(), GrammarFault>
+pub fn check_names(outline: &Outline, tables: &Tables) -> Result<(), GrammarFault>
     requires once { AreDeclaredOnce (outline_of outline.now) }
     requires some_rule { (outline_of outline.now).defined ≢ [] }
     ensures ok { OnOk result (HasKnownNames tables.now outline.now) }

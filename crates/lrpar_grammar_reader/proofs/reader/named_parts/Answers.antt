@@ -5,8 +5,8 @@ use Rattle.lrpar_grammar_reader.specs.Spells.{AreNamesKnown}
 use Rattle.lrpar_grammar_reader.proofs.SpellsLemmas.{mapped_some}
 use Rattle.lrpar_grammar_reader.proofs.reader.named_parts.Goals as goal
 
-pub has_known_names-requires : goal.has_known_names-requires
-has_known_names-requires g c = record {
+pub check_names-requires : goal.check_names-requires
+check_names-requires g c = record {
   once = c.requires.once;
   some_rule = mapped_some placed c.args.outline.now.defined.items (search rules);
 }
@@ -21,7 +21,7 @@ fitting_parts-requires g c =
         one_start = c.requires.once.one_start;
         one_epp_each = c.requires.once.one_epp_each;
         some_rule = mapped_some placed c.args.outline.now.defined.items (search rules);
-        names_known = subst (λ n. AreNamesKnown n o) c.requires.numbering c.in_ok-has_known_names.ensures.ok;
+        names_known = subst (λ n. AreNamesKnown n o) c.requires.numbering c.in_ok-check_names.ensures.ok;
       };
       rules = c.requires.rules;
       order = c.requires.order;

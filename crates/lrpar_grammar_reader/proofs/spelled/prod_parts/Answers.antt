@@ -1,4 +1,4 @@
-use Rattle.std.proofs.Common.{sym, ap, subst, ◌∙◌, arith}
+use Rattle.std.proofs.Common.{◌≡◌, sym, subst, arith}
 use Rattle.lrpar_grammar_words.specs.Outline.{AreWordsInOrder, TextAlternative, alternative_of}
 use Rattle.lrpar_grammar_reader.specs.Parts.{prod_of}
 use Rattle.lrpar_grammar_reader.specs.Spells.{prod_of_alternative}
@@ -22,5 +22,5 @@ pub loop-alternative-preserved : goal.loop-alternative-preserved
 loop-alternative-preserved g c =
     let x = c.alternative-item.result in
     let prod = prod_of_alternative (numbering_by c.args.tables.now) in
-    made_more alternative_of prod (prod_of g.StorageT.StorageIndex.index) _ _ _ c.args.alternatives.now c.loop-alternative.alternative-index x (omega arith)
-    c.in_ok-push.ensures.items (c.in_ok-prod_part.ensures ∙ ap (λ y. prod (alternative_of y)) c.alternative-item.is) c.loop-alternative.invariant
+    made_more alternative_of prod (prod_of g.StorageT.StorageIndex.index) c.loop-alternative.parts.items c.push.new.self.items c.in_ok-prod_part.field-0 c.args.alternatives.now c.loop-alternative.alternative-index x (omega arith)
+    c.in_ok-push.ensures.items (subst (λ y. prod_of g.StorageT.StorageIndex.index c.in_ok-prod_part.field-0 ≡ prod (alternative_of y)) c.alternative-item.is c.in_ok-prod_part.ensures) c.loop-alternative.invariant

@@ -14,9 +14,11 @@ pub loop-word-preserved : goal.loop-word-preserved
 loop-word-preserved g c =
     let words = c.args.words.now in
     let i = c.loop-word.word-index in
+    let pairs = c.loop-word.pairs.items in
+    let new = c.push.new.self.items in
     record {
-      symbols = made_more placed (symbol_of_word (numbering_by c.args.tables.now)) (λ pair. symbol_of g.StorageT.StorageIndex.index pair.0) _ _ _ words i _ c.loop-word-test.true
+      symbols = made_more placed (symbol_of_word (numbering_by c.args.tables.now)) (λ pair. symbol_of g.StorageT.StorageIndex.index pair.0) pairs new (c.symbol.result, c.span.result) words i _ c.loop-word-test.true
           c.in_ok-push.ensures.items c.symbol.ensures c.loop-word.invariant.symbols;
-      spans = made_more placed (λ (w : PlacedWord). w.span) (λ pair. pair.1) _ _ _ words i _ c.loop-word-test.true
+      spans = made_more placed (λ (w : PlacedWord). w.span) (λ pair. pair.1) pairs new (c.symbol.result, c.span.result) words i _ c.loop-word-test.true
           c.in_ok-push.ensures.items c.span.ensures c.loop-word.invariant.spans;
     }

@@ -1,7 +1,7 @@
 use Rattle.std.proofs.Common.{Some, option_map, ap, sym, ◌∙◌}
 use Rattle.lrpar_grammar_words.specs.Words.{PlacedWord}
 use Rattle.lrpar_grammar_reader.proofs.SpanLemmas.{placed_index}
-use Rattle.lrpar_grammar_reader.proofs.reader.has_one_start.Goals as goal
+use Rattle.lrpar_grammar_reader.proofs.reader.refuse_second_start.Goals as goal
 
 pub returns-in-Some-clause-err : goal.returns-in-Some-clause-err
 returns-in-Some-clause-err c =

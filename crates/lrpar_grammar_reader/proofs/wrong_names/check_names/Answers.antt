@@ -6,7 +6,7 @@ use Rattle.lrpar_grammar_reader.specs.Names.{is_among}
 use Rattle.lrpar_grammar_reader.specs.Spells.{LiesAt}
 use Rattle.lrpar_grammar_reader.specs.TextNames.{numbering_by}
 use Rattle.lrpar_grammar_reader.proofs.FaultsLemmas.{no_token_rule, no_unknown_rule, start_unknown, symbol_unknown}
-use Rattle.lrpar_grammar_reader.proofs.wrong_names.has_known_names.Goals as goal
+use Rattle.lrpar_grammar_reader.proofs.wrong_names.check_names.Goals as goal
 
 pub returns-in-Some-find_missing-clause-err : goal.returns-in-Some-find_missing-clause-err
 returns-in-Some-find_missing-clause-err c =
