@@ -1,10 +1,11 @@
 //! A text and its lines.
-ghost use Rattle.std.specs.Prelude.{◌≡◌, ◌↔◌, ◌≤◌, IfOk, IfSome, IsSome, OnOk, length, slice_range};
+ghost use Rattle.std.specs.Prelude.{◌≡◌, ◌↔◌, ◌≤◌, IfOk, IfSome, IsSome, OnOk, length};
 ghost use Rattle.std.specs.Str.{IsCharBoundary};
-ghost use Rattle.lrpar_grammar_places.specs.Lines.{column_of, line_end, line_of, line_start, line_table};
+ghost use Rattle.lrpar_grammar_places.specs.Lines.{column_of, line_of, line_table};
 ghost use Rattle.lrpar_grammar_places.specs.Span.{IsPartOf};
 ghost use Rattle.lrpar_grammar_places.specs.Strings.{Appends};
-ghost use Rattle.lrpar_report_columns.specs.Columns.{columns, margin, mark_end, mark_start, printed_line, repeated, text_end};
+ghost use Rattle.lrpar_report_columns.specs.Columns.{margin, printed_line, repeated};
+ghost use Rattle.lrpar_report_columns.specs.Lines.{AreCharBoundaries, AreColumnsOf, IsEndOfLine, IsEndOfMark, IsEndOfText, IsNumberOfLine, IsStartOfLine, IsStartOfMark, IsTextBetween};
 
 use lrpar_grammar_places::lines::NewlineCache;
 use lrpar_grammar_places::span::Span;
@@ -59,7 +60,7 @@ impl<'a> Lines<'a> {
 
     /// The line of a byte, counted from 1; 0 after the text's end.
     pub fn number(&self, byte: usize) -> usize
-        ensures { byte ≤ length self.now → result ≡ line_of self.now byte }
+        ensures { IsNumberOfLine self.now byte result }
     {
         self.cache.byte_to_line_num(byte).unwrap_or(0)
     }
@@ -75,7 +76,7 @@ impl<'a> Lines<'a> {
 
     /// The byte at which the line of a byte starts.
     pub fn line_start(&self, byte: usize) -> usize
-        ensures start { byte ≤ length self.now → result ≡ line_start self.now byte }
+        ensures start { IsStartOfLine self.now byte result }
         ensures boundary { IsCharBoundary self.now result }
     {
         self.bounds(byte).0
@@ -83,7 +84,7 @@ impl<'a> Lines<'a> {
 
     /// The byte at which the line of a byte ends, before its line feed.
     pub fn line_end(&self, byte: usize) -> usize
-        ensures end { byte ≤ length self.now → result ≡ line_end self.now byte }
+        ensures end { IsEndOfLine self.now byte result }
         ensures boundary { IsCharBoundary self.now result }
     {
         self.bounds(byte).1
@@ -91,9 +92,9 @@ impl<'a> Lines<'a> {
 
     // The bytes at which the line of a byte starts and ends.
     fn bounds(&self, byte: usize) -> (usize, usize)
-        ensures start { byte ≤ length self.now → result.0 ≡ line_start self.now byte }
-        ensures end { byte ≤ length self.now → result.1 ≡ line_end self.now byte }
-        ensures boundaries { IsCharBoundary self.now result.0 × IsCharBoundary self.now result.1 }
+        ensures start { IsStartOfLine self.now byte result.0 }
+        ensures end { IsEndOfLine self.now byte result.1 }
+        ensures boundaries { AreCharBoundaries self.now result }
     {
         let at = byte.min(self.text.len());
         self.cache.span_line_bytes(Span::new(at, at))
@@ -101,7 +102,7 @@ impl<'a> Lines<'a> {
 
     /// The byte at which the text of the line that starts at a byte ends.
     pub fn text_end(&self, start: usize) -> usize
-        ensures end { start ≤ length self.now → result ≡ text_end self.now start }
+        ensures end { IsEndOfText self.now start result }
         ensures after { start ≤ length self.now → start ≤ result }
         ensures boundary { IsCharBoundary self.now result }
     {
@@ -116,7 +117,7 @@ impl<'a> Lines<'a> {
 
     /// How many columns the bytes from one up to another one take, by `unicode_width`.
     pub fn columns(&self, start: usize, end: usize) -> usize
-        ensures { IsCharBoundary self.now start → IsCharBoundary self.now end → start ≤ end → result ≡ columns self.now start end }
+        ensures { AreColumnsOf self.now start end result }
     {
         part(self.text, start, end).width()
     }
@@ -124,11 +125,11 @@ impl<'a> Lines<'a> {
     /// The bytes from which and up to which a part of the text is underlined on the line that starts at a byte: none before the line, and
     /// none after its text.
     pub fn mark(&self, part: Span, start: usize) -> (usize, usize)
-        ensures from { start ≤ length self.now → result.0 ≡ mark_start self.now part start }
-        ensures to { start ≤ length self.now → result.1 ≡ mark_end self.now part start }
+        ensures from { IsStartOfMark self.now part start result.0 }
+        ensures to { IsEndOfMark self.now part start result.1 }
         ensures after { start ≤ length self.now → start ≤ result.0 }
         ensures ordered { result.0 ≤ result.1 }
-        ensures boundaries { IsCharBoundary self.now start → IsPartOf self.now part → IsCharBoundary self.now result.0 × IsCharBoundary self.now result.1 }
+        ensures boundaries { IsCharBoundary self.now start → IsPartOf self.now part → AreCharBoundaries self.now result }
     {
         let text_end = self.text_end(start);
         let from = start.max(part.start()).min(text_end);
@@ -152,7 +153,7 @@ impl<'a> Lines<'a> {
 
 // The bytes of a text from one up to another one, or none if one of both isn't a boundary of characters.
 fn part(text: &str, start: usize, end: usize) -> &str
-    ensures { IsCharBoundary text.now start → IsCharBoundary text.now end → start ≤ end → result.now ≡ slice_range text.now start end }
+    ensures { IsTextBetween text.now start end result.now }
 {
     text.get(start..end).unwrap_or("")
 }
