@@ -20,9 +20,14 @@ pub fn push_choices<StorageT: StorageIndex>(
         out.push_str(joint(place, after))?;
         push_token(out, grm, *token)?;
     }
+    push_more(out, " or ", more)
+}
+
+/// Adds how many more there are, if there are any.
+pub(crate) fn push_more(out: &mut String, before: &str, more: usize) -> Result<(), AllocError> {
     match more {
         0 => Ok(()),
-        _ => write!(out, " or {more} more"),
+        _ => write!(out, "{before}{more} more"),
     }
 }
 
@@ -54,12 +59,28 @@ pub fn push_token<StorageT: StorageIndex>(
 pub fn push_quoted(out: &mut String, text: &str) -> Result<(), AllocError> {
     out.push('\'')?;
     for c in text.chars() {
-        match c {
-            '\n' => out.push_str("\\n")?,
-            '\r' => out.push_str("\\r")?,
-            '\t' => out.push_str("\\t")?,
-            _ => out.push(c)?,
+        match escape_of(c) {
+            Some(escape) => out.push_str(escape)?,
+            None => out.push(c)?,
         }
     }
     out.push('\'')
+}
+
+// What is written between quotes in place of a line feed, a carriage return or a tab.
+fn escape_of(c: char) -> Option<&'static str> {
+    match c {
+        '\n' => Some("\\n"),
+        '\r' => Some("\\r"),
+        '\t' => Some("\\t"),
+        _ => None,
+    }
+}
+
+/// Adds texts, one after the other.
+pub(crate) fn push_all(out: &mut String, texts: &[&str]) -> Result<(), AllocError> {
+    for text in texts {
+        out.push_str(text)?;
+    }
+    Ok(())
 }

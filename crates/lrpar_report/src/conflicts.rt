@@ -1,5 +1,5 @@
 //! Reports of the conflicts of a table.
-use crate::choices::{push_quoted, push_token};
+use crate::choices::{push_more, push_quoted, push_token};
 use lrpar_grammar::grammar::YaccGrammar;
 use lrpar_grammar::span::{PIdx, StIdx, StorageIndex, TIdx};
 use lrpar_report_lines::Report;
@@ -11,8 +11,7 @@ use std::collections::BTreeMap;
 const MOST_STATES: usize = 8;
 
 /// A conflict of a grammar, and the states in which it is.
-#[derive(Drop)]
-struct Group<StorageT> {
+struct Group<StorageT: StorageIndex> {
     token: TIdx<StorageT>,
     /// The production that can be reduced; of two, the first one.
     prod: PIdx<StorageT>,
@@ -21,11 +20,32 @@ struct Group<StorageT> {
     states: Vec<usize>,
 }
 
+// Hand-written, so that code that drops one needs the proof of one call only.
+impl<StorageT: StorageIndex> Drop for Group<StorageT> {
+    fn drop(self) {
+        let Group {
+            token: _,
+            prod: _,
+            other: _,
+            states,
+        } = self;
+        drop(states);
+    }
+}
+
 /// The groups so far, and the place of each by token and productions.
-#[derive(Drop)]
-struct Groups<StorageT> {
+struct Groups<StorageT: StorageIndex> {
     groups: Vec<Group<StorageT>>,
     places: BTreeMap<(usize, usize, usize), usize>,
+}
+
+// Hand-written, as above.
+impl<StorageT: StorageIndex> Drop for Groups<StorageT> {
+    fn drop(self) {
+        let Groups { groups, places } = self;
+        drop(groups);
+        drop(places);
+    }
 }
 
 /// A warning for each conflict of the grammar: first those between two reductions, then those between a shift and a reduction, in the
@@ -41,7 +61,11 @@ pub fn conflict_reports<StorageT: StorageIndex>(
     stable: &StateTable<StorageT>,
 ) -> Result<Vec<Report>, AllocError> {
     match stable.conflicts() {
-        Some(conflicts) => reports_of(alloc, grm, conflicts),
+        Some(conflicts) => {
+            let mut groups = Groups::new(alloc);
+            groups.add_all(alloc, conflicts)?;
+            reports_of(alloc, grm, &groups.groups)
+        }
         None => Ok(Vec::new(alloc)),
     }
 }
@@ -50,36 +74,39 @@ pub fn conflict_reports<StorageT: StorageIndex>(
 fn reports_of<StorageT: StorageIndex>(
     alloc: Global,
     grm: &YaccGrammar<StorageT>,
-    conflicts: &Conflicts<StorageT>,
+    groups: &[Group<StorageT>],
 ) -> Result<Vec<Report>, AllocError> {
-    let groups = groups_of(alloc, conflicts)?;
     let mut reports = Vec::new(alloc);
-    for group in &groups {
-        reports.push(report_of(alloc, grm, group)?)?;
+    for group in groups {
+        push_report(&mut reports, alloc, grm, group)?;
     }
     Ok(reports)
 }
 
-// The conflicts of the grammar, each with its states.
-fn groups_of<StorageT: StorageIndex>(
-    alloc: Global,
-    conflicts: &Conflicts<StorageT>,
-) -> Result<Vec<Group<StorageT>>, AllocError> {
-    let mut groups = Groups {
-        groups: Vec::new(alloc),
-        places: BTreeMap::new(alloc),
-    };
-    for (token, first, second, state) in conflicts.rr_conflicts() {
-        groups.add(alloc, *token, *first, Some(*second), *state)?;
-    }
-    for (token, prod, state) in conflicts.sr_conflicts() {
-        groups.add(alloc, *token, *prod, None, *state)?;
-    }
-    let Groups { groups, places: _ } = groups;
-    Ok(groups)
-}
-
 impl<StorageT: StorageIndex> Groups<StorageT> {
+    // No groups so far.
+    fn new(alloc: Global) -> Self {
+        Groups {
+            groups: Vec::new(alloc),
+            places: BTreeMap::new(alloc),
+        }
+    }
+
+    // Adds the states of these conflicts.
+    fn add_all(
+        &mut self,
+        alloc: Global,
+        conflicts: &Conflicts<StorageT>,
+    ) -> Result<(), AllocError> {
+        for (token, first, second, state) in conflicts.rr_conflicts() {
+            self.add(alloc, *token, *first, Some(*second), *state)?;
+        }
+        for (token, prod, state) in conflicts.sr_conflicts() {
+            self.add(alloc, *token, *prod, None, *state)?;
+        }
+        Ok(())
+    }
+
     // Adds a state of a conflict.
     fn add(
         &mut self,
@@ -97,8 +124,8 @@ impl<StorageT: StorageIndex> Groups<StorageT> {
         match self.groups.get_mut(place) {
             Some(group) => group.states.push(usize::from(state))?,
             None => {
-                let states = vec![in alloc; usize::from(state)]?;
                 self.places.insert(key, place)?;
+                let states = vec![in alloc; usize::from(state)]?;
                 self.groups.push(Group {
                     token,
                     prod,
@@ -124,18 +151,39 @@ fn key_of<StorageT: StorageIndex>(
     (usize::from(token), usize::from(prod), other)
 }
 
-// The warning of a conflict.
-fn report_of<StorageT: StorageIndex>(
+// Adds the warning of a conflict.
+fn push_report<StorageT: StorageIndex>(
+    reports: &mut Vec<Report>,
     alloc: Global,
     grm: &YaccGrammar<StorageT>,
     group: &Group<StorageT>,
-) -> Result<Report, AllocError> {
-    let mut message = String::from_str(alloc, "conflict at ")?;
-    push_token(&mut message, grm, group.token)?;
-    push_states(&mut message, &group.states)?;
-    message.push_str(": ")?;
-    push_moves(&mut message, grm, group)?;
+) -> Result<(), AllocError> {
+    let mut message = String::new(alloc);
+    push_message(&mut message, grm, group)?;
     let report = Report::warning(alloc, message.as_str())?;
+    reports.push(with_labels(report, grm, group)?)?;
+    Ok(())
+}
+
+// Adds the message of the warning of a conflict.
+fn push_message<StorageT: StorageIndex>(
+    out: &mut String,
+    grm: &YaccGrammar<StorageT>,
+    group: &Group<StorageT>,
+) -> Result<(), AllocError> {
+    out.push_str("conflict at ")?;
+    push_token(out, grm, group.token)?;
+    push_states(out, &group.states)?;
+    out.push_str(": ")?;
+    push_moves(out, grm, group)
+}
+
+// The report with labels at the productions of the conflict.
+fn with_labels<StorageT: StorageIndex>(
+    report: Report,
+    grm: &YaccGrammar<StorageT>,
+    group: &Group<StorageT>,
+) -> Result<Report, AllocError> {
     match group.other {
         None => labelled(report, grm, group.prod, "this could be reduced instead"),
         Some(other) => {
@@ -173,10 +221,7 @@ fn push_states(out: &mut String, states: &[usize]) -> Result<(), AllocError> {
         out.push_str(before_state(place, left))?;
         write!(out, "{state}")?;
     }
-    match more {
-        0 => Ok(()),
-        _ => write!(out, " and {more} more"),
-    }
+    push_more(out, " and ", more)
 }
 
 // What comes before the state at a place of a list, if `left` states are left with it.

@@ -69,11 +69,11 @@ fn push_character(out: &mut String, text: &str) -> Result<(), AllocError> {
     };
     out.push_str("character ")?;
     push_quoted(out, text)?;
-    if !c.is_ascii_graphic() {
-        let number = u32::from(c);
-        write!(out, " (U+{number:04X})")?;
+    if c.is_ascii_graphic() {
+        return Ok(());
     }
-    Ok(())
+    let number = u32::from(c);
+    write!(out, " (U+{number:04X})")
 }
 
 /// The report of a parse error: that of [`unexpected_report`], with the tokens at which the state of the error has an action, and the
@@ -111,11 +111,21 @@ pub fn unexpected_report<LexemeT: Lexeme<StorageT>, StorageT: StorageIndex>(
     let is_end = lexeme.tok_id().to_index().saturating_add(1) >= grm.tokens_len();
     let mut message = String::from_str(alloc, "unexpected ")?;
     push_lexeme(&mut message, text, is_end, lexeme.span())?;
-    if !expected.is_empty() {
-        message.push_str(", ")?;
-        push_choices(&mut message, grm, expected)?;
-    }
+    push_expected(&mut message, grm, expected)?;
     Report::error(alloc, message.as_str())?.label(lexeme.span(), "")
+}
+
+// Adds the tokens that are expected, if there are any.
+fn push_expected<StorageT: StorageIndex>(
+    out: &mut String,
+    grm: &YaccGrammar<StorageT>,
+    expected: &[TIdx<StorageT>],
+) -> Result<(), AllocError> {
+    if expected.is_empty() {
+        return Ok(());
+    }
+    out.push_str(", ")?;
+    push_choices(out, grm, expected)
 }
 
 // Adds a lexeme: that it is the end, if it has the end token, and else its part of the text.

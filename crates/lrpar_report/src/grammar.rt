@@ -4,7 +4,7 @@ ghost use Rattle.lrpar_report.specs.FaultPlaces.{AreGrammarSpans, IsOne, StartsA
 ghost use Rattle.lrpar_report_lines.specs.Labels.{HasOneLabel, label_spans};
 ghost use Rattle.lrpar_report_lines.specs.declared.levels.Level.TheVariants.{Error};
 
-use crate::choices::push_quoted;
+use crate::choices::{push_all, push_quoted};
 use crate::near::push_nearest;
 use crate::shape::push_expected;
 use lrpar_grammar::grammar::GrammarFault;
@@ -65,12 +65,16 @@ pub(crate) fn named(
     ensures level { IfOk result (λ report. report.level ≡ Error) }
     ensures span { IfOk result (HasOneLabel span) }
 {
-    let mut message = String::from_str(alloc, kind)?;
-    message.push(' ')?;
-    push_quoted(&mut message, part(text, span))?;
-    message.push(' ')?;
-    message.push_str(what)?;
+    let mut message = String::new(alloc);
+    push_subject(&mut message, kind, part(text, span), what)?;
     Report::error(alloc, message.as_str())?.label(span, label)
+}
+
+// Adds `KIND 'NAME' WHAT`.
+fn push_subject(out: &mut String, kind: &str, name: &str, what: &str) -> Result<(), AllocError> {
+    push_all(out, &[kind, " "])?;
+    push_quoted(out, name)?;
+    push_all(out, &[" ", what])
 }
 
 /// The part of the text at this place, or an empty one if the text has no such place.
@@ -84,13 +88,7 @@ fn unknown_rule(alloc: Global, text: &str, span: Span) -> Result<Report, AllocEr
     ensures span { IfOk result (HasOneLabel span) }
 {
     let mut label = String::new(alloc);
-    if let Ok(outline) = outline_of(alloc, text)? {
-        let lists = [&outline.defined, &outline.declared];
-        push_near(&mut label, alloc, part(text, span), &lists)?;
-    }
-    if label.is_empty() {
-        label.push_str("define it, declare it by %token, or put it in quotes")?;
-    }
+    push_near_symbol(&mut label, alloc, text, part(text, span))?;
     let what = "is neither a rule nor declared by %token";
     named(alloc, text, span, "name", what, label.as_str())
 }
@@ -101,46 +99,61 @@ fn unknown_token(alloc: Global, text: &str, span: Span) -> Result<Report, AllocE
     ensures span { IfOk result (HasOneLabel span) }
 {
     let mut label = String::new(alloc);
-    if let Ok(outline) = outline_of(alloc, text)? {
-        push_near(&mut label, alloc, part(text, span), &[&outline.declared])?;
-    }
-    if label.is_empty() {
-        label.push_str("no rule uses it, and no %token declares it")?;
-    }
+    push_near_token(&mut label, alloc, text, part(text, span))?;
     named(alloc, text, span, "name", "is no token", label.as_str())
 }
 
-/// The declarations and rules of the text, if it has that shape.
-pub(crate) fn outline_of(
-    alloc: Global,
-    text: &str,
-) -> Result<Result<Outline<'_>, OutlineFault>, AllocError> {
-    match Outline::read(alloc, text) {
-        Err(OutlineFault::Memory) => Err(AllocError),
-        read => Ok(read),
-    }
-}
-
-// The names of the words of these lists.
-fn names_of<'a>(alloc: Global, lists: &[&Vec<Word<'a>>]) -> Result<Vec<&'a str>, AllocError> {
-    let mut names = Vec::new(alloc);
-    for words in lists {
-        for word in words.iter() {
-            names.push(word.name)?;
-        }
-    }
-    Ok(names)
-}
-
-/// Adds the name of these lists that somebody may have meant, if one is near.
-pub(crate) fn push_near(
+// Adds the rule or token of the text that somebody may have meant by this name, or what would be right.
+fn push_near_symbol(
     label: &mut String,
     alloc: Global,
+    text: &str,
     name: &str,
-    lists: &[&Vec<Word<'_>>],
 ) -> Result<(), AllocError> {
-    let names = names_of(alloc, lists)?;
-    push_nearest(label, name, &names)
+    let otherwise = "define it, declare it by %token, or put it in quotes";
+    let Some(outline) = outline_of(alloc, text)? else {
+        return label.push_str(otherwise);
+    };
+    let mut names = Vec::new(alloc);
+    push_names(&mut names, &outline.defined)?;
+    push_names(&mut names, &outline.declared)?;
+    push_nearest(label, name, &names, otherwise)
+}
+
+// Adds the token of the text that somebody may have meant by this name, or what would be right.
+fn push_near_token(
+    label: &mut String,
+    alloc: Global,
+    text: &str,
+    name: &str,
+) -> Result<(), AllocError> {
+    let otherwise = "no rule uses it, and no %token declares it";
+    let Some(outline) = outline_of(alloc, text)? else {
+        return label.push_str(otherwise);
+    };
+    let mut names = Vec::new(alloc);
+    push_names(&mut names, &outline.declared)?;
+    push_nearest(label, name, &names, otherwise)
+}
+
+/// The declarations and rules of the text, if it has that shape.
+pub(crate) fn outline_of(alloc: Global, text: &str) -> Result<Option<Outline<'_>>, AllocError> {
+    match Outline::read(alloc, text) {
+        Ok(outline) => Ok(Some(outline)),
+        Err(OutlineFault::Memory) => Err(AllocError),
+        Err(_) => Ok(None),
+    }
+}
+
+/// Adds the names of these words.
+pub(crate) fn push_names<'a>(
+    names: &mut Vec<&'a str>,
+    words: &[Word<'a>],
+) -> Result<(), AllocError> {
+    for word in words {
+        names.push(word.name)?;
+    }
+    Ok(())
 }
 
 // The report of a text that isn't a grammar's from byte `at` on.
@@ -149,21 +162,32 @@ fn syntax_report(alloc: Global, text: &str, at: usize) -> Result<Report, AllocEr
     ensures span { IfOk result (λ report. IsOne (StartsAt text.now at) (label_spans report)) }
 {
     let (front, rest) = text.split_at_checked(at).unwrap_or((text, ""));
-    let mut message = String::new(alloc);
-    let len = match unclosed(rest) {
-        Some(what) => {
-            message.push_str(what)?;
-            1
-        }
-        None => {
-            let word = first_word(rest);
-            push_unexpected(&mut message, word)?;
-            push_expected(&mut message, alloc, front)?;
-            word.len()
-        }
+    let what = unclosed(rest);
+    let word = match what {
+        Some(_) => rest.get(..1).unwrap_or(""),
+        None => first_word(rest),
     };
-    let span = Span::new(front.len(), front.len().saturating_add(len));
+    let mut message = String::new(alloc);
+    push_syntax(&mut message, alloc, front, word, what)?;
+    let span = Span::new(front.len(), front.len().saturating_add(word.len()));
     Report::error(alloc, message.as_str())?.label(span, "")
+}
+
+// Adds what is wrong with what isn't closed, or that the word after `front` is unexpected, and what may come there.
+fn push_syntax(
+    out: &mut String,
+    alloc: Global,
+    front: &str,
+    word: &str,
+    what: Option<&str>,
+) -> Result<(), AllocError> {
+    match what {
+        Some(what) => out.push_str(what),
+        None => {
+            push_unexpected(out, word)?;
+            push_expected(out, alloc, front)
+        }
+    }
 }
 
 // What is wrong with the comment or quote with which the text begins, if it isn't closed.

@@ -93,7 +93,7 @@ fn unread(alloc: Global, core: Span) -> Result<Report, AllocError>
     ensures span { IfOk result (HasOneLabel core) }
 {
     let label = "expected PATTERN 'NAME' for a token, or PATTERN ; for what is skipped";
-    Report::error(alloc, "this line is no rule")?.label(core, label)
+    labelled(alloc, "this line is no rule", core, label)
 }
 
 // The report of a line that names no token.
@@ -109,16 +109,46 @@ fn unnamed(
     let quoted = line.strip_suffix('\'').unwrap_or(line);
     let (front, name) = quoted.rsplit_once('\'').unwrap_or(("", quoted));
     let at = front.len().saturating_add(1);
-    let mut text = String::from_str(alloc, "the grammar has no token ")?;
-    push_quoted(&mut text, name)?;
-    let mut label = String::new(alloc);
-    push_near_token(&mut label, alloc, grm, name)?;
-    let span = part_within(core, at, at.saturating_add(name.len()));
-    Report::error(alloc, text.as_str())?.label(span, label.as_str())
+    no_token(
+        alloc,
+        grm,
+        name,
+        part_within(core, at, at.saturating_add(name.len())),
+    )
 }
 
-/// Adds the token that somebody may have meant, if one is near.
-pub(crate) fn push_near_token(
+/// The report of a name of which the grammar has no token.
+pub(crate) fn no_token(
+    alloc: Global,
+    grm: &YaccGrammar<u32>,
+    name: &str,
+    span: Span,
+) -> Result<Report, AllocError>
+    ensures level { IfOk result (λ report. report.level ≡ Error) }
+    ensures span { IfOk result (HasOneLabel span) }
+{
+    let mut message = String::from_str(alloc, "the grammar has no token ")?;
+    push_quoted(&mut message, name)?;
+    let mut label = String::new(alloc);
+    push_near_token(&mut label, alloc, grm, name)?;
+    labelled(alloc, message.as_str(), span, label.as_str())
+}
+
+/// The report with this message, and one label.
+pub(crate) fn labelled(
+    alloc: Global,
+    message: &str,
+    span: Span,
+    label: &str,
+) -> Result<Report, AllocError>
+    ensures level { IfOk result (λ report. report.level ≡ Error) }
+    ensures span { IfOk result (HasOneLabel span) }
+{
+    Report::error(alloc, message)?.label(span, label)
+}
+
+// Adds the token that somebody may have meant, or what would be right.
+fn push_near_token(
     label: &mut String,
     alloc: Global,
     grm: &YaccGrammar<u32>,
@@ -128,11 +158,8 @@ pub(crate) fn push_near_token(
     for (token, _) in grm.tokens_map(alloc)? {
         names.push(token)?;
     }
-    push_nearest(label, name, &names)?;
-    if label.is_empty() {
-        label.push_str("a token is in quotes in the grammar, or is declared by %token")?;
-    }
-    Ok(())
+    let otherwise = "a token is in quotes in the grammar, or is declared by %token";
+    push_nearest(label, name, &names, otherwise)
 }
 
 // The report of a pattern that is refused.
@@ -140,14 +167,26 @@ fn refused(alloc: Global, error: &regex::Error, core: Span) -> Result<Report, Al
     ensures level { IfOk result (λ report. report.level ≡ Error) }
     ensures span { IfOk result (λ report. IsOne (IsWithin core) (label_spans report)) }
 {
-    let mut text = String::from_str(alloc, "bad pattern: ")?;
-    push_refusal(&mut text, error)?;
-    let label = "patterns are those of the crate `regex`";
-    Report::error(alloc, text.as_str())?.label(refused_part(error, core), label)
+    bad_pattern(alloc, refused_part(error, core), error)
 }
 
-/// Adds why a pattern is refused.
-pub(crate) fn push_refusal(text: &mut String, error: &regex::Error) -> Result<(), AllocError> {
+/// The report of a pattern that is refused, at this place.
+pub(crate) fn bad_pattern(
+    alloc: Global,
+    span: Span,
+    error: &regex::Error,
+) -> Result<Report, AllocError>
+    ensures level { IfOk result (λ report. report.level ≡ Error) }
+    ensures span { IfOk result (HasOneLabel span) }
+{
+    let mut message = String::from_str(alloc, "bad pattern: ")?;
+    push_refusal(&mut message, error)?;
+    let label = "patterns are those of the crate `regex`";
+    labelled(alloc, message.as_str(), span, label)
+}
+
+// Adds why a pattern is refused.
+fn push_refusal(text: &mut String, error: &regex::Error) -> Result<(), AllocError> {
     match error {
         regex::Error::Syntax(error) => text.push_str(error.kind.message()),
         error => write!(text, "{error}"),

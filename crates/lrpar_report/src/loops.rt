@@ -12,7 +12,7 @@ use lrpar_table_sentences::shortest::Shortest;
 use std::alloc::{AllocError, Global};
 
 /// How a rule leads back to itself.
-#[derive(Clone, Copy, Debug, PartialEq, Eq)]
+#[derive(Clone, Copy)]
 pub(crate) enum LoopKind {
     /// It derives itself alone: all other symbols of the productions derive the empty text.
     DerivesItself,
@@ -21,14 +21,14 @@ pub(crate) enum LoopKind {
 }
 
 /// A step of such a loop: a production of a rule, and the place of the next rule on its right side.
-#[derive(Clone, Copy, Debug, PartialEq, Eq)]
+#[derive(Clone, Copy)]
 pub(crate) struct LoopStep<StorageT> {
     pub(crate) prod: PIdx<StorageT>,
     pub(crate) place: usize,
 }
 
 /// A path from a rule to the target: its first step, and how many steps come after it.
-#[derive(Clone, Copy, Debug, PartialEq, Eq)]
+#[derive(Clone, Copy)]
 struct Path<StorageT> {
     step: LoopStep<StorageT>,
     steps: usize,
@@ -49,10 +49,25 @@ pub(crate) fn loop_of<StorageT: StorageIndex>(
 {
     let shortest = Shortest::new(alloc, grm)?;
     let steps = steps_of(alloc, grm, &shortest, kind)?;
-    for first in &steps {
+    first_loop(alloc, grm, &shortest, &steps, kind, rule)
+}
+
+// The loop that begins with the first of these steps that begins any.
+fn first_loop<StorageT: StorageIndex>(
+    alloc: Global,
+    grm: &YaccGrammar<StorageT>,
+    shortest: &Shortest<StorageT>,
+    steps: &[LoopStep<StorageT>],
+    kind: LoopKind,
+    rule: Option<RIdx<StorageT>>,
+) -> Result<Option<Vec<LoopStep<StorageT>>>, AllocError>
+    requires { AreShortest grm.now usize.MAX shortest.now }
+    ensures { IfOk result (FindsLoop StorageT.index kind grm.now) }
+{
+    for first in steps {
         if may_begin(grm, kind, rule, *first) {
-            if let Some(found) = loop_from(alloc, grm, &steps, *first)? {
-                if is_loop(grm, &shortest, kind, &found) {
+            if let Some(found) = loop_from(alloc, grm, steps, *first)? {
+                if is_loop(grm, shortest, kind, &found) {
                     return Ok(Some(found));
                 }
             }
@@ -173,21 +188,36 @@ fn loop_from<StorageT: StorageIndex>(
     };
     let paths = paths_to(alloc, grm, steps, target)?;
     let mut found = Vec::new(alloc);
+    if push_path(&mut found, grm, &paths, first, target)? {
+        Ok(Some(found))
+    } else {
+        Ok(None)
+    }
+}
+
+// Adds the step and those of the path on which it leads. Returns whether they lead to the target.
+fn push_path<StorageT: StorageIndex>(
+    found: &mut Vec<LoopStep<StorageT>>,
+    grm: &YaccGrammar<StorageT>,
+    paths: &[Option<Path<StorageT>>],
+    first: LoopStep<StorageT>,
+    target: RIdx<StorageT>,
+) -> Result<bool, AllocError> {
     let mut step = first;
     for _ in 0..grm.rules_len() {
         found.push(step)?;
         let Some(rule) = rule_after(grm, step) else {
-            return Ok(None);
+            return Ok(false);
         };
         if rule == target {
-            return Ok(Some(found));
+            return Ok(true);
         }
         match paths.get(usize::from(rule)) {
             Some(Some(path)) => step = path.step,
-            _ => return Ok(None),
+            _ => return Ok(false),
         }
     }
-    Ok(None)
+    Ok(false)
 }
 
 // For each rule a shortest path to the target, if there is one.
@@ -197,10 +227,7 @@ fn paths_to<StorageT: StorageIndex>(
     steps: &[LoopStep<StorageT>],
     target: RIdx<StorageT>,
 ) -> Result<Vec<Option<Path<StorageT>>>, AllocError> {
-    let mut paths = Vec::with_capacity(alloc, grm.rules_len())?;
-    for _ in 0..grm.rules_len() {
-        paths.push(None)?;
-    }
+    let mut paths = vec![in alloc; None; grm.rules_len()]?;
     for sweep in 0..grm.rules_len() {
         if !add_paths(&mut paths, grm, steps, target, sweep) {
             return Ok(paths);

@@ -4,9 +4,8 @@ ghost use Rattle.lrpar_report.specs.FaultPlaces.{AreLrlexSpans, IsOne, IsStartOf
 ghost use Rattle.lrpar_report_lines.specs.Labels.{HasOneLabel, label_spans};
 ghost use Rattle.lrpar_report_lines.specs.declared.levels.Level.TheVariants.{Error};
 
-use crate::choices::push_quoted;
 use crate::grammar::{named, part};
-use crate::lexer::{push_near_token, push_refusal};
+use crate::lexer::{bad_pattern, labelled, no_token};
 use crate::near::push_nearest;
 use lrpar_grammar::grammar::YaccGrammar;
 use lrpar_grammar::span::Span;
@@ -60,18 +59,10 @@ pub fn lrlex_report(
         LrlexFault::OpenQuote(span) => labelled(alloc, "quote that isn't closed", *span, QUOTED),
         LrlexFault::NoName(span) => labelled(alloc, "target without a name", *span, NAMED),
         LrlexFault::UnknownState(span) => unknown_state(alloc, text, *span),
-        LrlexFault::UnknownToken(span) => unknown_token(alloc, grm, text, *span),
+        LrlexFault::UnknownToken(span) => no_token(alloc, grm, part(text, *span), *span),
         LrlexFault::Pattern(span, error) => bad_pattern(alloc, *span, error),
         LrlexFault::Memory => Err(AllocError),
     }
-}
-
-// A report with one label.
-fn labelled(alloc: Global, message: &str, span: Span, label: &str) -> Result<Report, AllocError>
-    ensures level { IfOk result (λ report. report.level ≡ Error) }
-    ensures span { IfOk result (HasOneLabel span) }
-{
-    Report::error(alloc, message)?.label(span, label)
 }
 
 // The report of `%grmtools` without its braces, which goes to the end of the text.
@@ -98,7 +89,12 @@ fn bad_flag(alloc: Global, text: &str, span: Span) -> Result<Report, AllocError>
 {
     let flag = part(text, span);
     let mut label = String::new(alloc);
-    push_nearest(&mut label, flag.strip_prefix('!').unwrap_or(flag), &FLAGS)?;
+    push_nearest(
+        &mut label,
+        flag.strip_prefix('!').unwrap_or(flag),
+        &FLAGS,
+        "",
+    )?;
     named(alloc, text, span, "flag", "isn't supported", label.as_str())
 }
 
@@ -128,10 +124,12 @@ fn unknown_state(alloc: Global, text: &str, span: Span) -> Result<Report, AllocE
 {
     let mut label = String::new(alloc);
     let names = declared_states(alloc, text)?;
-    push_nearest(&mut label, part(text, span), &names)?;
-    if label.is_empty() {
-        label.push_str("declare it by %x or %s")?;
-    }
+    push_nearest(
+        &mut label,
+        part(text, span),
+        &names,
+        "declare it by %x or %s",
+    )?;
     named(
         alloc,
         text,
@@ -157,36 +155,4 @@ fn declared_states(alloc: Global, text: &str) -> Result<Vec<&str>, AllocError> {
         }
     }
     Ok(names)
-}
-
-// The report of a name that is of no token.
-fn unknown_token(
-    alloc: Global,
-    grm: &YaccGrammar<u32>,
-    text: &str,
-    span: Span,
-) -> Result<Report, AllocError>
-    ensures level { IfOk result (λ report. report.level ≡ Error) }
-    ensures span { IfOk result (HasOneLabel span) }
-{
-    let mut message = String::from_str(alloc, "the grammar has no token ")?;
-    push_quoted(&mut message, part(text, span))?;
-    let mut label = String::new(alloc);
-    push_near_token(&mut label, alloc, grm, part(text, span))?;
-    labelled(alloc, message.as_str(), span, label.as_str())
-}
-
-// The report of a pattern that is refused.
-fn bad_pattern(alloc: Global, span: Span, error: &regex::Error) -> Result<Report, AllocError>
-    ensures level { IfOk result (λ report. report.level ≡ Error) }
-    ensures span { IfOk result (HasOneLabel span) }
-{
-    let mut message = String::from_str(alloc, "bad pattern: ")?;
-    push_refusal(&mut message, error)?;
-    labelled(
-        alloc,
-        message.as_str(),
-        span,
-        "patterns are those of the crate `regex`",
-    )
 }

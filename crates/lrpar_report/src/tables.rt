@@ -54,12 +54,35 @@ pub fn chain_report<StorageT: StorageIndex>(
 ) -> Result<Report, AllocError>
     ensures { IfOk result (λ report. report.level ≡ Error) }
 {
-    if let Some(report) = loop_report(alloc, grm, LoopKind::DerivesItself, None)? {
-        return Ok(report);
+    match any_loop_report(alloc, grm)? {
+        Some(report) => Ok(report),
+        None => plain_chain_report(alloc, grm, state, token, cap),
     }
-    if let Some(report) = loop_report(alloc, grm, LoopKind::IsHiddenLeft, None)? {
-        return Ok(report);
+}
+
+// The report of a loop of rules, if there is one.
+fn any_loop_report<StorageT: StorageIndex>(
+    alloc: Global,
+    grm: &YaccGrammar<StorageT>,
+) -> Result<Option<Report>, AllocError>
+    ensures { IfOk result (λ found. IfSome found (λ report. report.level ≡ Error)) }
+{
+    match loop_report(alloc, grm, LoopKind::DerivesItself, None)? {
+        Some(report) => Ok(Some(report)),
+        None => loop_report(alloc, grm, LoopKind::IsHiddenLeft, None),
     }
+}
+
+// The report of a chain of reductions without a loop of rules.
+fn plain_chain_report<StorageT: StorageIndex>(
+    alloc: Global,
+    grm: &YaccGrammar<StorageT>,
+    state: usize,
+    token: usize,
+    cap: u16,
+) -> Result<Report, AllocError>
+    ensures { IfOk result (λ report. report.level ≡ Error) }
+{
     let mut message = format!(in alloc;
         "state {state} makes more than {cap} reductions in a row at "
     )?;
@@ -105,11 +128,28 @@ fn report_of<StorageT: StorageIndex>(
 {
     let mut message = String::new(alloc);
     push_loop(&mut message, grm, kind, steps)?;
-    let report = Report::error(alloc, message.as_str())?;
     let mut label = String::new(alloc);
     push_loop_label(&mut label, grm, kind, steps)?;
-    match position_of(grm, steps) {
-        Some(span) => report.label(span, label.as_str()),
+    error_at(
+        alloc,
+        message.as_str(),
+        position_of(grm, steps),
+        label.as_str(),
+    )
+}
+
+// The report of an error, with a label if it has a place.
+fn error_at(
+    alloc: Global,
+    message: &str,
+    place: Option<Span>,
+    label: &str,
+) -> Result<Report, AllocError>
+    ensures { IfOk result (λ report. report.level ≡ Error) }
+{
+    let report = Report::error(alloc, message)?;
+    match place {
+        Some(span) => report.label(span, label),
         None => Ok(report),
     }
 }
@@ -157,11 +197,11 @@ fn push_loop_label<StorageT: StorageIndex>(
 ) -> Result<(), AllocError> {
     match kind {
         LoopKind::DerivesItself => {
-            out.push_str("leave out this production")?;
-            if steps.len() > 1 {
-                out.push_str(", or another one on the way")?;
-            }
-            Ok(())
+            out.push_str(if steps.len() > 1 {
+                "leave out this production, or another one on the way"
+            } else {
+                "leave out this production"
+            })
         }
         LoopKind::IsHiddenLeft => {
             out.push_str("leave out what comes before ")?;
@@ -181,16 +221,19 @@ fn push_loop_rules<StorageT: StorageIndex>(
     steps: &[LoopStep<StorageT>],
 ) -> Result<(), AllocError> {
     for (place, step) in steps.iter().enumerate() {
-        match place {
-            0 => {}
-            1 => out.push_str(" by way of ")?,
-            _ if place.saturating_add(1) == steps.len() => out.push_str(" and ")?,
-            _ => out.push_str(", ")?,
-        }
+        out.push_str(before_rule(place, steps.len()))?;
         push_rule_of(out, grm, step.prod)?;
-        if place == 0 {
-            out.push_str(does)?;
-        }
+        out.push_str(if place == 0 { does } else { "" })?;
     }
     Ok(())
+}
+
+// What comes before the rule at a place of a loop of so many rules.
+fn before_rule(place: usize, rules: usize) -> &'static str {
+    match place {
+        0 => "",
+        1 => " by way of ",
+        _ if place.saturating_add(1) == rules => " and ",
+        _ => ", ",
+    }
 }

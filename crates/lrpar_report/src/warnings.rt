@@ -1,7 +1,7 @@
 //! Warnings of rules and tokens that are of no use.
 use crate::choices::{push_quoted, push_token};
 use lrpar_grammar::grammar::YaccGrammar;
-use lrpar_grammar::span::{RIdx, StorageIndex, TIdx};
+use lrpar_grammar::span::{RIdx, Span, StorageIndex, TIdx};
 use lrpar_lexer::LexRule;
 use lrpar_report_lines::Report;
 use lrpar_table_sentences::reachable::Reachable;
@@ -91,8 +91,29 @@ fn push_rule<StorageT: StorageIndex>(
     let mut message = String::from_str(alloc, "rule ")?;
     push_quoted(&mut message, grm.rule_name_str(rule))?;
     message.push_str(what)?;
-    let report = Report::warning(alloc, message.as_str())?;
-    reports.push(report.label(grm.rule_name_span(rule), label)?)?;
+    push_warning(
+        reports,
+        alloc,
+        message.as_str(),
+        Some(grm.rule_name_span(rule)),
+        label,
+    )
+}
+
+// Adds a warning, with a label if it has a place.
+fn push_warning(
+    reports: &mut Vec<Report>,
+    alloc: Global,
+    message: &str,
+    place: Option<Span>,
+    label: &str,
+) -> Result<(), AllocError> {
+    let report = Report::warning(alloc, message)?;
+    let report = match place {
+        Some(span) => report.label(span, label)?,
+        None => report,
+    };
+    reports.push(report)?;
     Ok(())
 }
 
@@ -143,11 +164,12 @@ fn push_never_given(
     }
     let mut message = String::from_str(alloc, "the lexer never gives ")?;
     push_token(&mut message, grm, token)?;
-    let report = Report::warning(alloc, message.as_str())?;
-    let report = match grm.token_span(token) {
-        Some(span) => report.label(span, "no rule of the lexer names this token")?,
-        None => report,
-    };
-    reports.push(report)?;
-    Ok(())
+    let label = "no rule of the lexer names this token";
+    push_warning(
+        reports,
+        alloc,
+        message.as_str(),
+        grm.token_span(token),
+        label,
+    )
 }

@@ -5,7 +5,8 @@ ghost use Rattle.lrpar_report.specs.FaultPlaces.{AreDeclaredSpans, AreGrammarSpa
 ghost use Rattle.lrpar_report_lines.specs.Labels.{HasOneLabel, label_spans};
 ghost use Rattle.lrpar_report_lines.specs.declared.levels.Level.TheVariants.{Error};
 
-use crate::grammar::{grammar_report, named, outline_of, part, push_near};
+use crate::grammar::{grammar_report, named, outline_of, part, push_names};
+use crate::near::push_nearest;
 use lrpar_grammar::grammar::GrammarFault;
 use lrpar_grammar::span::Span;
 use lrpar_grammar_words::word_order::Expected;
@@ -15,6 +16,9 @@ use lrpar_grammar_yacc::file::YaccFileFault;
 use lrpar_grammar_yacc::parts::{YaccKind, part_at};
 use lrpar_report_lines::Report;
 use std::alloc::{AllocError, Global};
+
+// What would be right in place of a name that is no token.
+const NO_TOKEN: &str = "a token is in quotes in a rule, or declared by %token";
 
 /// The report of the fault in a `.y` file that is read as one of this kind: what is wrong and where, and what would be right there. A fault
 /// of the grammar text that is left of the file has the report that `grammar_report` makes of it, unless a part of the file isn't closed.
@@ -191,49 +195,50 @@ fn unknown_token(
     ensures span { IfOk result (HasOneLabel span) }
 {
     let mut label = String::new(alloc);
-    if let Some(read) = read(alloc, kind, text)? {
-        push_near_token(&mut label, alloc, part(text, span), &read)?;
-    }
-    if label.is_empty() {
-        label.push_str("a token is in quotes in a rule, or declared by %token")?;
-    }
+    push_token_label(&mut label, alloc, kind, text, part(text, span))?;
     named(alloc, text, span, "name", "is no token", label.as_str())
 }
 
-// Adds the name of a token or of a level that somebody may have meant, if one is near.
+// Adds the token of the file that somebody may have meant by this name, or what would be right.
+fn push_token_label(
+    label: &mut String,
+    alloc: Global,
+    kind: YaccKind,
+    text: &str,
+    name: &str,
+) -> Result<(), AllocError> {
+    match read(alloc, kind, text)? {
+        Some(read) => push_near_token(label, alloc, name, &read),
+        None => label.push_str(NO_TOKEN),
+    }
+}
+
+// Adds the name of a token or of a level that somebody may have meant, or what would be right.
 fn push_near_token(
     label: &mut String,
     alloc: Global,
     name: &str,
     read: &YaccText<'_>,
 ) -> Result<(), AllocError> {
-    let mut words = Vec::new(alloc);
+    let Some(outline) = outline_of(alloc, read.erased.as_str())? else {
+        return label.push_str(NO_TOKEN);
+    };
+    let mut names = Vec::new(alloc);
     for level in &read.declarations.levels {
-        push_words(&mut words, &level.names)?;
+        push_names(&mut names, &level.names)?;
     }
-    if let Ok(outline) = outline_of(alloc, read.erased.as_str())? {
-        push_words(&mut words, &outline.declared)?;
-        for alternative in &outline.alternatives {
-            push_quoted_words(&mut words, &alternative.symbols)?;
-        }
-        push_near(label, alloc, name, &[&words])?;
+    push_names(&mut names, &outline.declared)?;
+    for alternative in &outline.alternatives {
+        push_quoted_names(&mut names, &alternative.symbols)?;
     }
-    Ok(())
+    push_nearest(label, name, &names, NO_TOKEN)
 }
 
-// Adds these words.
-fn push_words<'a>(words: &mut Vec<Word<'a>>, others: &[Word<'a>]) -> Result<(), AllocError> {
-    for word in others {
-        words.push(*word)?;
-    }
-    Ok(())
-}
-
-// Adds those of these words that are in quotes.
-fn push_quoted_words<'a>(words: &mut Vec<Word<'a>>, others: &[Word<'a>]) -> Result<(), AllocError> {
-    for word in others {
+// Adds the names of those words that are in quotes.
+fn push_quoted_names<'a>(names: &mut Vec<&'a str>, words: &[Word<'a>]) -> Result<(), AllocError> {
+    for word in words {
         if matches!(word.kind, WordKind::Quoted) {
-            words.push(*word)?;
+            names.push(word.name)?;
         }
     }
     Ok(())
