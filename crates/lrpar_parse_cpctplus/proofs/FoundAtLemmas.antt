@@ -4,8 +4,8 @@ use Rattle.lrpar_parse_repair.specs.Asked.{Asked}
 use Rattle.lrpar_parse_repair.specs.Sequences.{PlainStep}
 use Rattle.lrpar_parse_cpctplus.specs.Cheapest.{IsLeastCost}
 use Rattle.lrpar_parse_cpctplus.specs.Configurations.{Configured}
-use Rattle.lrpar_parse_cpctplus.specs.FirstRepairs.{AreFirstRepairs, IsGraphAt, PlainGraph}
 use Rattle.lrpar_parse_cpctplus.specs.Listing.{AreFirst, AreListed, IsFoundAt, IsListedBefore, MayBeListed, Settings}
+use Rattle.lrpar_parse_cpctplus.proofs.GroupLemmas.{AreRankedIn, IsGraphAt, PlainGraph, are_first}
 
 -- there is one least cost
 pub one_least_cost : {X : Type 0} (token : X → ℕ) (costs : List ℕ) (at : Asked X) (c d : ℕ) → IsLeastCost token costs at c → IsLeastCost token costs at d → c ≡ d
@@ -16,9 +16,9 @@ module _ {X : Type 0} (token : X → ℕ) (settings : Settings) (at : Asked X) w
   -- the graph of a search has no more configurations than may be kept
   pub graph_listed : (c : ℕ) (nodes : List Configured) (graph : PlainGraph) (repairs : List (List PlainStep))
       → IsGraphAt token settings.costs at c nodes graph → graph.len ≤ settings.limit
-      → AreFirstRepairs X settings.avoided settings.most settings.lists_all graph repairs → AreListed token settings at repairs
-  graph_listed c nodes graph repairs is few listed =
-      let first = listed token settings at c nodes refl refl refl is in
+      → AreRankedIn settings graph repairs → AreListed token settings at repairs
+  graph_listed c nodes graph repairs is few ranked =
+      let first = are_first token settings at c nodes graph is repairs ranked in
       record {
         first = λ d found.
             subst (λ (n : ℕ). AreFirst settings.most (MayBeListed token settings at n) (IsListedBefore token at settings.avoided) repairs)

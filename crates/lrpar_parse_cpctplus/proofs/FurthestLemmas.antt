@@ -1,5 +1,5 @@
 -- The endings of a search: the furthest of them, and those of one place as links to the end.
-use Rattle.std.proofs.Common.{◌≡◌, ◌<◌, ◌≤◌, ◌==◌, ◌+◌, ◌∙◌, inl, inr, ℕ, List, [], ◌∷◌, ◌++◌, Bool, true, false, Option, Some, None, IfSome, cond, filter, get_or, length, map, take, sym, subst, ap, arith, Contains}
+use Rattle.std.proofs.Common.{◌≡◌, ◌<◌, ◌≤◌, ◌==◌, ◌+◌, ◌∙◌, inl, inr, ℕ, List, [], ◌∷◌, ◌++◌, Bool, Option, Some, None, IfSome, cond, filter, get_or, length, map, take, sym, subst, ap, arith, Contains}
 use Rattle.std.proofs.lemmas.Bool.{eq-eqb, ne_eqb}
 use Rattle.std.proofs.lemmas.List.{append-nil, append_assoc, map-append, map_more}
 use Rattle.std.proofs.lemmas.List.Elements.{All-push, Contains-append_left, Contains-push, filter-append}
@@ -175,6 +175,3 @@ module _ {S : Type 0} (index : S → ℕ) where
             let to : link.to ≡ linked.len = ap (λ (l : PlainLink). l.to) of.1 in
             (omega (arith, within, from), omega (arith, to))
       ])
-
-pub not_both : (b : Bool) → b ≡ true → b ≡ false → ⊥
-not_both b yes_it no_it = let f : true ≡ false = sym yes_it ∙ no_it in cc

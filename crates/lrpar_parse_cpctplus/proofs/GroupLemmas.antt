@@ -2,13 +2,13 @@
 -- alone, are those that may be listed.
 use Rattle.std.proofs.Common.{◌≡◌, ◌<◌, ◌≤◌, ◌+◌, ◌-◌, ◌∙◌, ◌⊎◌, inl, inr, ℕ, zero, suc, List, [], ◌++◌, Bool, true, false, IsTrue, Vec, length, take, refl, sym, subst, ap, arith, AllPairs, Contains}
 use Rattle.std.proofs.lemmas.List.{length-take}
-use Rattle.lrpar_parse_repair.specs.Asked.{Asked}
+use Rattle.lrpar_parse_repair.specs.Asked.{Asked, IsStop}
 use Rattle.lrpar_parse_repair.specs.Sequences.{PlainStep}
 use Rattle.lrpar_parse_repair.specs.declared.repair_step.RepairStep.{RepairStep}
-use Rattle.lrpar_parse_cpctplus.specs.Cheapest.{RepairsAt}
+use Rattle.lrpar_parse_cpctplus.specs.Cheapest.{IsLeastCost, RepairsAt}
 use Rattle.lrpar_parse_cpctplus.specs.Configurations.{Configured, root_of}
-use Rattle.lrpar_parse_cpctplus.specs.FirstRepairs.{AreFirstRepairs, IsGraphAt, PlainGraph}
-use Rattle.lrpar_parse_cpctplus.specs.Graph.{PlainEnding, PlainLink}
+use Rattle.lrpar_parse_cpctplus.specs.Costs.{AreCosts}
+use Rattle.lrpar_parse_cpctplus.specs.Graph.{AreEndings, HaveEndings, IsGraph, PlainEnding, PlainLink}
 use Rattle.lrpar_parse_cpctplus.specs.Listing.{AreFirst, IsListedBefore, IsPreferred, MayBeListed, Settings}
 use Rattle.lrpar_parse_cpctplus.specs.NodesView.{AddsRepairs, AreNodesOf, links_of}
 use Rattle.lrpar_parse_cpctplus.specs.Reaching.{GoesAsFar}
@@ -28,6 +28,27 @@ use Rattle.lrpar_parse_cpctplus.proofs.OrderLemmas.{pairs_none}
 use Rattle.lrpar_parse_cpctplus.proofs.ReachLemmas.{goes_one_far}
 use Rattle.lrpar_parse_cpctplus.proofs.RestLemmas.{all_in, all_rise, in_all}
 use Rattle.lrpar_parse_cpctplus.proofs.TakenLemmas.{added_from_none, added_joined, added_none, first_taken}
+
+-- a graph of a search by numbers: the number of its configurations, the links between them, and the last steps
+pub record PlainGraph : Type 0 where
+  pub len : ℕ
+  pub links : List PlainLink
+  pub endings : List PlainEnding
+
+-- the graph is that of the configurations that are nearer than c, the least cost of a repair
+pub record IsGraphAt {X : Type 0} (token : X → ℕ) (costs : List ℕ) (at : Asked X) (c : ℕ) (nodes : List Configured) (graph : PlainGraph) : Type 0 where
+  pub stop : IsStop token at
+  pub costs_of_tokens : AreCosts costs
+  pub least : IsLeastCost token costs at c
+  pub len : length nodes ≡ graph.len
+  pub links : IsGraph token costs at c nodes graph.links
+  pub endings : AreEndings token costs at c nodes graph.endings
+  pub measured : HaveEndings token costs at c nodes graph.endings
+
+-- the first ones of all groups are listed, or those of the group of the furthest place alone
+abbrev pub AreRankedIn : Settings → PlainGraph → List (List PlainStep) → Type 0
+AreRankedIn settings graph repairs =
+    AreRanked settings.avoided graph.len (graph.len + 1) graph.links graph.endings settings.most settings.lists_all repairs
 
 module _ {X : Type 0} (token : X → ℕ) (settings : Settings) (at : Asked X) (c : ℕ) (nodes : List Configured) (graph : PlainGraph) (is : IsGraphAt token settings.costs at c nodes graph) where
   least : CostAtLeast token settings.costs at c
@@ -198,14 +219,12 @@ module _ {X : Type 0} (token : X → ℕ) (settings : Settings) (at : Asked X) (
   ranked_first _ _ e (of_furthest reach repairs furthest group) = may_furthest e reach repairs furthest group
   ranked_first _ _ e (of_none none) = may_none none
 
-pub are_first_repairs : {X : Type 0} (avoided : List Bool) (most : ℕ) (lists_all : Bool) (graph : PlainGraph) (repairs : List (List PlainStep))
-    → AreRanked avoided graph.len (graph.len + 1) graph.links graph.endings most lists_all repairs
-    → AreFirstRepairs X avoided most lists_all graph repairs
-are_first_repairs avoided most lists_all graph repairs ranked token settings at c nodes e f g is =
-    ranked_first token settings at c nodes graph is lists_all repairs g
-    (subst (λ (n : ℕ). AreRanked settings.avoided n (n + 1) graph.links graph.endings settings.most lists_all repairs) (sym is.len)
-    (subst (λ (l : List Bool). AreRanked l graph.len (graph.len + 1) graph.links graph.endings settings.most lists_all repairs) (sym e)
-    (subst (λ (n : ℕ). AreRanked avoided graph.len (graph.len + 1) graph.links graph.endings n lists_all repairs) (sym f) ranked)))
+  -- the first repairs that may be listed are these
+  pub are_first : (repairs : List (List PlainStep)) → AreRankedIn settings graph repairs
+      → AreFirst settings.most (MayBeListed token settings at c) (IsListedBefore token at settings.avoided) repairs
+  are_first repairs ranked =
+      ranked_first settings.lists_all repairs refl
+      (subst (λ (n : ℕ). AreRanked settings.avoided n (n + 1) graph.links graph.endings settings.most settings.lists_all repairs) (sym is.len) ranked)
 
 -- places between which there is no ending
 pub down_to : (avoided : List Bool) (end n : ℕ) (links : List PlainLink) (endings : List PlainEnding) (high low : ℕ) (gap : ℕ) (repairs : List (List PlainStep))

@@ -13,7 +13,6 @@ pub mod Ways
 pub mod Graph
 pub mod Forming
 pub mod Rests
-pub mod FirstRepairs
 pub mod LinkView
 pub mod Counted
 pub mod Chosen

@@ -6,7 +6,6 @@ use Rattle.std.specs.Ordering.{is_lt, nat_cmp, ordering_then}
 use Rattle.std.specs.declared.alloc.Global.{Global}
 use Rattle.lrpar_parse_repair.specs.PlainSteps.{plain_step}
 use Rattle.lrpar_parse_repair.specs.Sequences.{PlainStep, PlainInsert, PlainDelete, PlainShift}
-use Rattle.lrpar_parse_cpctplus.specs.FirstRepairs.{PlainGraph}
 use Rattle.lrpar_parse_cpctplus.specs.Graph.{PlainEnding, PlainLink}
 use Rattle.lrpar_parse_cpctplus.specs.declared.link.Ending.{Ending}
 use Rattle.lrpar_parse_cpctplus.specs.declared.link.Link.{Link}
@@ -19,14 +18,6 @@ plain_link index link = record { from = link.from; step = plain_step index link.
 -- an ending as it is stored, with its step's token by number
 abbrev pub plain_ending : {S : Type 0} → (S → ℕ) → Ending S → PlainEnding
 plain_ending index ending = record { reach = ending.reach; from = ending.from; step = plain_step index ending.step }
-
--- what a search finds
-abbrev pub plain_graph : {S : Type 0} → (S → ℕ) → Linked S → PlainGraph
-plain_graph index linked = record {
-  len = linked.len;
-  links = map (plain_link index) linked.links.items;
-  endings = map (plain_ending index) linked.endings.items;
-}
 
 -- the links and endings are between configurations of the graph, by their numbers
 pub record AreNumbered {S : Type 0} (linked : Linked S) : Type 0 where

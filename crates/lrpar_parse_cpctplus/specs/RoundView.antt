@@ -28,7 +28,6 @@ use Rattle.lrpar_parse_cpctplus.specs.declared.graph.Graph.{Graph}
 use Rattle.lrpar_parse_cpctplus.specs.declared.search.Attempt.{Attempt}
 use Rattle.lrpar_parse_cpctplus.specs.declared.link.Ending.{Ending}
 use Rattle.lrpar_parse_cpctplus.specs.declared.link.Linked.{Linked}
-use Rattle.lrpar_parse_cpctplus.specs.declared.search.Found.{Found}
 use Rattle.lrpar_parse_cpctplus.specs.declared.search.Search.{Search}
 
 -- steps by the numbers of their configurations
@@ -228,13 +227,14 @@ module _ {S X : Type 0} (index : S → ℕ) (parts : X → LexemeParts S) (searc
       IsFoundBy (token_by index parts) search.terms.now.costs search.point.now search.terms.now.limit (nodes_of stacks graph)
       (plain_links index graph.links.items) (plain_endings index endings.items)
 
-  -- what is found
-  abbrev pub IsFoundIn : Option (Found S) → Type 0
-  IsFoundIn None = IsNotFound
-  IsFoundIn (Some found) = IsSearchResult found.stacks found.graph (Some found.endings)
+  -- how many configurations are found, the links between them, and the last steps
+  pub record IsFoundWith (linked : Linked S) : Type 0 where
+    pub nodes : List Configured
+    pub count : linked.len ≡ length nodes
+    pub found : IsFoundBy (token_by index parts) search.terms.now.costs search.point.now search.terms.now.limit nodes
+        (plain_links index linked.links.items) (plain_endings index linked.endings.items)
 
--- how many configurations there are in what is found, the links between them, and the last steps
-pub record AreLinksOf {S : Type 0} (found : Found S) (linked : Linked S) : Type 0 where
-  pub count : linked.len ≡ length found.graph.configurations.keys
-  pub links : linked.links ≡ found.graph.links
-  pub endings : linked.endings ≡ found.endings
+  -- what is found
+  abbrev pub IsFoundIn : Option (Linked S) → Type 0
+  IsFoundIn None = IsNotFound
+  IsFoundIn (Some linked) = IsFoundWith linked

@@ -3,8 +3,7 @@ use Rattle.std.specs.Prelude.{◌≡◌, ◌+◌, ℕ, Bool, List, Vec, map}
 use Rattle.lrpar_parse_repair.specs.PlainSteps.{plain_sequences}
 use Rattle.lrpar_parse_repair.specs.Sequences.{PlainStep}
 use Rattle.lrpar_parse_repair.specs.declared.repair_step.RepairStep.{RepairStep}
-use Rattle.lrpar_parse_cpctplus.specs.FirstRepairs.{AreFirstRepairs}
-use Rattle.lrpar_parse_cpctplus.specs.LinkView.{plain_ending, plain_graph, plain_link}
+use Rattle.lrpar_parse_cpctplus.specs.LinkView.{plain_ending, plain_link}
 use Rattle.lrpar_parse_cpctplus.specs.NodesView.{AddsFirst}
 use Rattle.lrpar_parse_cpctplus.specs.Rests.{AreRanked, IsGroup, with_endings}
 use Rattle.lrpar_parse_cpctplus.specs.declared.link.Link.{Link}
@@ -18,11 +17,6 @@ AreLinksToEnd index linked reach links =
     ≡ with_endings linked.len reach (map (plain_link index) linked.links.items) (map (plain_ending index) linked.endings.items)
 
 module _ {S : Type 0} (index : S → ℕ) (wanted : Wanted) (linked : Linked S) where
-  -- the first repairs that may be listed
-  abbrev pub AreFirstOf : {A B : Type 0} → Type 0 → Vec (Vec (RepairStep S) A) B → Type 0
-  AreFirstOf X repairs =
-      AreFirstRepairs X wanted.avoided.now wanted.most wanted.lists_all (plain_graph index linked) (plain_sequences index repairs.items)
-
   -- the first ones of all groups, or those of the group of the furthest place alone
   abbrev pub AreRankedBy : {A B : Type 0} → Bool → Vec (Vec (RepairStep S) A) B → Type 0
   AreRankedBy lists_all repairs =

@@ -22,7 +22,7 @@ use std::alloc::{AllocError, Global};
 use std::marker::Model;
 
 /// How many repairs are listed at most, if nothing else is said.
-const MOST: usize = 100;
+const MOST_REPAIRS_LISTED: usize = 100;
 
 /// Returns the repair sequences of least cost, after Diekmann and Tratt, *Don't Panic! Better, Fewer, Syntax Errors for LR
 /// Parsers*.
@@ -36,7 +36,7 @@ const MOST: usize = 100;
 /// those that insert no token to be avoided, then those of fewer steps. Of as many steps, the first step that differs decides: an Insert
 /// comes before a Delete, that before a Shift, and Inserts by their tokens, ascending. After these `all` lists the others, in the
 /// same order. `at_most` bounds how many are listed; without it 100 are.
-#[derive(Debug, Drop)]
+#[derive(Debug)]
 pub struct CpctPlus {
     limit: usize,
     costs: Option<Vec<u8>>,
@@ -44,6 +44,20 @@ pub struct CpctPlus {
     avoided: Option<Vec<bool>>,
     most: usize,
     lists_all: bool,
+}
+
+impl Drop for CpctPlus {
+    fn drop(self) {
+        let CpctPlus {
+            limit: _,
+            costs,
+            avoided,
+            most: _,
+            lists_all: _,
+        } = self;
+        drop(costs);
+        drop(avoided);
+    }
 }
 
 impl Model for CpctPlus {
@@ -81,7 +95,7 @@ impl CpctPlus {
             limit,
             costs,
             avoided: None,
-            most: MOST,
+            most: MOST_REPAIRS_LISTED,
             lists_all: false,
         }
     }
@@ -316,9 +330,9 @@ impl<StorageT: StorageIndex, LexemeT: Lexeme<StorageT>> Recoverer<StorageT, Lexe
         // Each token costs something, and some lexeme has to follow a repair.
         let (_lemma, _second_lemma) = (self.limit(), point.shifts());
         let search = Search::new(point, self);
-        let Some(found) = search.found(alloc)? else {
+        let Some(linked) = search.run(alloc)? else {
             return Ok(Vec::new(alloc));
         };
-        first_repairs::<StorageT, LexemeT>(alloc, &self.wanted(), &found.linked())
+        first_repairs(alloc, &self.wanted(), &linked)
     }
 }

@@ -9,7 +9,7 @@ use lrpar_parse_repair::repair::RepairStep;
 use std::alloc::{AllocError, Global};
 
 /// A configuration: the number of a stack, and a place among the lexemes.
-#[derive(Clone, Copy, Debug, PartialEq, Eq, Hash)]
+#[derive(Clone, Copy, PartialEq, Eq, Hash)]
 pub(crate) struct Configuration {
     pub(crate) stack: usize,
     pub(crate) place: usize,

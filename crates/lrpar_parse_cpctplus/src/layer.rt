@@ -50,10 +50,17 @@ impl Counts {
 }
 
 /// The nodes at which rests of one number of steps begin, and how many.
-#[derive(Drop)]
 pub(crate) struct Layer {
     pub(crate) nodes: Vec<usize>,
     counts: HashMap<usize, Counts>,
+}
+
+impl Drop for Layer {
+    fn drop(self) {
+        let Layer { nodes, counts } = self;
+        drop(nodes);
+        drop(counts);
+    }
 }
 
 impl Layer {

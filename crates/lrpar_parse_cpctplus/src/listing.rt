@@ -3,7 +3,7 @@ ghost use Rattle.std.specs.Prelude.{◌≡◌, ◌<◌, ◌≤◌, ◌-◌, ◌^
 ghost use Rattle.lrpar_parse_cpctplus.specs.Chosen.{IsBelow, IsFurthestBelow, above};
 ghost use Rattle.lrpar_parse_cpctplus.specs.Counted.{counted};
 ghost use Rattle.lrpar_parse_cpctplus.specs.LinkView.{AreNumbered};
-ghost use Rattle.lrpar_parse_cpctplus.specs.WantedView.{AddsGroup, AreFirstOf, AreLinksToEnd, AreRankedBy};
+ghost use Rattle.lrpar_parse_cpctplus.specs.WantedView.{AddsGroup, AreLinksToEnd, AreRankedBy};
 
 use crate::form::{Class, Form};
 use crate::layer::Layer;
@@ -15,7 +15,7 @@ use std::alloc::{AllocError, Global};
 
 /// Which repairs are listed: tokens to be avoided, how many repairs at most, and whether all may be, or only those after which a parse
 /// goes on furthest.
-#[derive(Drop)]
+#[derive(Clone, Copy)]
 pub(crate) struct Wanted<'a> {
     pub(crate) avoided: &'a [bool],
     pub(crate) most: usize,
@@ -23,8 +23,8 @@ pub(crate) struct Wanted<'a> {
 }
 
 /// A first step, and which of the rests after it is meant: the place among those of a form from a node.
-#[derive(Drop)]
-pub(crate) struct Choice<StorageT: StorageIndex> {
+#[derive(Clone, Copy)]
+pub(crate) struct Choice<StorageT: Copy> {
     step: RepairStep<StorageT>,
     node: usize,
     form: Form,
@@ -32,19 +32,7 @@ pub(crate) struct Choice<StorageT: StorageIndex> {
 }
 
 /// The first repairs, as many as may be listed: those first after which a parse goes on furthest, and others only if all may be.
-pub(crate) fn first_repairs<StorageT: StorageIndex, LexemeT>(
-    alloc: Global,
-    wanted: &Wanted<'_>,
-    linked: &Linked<StorageT>,
-) -> Result<Vec<Vec<RepairStep<StorageT>>>, AllocError>
-    requires numbered { AreNumbered linked.now }
-    ensures first { IfOk result (AreFirstOf StorageT.index wanted.now linked.now LexemeT) }
-{
-    ranked_repairs(alloc, wanted, linked)
-}
-
-// The repairs, group by group.
-fn ranked_repairs<StorageT: StorageIndex>(
+pub(crate) fn first_repairs<StorageT: StorageIndex>(
     alloc: Global,
     wanted: &Wanted<'_>,
     linked: &Linked<StorageT>,

@@ -9,7 +9,6 @@ use lrpar_parse_repair::repair::RepairStep;
 use std::alloc::{AllocError, Global};
 
 /// The links between nodes. The last node is the end of all repairs.
-#[derive(Drop)]
 pub(crate) struct Nodes<'a, StorageT: StorageIndex> {
     pub(crate) avoided: &'a [bool],
     pub(crate) end: usize,
@@ -17,6 +16,19 @@ pub(crate) struct Nodes<'a, StorageT: StorageIndex> {
     out: Vec<Vec<Link<StorageT>>>,
     /// By node: the nodes from which links lead to it.
     into: Vec<Vec<usize>>,
+}
+
+impl<StorageT: StorageIndex> Drop for Nodes<'_, StorageT> {
+    fn drop(self) {
+        let Nodes {
+            avoided: _,
+            end: _,
+            out,
+            into,
+        } = self;
+        drop(out);
+        drop(into);
+    }
 }
 
 impl<'a, StorageT: StorageIndex> Nodes<'a, StorageT> {

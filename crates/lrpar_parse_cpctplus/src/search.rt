@@ -31,39 +31,10 @@ pub(crate) struct Search<'a, 'p, StorageT: StorageIndex, LexemeT: Lexeme<Storage
 }
 
 /// A step that is tried, from the configuration with this number.
-#[derive(Clone, Copy, Debug)]
+#[derive(Clone, Copy)]
 pub(crate) struct Attempt<StorageT: Copy> {
     from: usize,
     step: RepairStep<StorageT>,
-}
-
-/// The configurations that are nearer than the least cost of a repair, with their stacks, and the last steps of the repairs of this cost.
-#[derive(Drop)]
-pub(crate) struct Found<StorageT: StorageIndex> {
-    stacks: SharedStacks<StorageT>,
-    graph: Graph<StorageT>,
-    endings: Vec<Ending<StorageT>>,
-}
-
-impl<StorageT: StorageIndex> Found<StorageT> {
-    ghost use Rattle.lrpar_parse_cpctplus.specs.RoundView.{AreLinksOf};
-
-    /// How many configurations there are, with the links and the last steps.
-    pub(crate) fn linked(self) -> Linked<StorageT>
-        ensures { AreLinksOf self result }
-    {
-        let Found {
-            stacks,
-            graph,
-            endings,
-        } = self;
-        drop(stacks);
-        Linked {
-            len: graph.len(),
-            links: graph.into_links(),
-            endings,
-        }
-    }
 }
 
 impl<'a, 'p, StorageT: StorageIndex, LexemeT: Lexeme<StorageT>> Search<'a, 'p, StorageT, LexemeT> {
@@ -77,19 +48,20 @@ impl<'a, 'p, StorageT: StorageIndex, LexemeT: Lexeme<StorageT>> Search<'a, 'p, S
         Search { point, terms }
     }
 
-    /// What is found: nothing, if there is no repair, or if more configurations than the limit are nearer than its least cost.
-    pub(crate) fn found(&self, alloc: Global) -> Result<Option<Found<StorageT>>, AllocError>
+    /// Runs the search. It finds nothing if there is no repair, or if more configurations than the limit are nearer than its least cost.
+    pub(crate) fn run(&self, alloc: Global) -> Result<Option<Linked<StorageT>>, AllocError>
         ensures { IfOk result (IsFoundIn StorageT.index LexemeT.parts self.now) }
     {
         let weights = self.terms.weights(alloc)?;
         let mut stacks = SharedStacks::new(alloc, self.point.stack())?;
-        // Each token costs something.
-        let (stack, place, _limit) = (stacks.number(), self.point.place(), self.terms.limit());
+        let (stack, place) = (stacks.number(), self.point.place());
         let mut graph = Graph::new(alloc, Configuration { stack, place })?;
+        // Each token costs something.
+        let _lemma = self.terms.limit();
         match self.run_rounds(alloc, &mut stacks, &mut graph, &weights)? {
-            Some(endings) => Ok(Some(Found {
-                stacks,
-                graph,
+            Some(endings) => Ok(Some(Linked {
+                len: graph.len(),
+                links: graph.into_links(),
                 endings,
             })),
             None => Ok(None),
@@ -108,8 +80,9 @@ impl<'a, 'p, StorageT: StorageIndex, LexemeT: Lexeme<StorageT>> Search<'a, 'p, S
         requires weights { AreWeights self.now.terms.now.costs weights.now }
         ensures { IfOk result (IsSearchResult StorageT.index LexemeT.parts self.now stacks.new graph.new) }
     {
+        let limit = self.terms.limit();
         // The point is an error point.
-        let (limit, _shifts) = (self.terms.limit(), self.point.shifts());
+        let _lemma = self.point.shifts();
         if limit < graph.len() {
             return Ok(None);
         }
@@ -326,7 +299,8 @@ impl<'a, 'p, StorageT: StorageIndex, LexemeT: Lexeme<StorageT>> Search<'a, 'p, S
         ensures { IfOk result (IsAddedLevel StorageT.index LexemeT.parts self.now stacks.old graph.old stacks.new graph.new) }
     {
         // Each token costs something.
-        let (first, _limit) = (graph.len(), self.terms.limit());
+        let _lemma = self.terms.limit();
+        let first = graph.len();
         graph.begin_level()?;
         if self.add_reached(stacks, graph, first, attempts)? {
             self.add_shifts(stacks, graph, first)

@@ -1,4 +1,5 @@
-use Rattle.lrpar_parse_cpctplus.proofs.FurthestLemmas.{furthest_kept, furthest_taken, none_furthest, not_both}
+use Rattle.std.proofs.lemmas.Bool.{iff_false}
+use Rattle.lrpar_parse_cpctplus.proofs.FurthestLemmas.{furthest_kept, furthest_taken, none_furthest}
 use Rattle.lrpar_parse_cpctplus.proofs.listing.furthest.Goals as goal
 use Rattle.lrpar_parse_cpctplus.proofs.listing.furthest.Goals.{then-is_below+then-is_above, else-is_below, else-is_below-via-then-is_below+else-is_above, else-is_below-via-else-is_below}
 
@@ -20,8 +21,8 @@ loop-ending-preserved g c =
           rw w.found-is
           (furthest_kept index endings l.ending-index ending c.args.bound l.found c.loop-ending-test.true c.ending-item.is
           (λ under over. elim w.else-is_below.branch as (λ _. ⊥) [
-            | else-is_below-via-then-is_below+else-is_above v ↦ not_both v.is_above.result (v.is_above.ensures.1 over) v.if-is_above.false
-            | else-is_below-via-else-is_below v ↦ not_both c.is_below.result (c.is_below.ensures.1 under) v.if-is_below.false
+            | else-is_below-via-then-is_below+else-is_above v ↦ iff_false v.is_above.ensures v.if-is_above.false over
+            | else-is_below-via-else-is_below v ↦ iff_false c.is_below.ensures v.if-is_below.false under
           ])
           l.invariant)
     ]

@@ -46,7 +46,7 @@ returns-then-branch g c =
     (IsAddedLevel index parts search c.args.stacks.now c.args.graph.now new_stacks new_graph)
     (λ good.
     round_begins_next index parts search c.args.stacks.now c.args.graph.now c.begin_level.new.self c.len-first.result c.args.attempts.now c.requires.round c.requires.attempts
-    c.requires.least begun.firsts begun.configurations begun.links c.len-first.ensures.len mid_stacks mid both.0 c.limit-limit.ensures.costs new_stacks new_graph good.0 good.1)
+    c.requires.least begun.firsts begun.configurations begun.links c.len-first.ensures.len mid_stacks mid both.0 c.limit-lemma.ensures.costs new_stacks new_graph good.0 good.1)
     (λ bad. bad.0))
     c.add_shifts.ensures
 

@@ -1,4 +1,5 @@
-use Rattle.std.proofs.Common.{◌∙◌, length, subst, sym}
+use Rattle.std.proofs.Common.{length, subst}
+use Rattle.std.proofs.lemmas.Bool.{both_ways}
 use Rattle.lrpar_parse_lexemes.specs.Views.{token_by}
 use Rattle.lrpar_parse_repair.specs.PlainSteps.{plain_step}
 use Rattle.lrpar_parse_cpctplus.specs.Configurations.{Configured, GoesOnFrom}
@@ -43,6 +44,4 @@ returns-else-branch-clause-reach g c =
     let own = rw c.in-Some.is at c.in_ok-reached.ensures.leads.leads in
     λ v edge on.
     let same = edge_one token at (configured_at c.args.stacks.now.stacks c.args.at) v (configured_at mid.stacks c.in-Some.reached) (plain_step index c.args.step) edge own in
-    let yes_it = c.in_ok-can_go_on.ensures.goes_on.1 (subst (λ (w : Configured). GoesOnFrom token at w) same on) in
-    let both = sym c.if-branch.false ∙ yes_it in
-    absurd (cc)
+    absurd (both_ways _ c.if-branch.false (c.in_ok-can_go_on.ensures.goes_on.1 (subst (λ (w : Configured). GoesOnFrom token at w) same on)))

@@ -89,7 +89,7 @@ add_level-requires g c =
       attempts = rw c.deref-in-rounds.ensures.value
           (subst (λ (ns : List Configured). AreAttempts token search.terms.now.costs at ns firsts (length firsts) attempts) (sym stays.1) c.in_ok-attempts.ensures.attempts);
       least = next_least token search.terms.now.costs at c.limit-limit.ensures.costs (nodes_of l.stacks l.graph) firsts (plain_links index l.graph.links.items)
-          l.invariant.round.known attempts c.in_ok-attempts.ensures.attempts endings found c.shifts-shifts.ensures.stop none;
+          l.invariant.round.known attempts c.in_ok-attempts.ensures.attempts endings found c.shifts-lemma.ensures.stop none;
       within = omega (arith, l.invariant.within, c.limit-limit.ensures.limit);
     }
 

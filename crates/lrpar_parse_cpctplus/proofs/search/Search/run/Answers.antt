@@ -9,9 +9,10 @@ use Rattle.lrpar_parse_cpctplus.specs.SearchRound.{IsRound}
 use Rattle.lrpar_parse_cpctplus.specs.declared.graph.Configuration.{Configuration}
 use Rattle.lrpar_parse_cpctplus.specs.declared.link.Link.{Link}
 use Rattle.lrpar_parse_cpctplus.proofs.DistanceLemmas.{configured}
+use Rattle.lrpar_parse_cpctplus.proofs.HeldLemmas.{nodes_len}
 use Rattle.lrpar_parse_cpctplus.proofs.KnownLemmas.{round_begins}
 use Rattle.lrpar_parse_cpctplus.proofs.NumberLemmas.{single}
-use Rattle.lrpar_parse_cpctplus.proofs.search.Search.found.Goals as goal
+use Rattle.lrpar_parse_cpctplus.proofs.search.Search.run.Goals as goal
 
 pub run_rounds-requires-clause-round : goal.run_rounds-requires-clause-round
 run_rounds-requires-clause-round g c =
@@ -34,7 +35,7 @@ run_rounds-requires-clause-round g c =
     let nodes : nodes_in stacks.stacks graph.configurations.keys ≡ root_of at ∷ [] =
     ap (λ (l : List Configuration). nodes_in stacks.stacks l) is.configurations ∙ ap (λ (v : Configured). v ∷ []) here in
     let links : plain_links index graph.links.items ≡ [] = ap (λ (l : List (Link g.row.StorageT.Denot)). plain_links index l) is.links in
-    let first = round_begins token costs at c.place-place.ensures.stop c.limit-limit.ensures.costs in
+    let first = round_begins token costs at c.place-place.ensures.stop c.limit-lemma.ensures.costs in
     let second = subst (λ (ls : List PlainLink). IsRound token costs at (root_of at ∷ []) (0 ∷ []) ls) (sym links) first in
     let third = subst (λ (fs : List ℕ). IsRound token costs at (root_of at ∷ []) fs (plain_links index graph.links.items)) (sym is.firsts) second in
     record {
@@ -42,4 +43,14 @@ run_rounds-requires-clause-round g c =
           let one = single root key i (subst (λ (l : List Configuration). slice_get l i ≡ Some key) is.configurations at_i) in
           subst (IsHeld at.checked.table (length at.lexemes) stacks.stacks) one.1 held;
       known = subst (λ (ns : List Configured). IsRound token costs at ns graph.firsts.items (plain_links index graph.links.items)) (sym nodes) third;
+    }
+
+pub returns-in-Some : goal.returns-in-Some
+returns-in-Some g c =
+    let stacks = c.run_rounds.new.stacks.stacks in
+    let keys = c.run_rounds.new.graph.configurations.keys in
+    record {
+      nodes = nodes_in stacks keys;
+      count = c.len.ensures.len ∙ sym (nodes_len stacks keys);
+      found = rw c.into_links.ensures (rw c.in-Some.is at c.in_ok-endings.ensures);
     }
