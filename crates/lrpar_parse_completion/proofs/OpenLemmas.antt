@@ -99,6 +99,24 @@ state_at {S} index stack i s low is =
     slice_get-map (λ (x : StIdx S). index x.0) stack i
     ∙ ap (option_map (λ (x : StIdx S). index x.0)) (slice_get-get_or stack i s low ∙ ap (λ (x : StIdx S). Some x) (sym is))
 
+-- the top state of the code
+pub top_at : {S : Type 0} (index : S → ℕ) (stack : List (StIdx S)) (top : StIdx S) → (length stack ≡ 0 → ⊥) → top ≡ get_or stack (length stack - 1) top
+    → slice_get (states_of index stack) (length stack - 1) ≡ Some (index top.0)
+top_at index stack top some is = state_at index stack (length stack - 1) top (omega (arith, some)) is
+
+-- places of a stack: that of the top, and those below
+pub top_place : (n : ℕ) (st : List ℕ) → length st ≡ n → (n ≡ 0 → ⊥) → length st ≡ n - 1 + 1
+top_place n st many some = omega (arith, many, some)
+
+pub top_within : (n : ℕ) (st : List ℕ) → length st ≡ n → (n ≡ 0 → ⊥) → n - 1 < length st
+top_within n st many some = omega (arith, many, some)
+
+pub base_within : (place dot : ℕ) (st : List ℕ) → place < length st → place - dot < length st
+base_within place dot st within = omega (arith, within)
+
+pub base_lower : (place dot : ℕ) → (dot ≡ 0 → ⊥) → dot ≤ place → place - dot < place
+base_lower place dot some deep = omega (arith, some, deep)
+
 -- the one below some symbols
 pub base_at : {S : Type 0} (index : S → ℕ) (stack : List (StIdx S)) (place dot : ℕ) (s : StIdx S) → place < length (states_of index stack)
     → s ≡ get_or stack (place - dot) s → slice_get (states_of index stack) (place - dot) ≡ Some (index s.0)
@@ -313,9 +331,14 @@ module _ (d : Checked) (checked : IsChecked d) where
         subst (IsCompletion g table st) (append-nil tokens)
         (completing.tail [] (subst (λ (q : ℕ). IsTail g table (take (place + 1) st) q k []) (sym is) tail))
 
+    -- another item has a symbol before the dot
+    pub completing_begun : p ≢ start_prod g → k ≡ 0 → ⊥
+    completing_begun other none =
+        elim completing.kernel.begun as (λ _. ⊥) [ inl past ↦ omega (arith, past, none) | inr start ↦ other start ]
+
     -- the stack has the symbols before the dot
-    pub completing_deep : k ≤ place
-    completing_deep = let b = lower in let sum = b.below in omega (arith, sum)
+    pub completing_deep : place < k → ⊥
+    completing_deep low = let b = lower in let sum = b.below in omega (arith, sum, low)
 
     -- and the state below them has the core with the dot at the start
     pub completing_base : (s : ℕ) → slice_get st (place - k) ≡ Some s → HasCore graph s p 0

@@ -1,5 +1,5 @@
 -- The completer of stacks, as contracts see it. `index` is the number that a storage number represents.
-use Rattle.std.specs.Prelude.{◌<◌, ◌≤◌, ℕ, List, IfSome, IsSome, IsSomeAnd, Option, Vec}
+use Rattle.std.specs.Prelude.{◌<◌, ◌≤◌, ℕ, Bool, List, IfSome, IsTrue, IsSome, IsSomeAnd, Option, Vec}
 use Rattle.std.below.core.specs.declared.int.usize.TheConstants.{MAX}
 use Rattle.lrpar_grammar_places.specs.declared.span.PIdx.{PIdx}
 use Rattle.lrpar_grammar_places.specs.declared.span.StIdx.{StIdx}
@@ -48,3 +48,8 @@ module _ {S : Type 0} (index : S → ℕ) (completer : Completer S) where
   abbrev pub CompletesStack : {A : Type 0} → List (StIdx S) → Option (Vec (TIdx S) A) → Type 0
   CompletesStack stack found = CanComplete completer.data.now → IsStack completer.data.now.table (states_of index stack)
       → IsSomeAnd found (λ tokens. IsCompletion completer.data.now.grammar completer.data.now.table (states_of index stack) (tokens_of index tokens.items))
+
+  -- if the table can complete and the stack is the table's, these tokens are found, and they complete the stack
+  abbrev pub FindsCompletion : {A : Type 0} → List (StIdx S) → Vec (TIdx S) A → Bool → Type 0
+  FindsCompletion stack tokens found = CanComplete completer.data.now → IsStack completer.data.now.table (states_of index stack)
+      → IsTrue found × IsCompletion completer.data.now.grammar completer.data.now.table (states_of index stack) (tokens_of index tokens.items)

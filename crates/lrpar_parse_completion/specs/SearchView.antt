@@ -24,6 +24,10 @@ module _ {S X : Type 0} (index : S → ℕ) where
   abbrev pub HasStack : Search S X → List (StIdx S) → Type 0
   HasStack search stack = IsStack search.point.now.checked.table (states_of index stack)
 
+  -- the stack is that of the error point
+  abbrev pub HasPointStack : Search S X → List (StIdx S) → Type 0
+  HasPointStack search stack = states_of index stack ≡ search.point.now.stack
+
   -- the token was fed; or it isn't one that can be inserted
   abbrev pub InsertsToken : {A : Type 0} → Search S X → TIdx S → Vec (StIdx S) A → Vec (StIdx S) A → Bool → Type 0
   InsertsToken search token old new fed =

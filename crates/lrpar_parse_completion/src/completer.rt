@@ -1,5 +1,5 @@
 //! The completion of a stack: tokens that lead from it to a stack that accepts.
-ghost use Rattle.std.specs.Prelude.{◌<◌, ◌↔◌, IfOk, IsTrue};
+ghost use Rattle.std.specs.Prelude.{◌≡◌, ◌<◌, ◌↔◌, [], IfOk, IsTrue};
 ghost use Rattle.lrpar_grammar.specs.Grammar.{prod_len, prods_len};
 ghost use Rattle.lrpar_table_sentences.specs.Choices.{AreShortest};
 ghost use Rattle.lrpar_parse_completion.specs.Opening.{IsAfterPushed, IsRestPushed};
@@ -20,7 +20,7 @@ pub(crate) struct Completer<'a, StorageT: StorageIndex> {
 }
 
 impl<'a, StorageT: StorageIndex> Completer<'a, StorageT> {
-    ghost use Rattle.lrpar_parse_completion.specs.CompleterView.{CompletesStack, HasBegun, HasProd, HasState, IsKernelOf, IsOpening, KnowsShortest};
+    ghost use Rattle.lrpar_parse_completion.specs.CompleterView.{CompletesStack, FindsCompletion, HasBegun, HasProd, HasState, IsKernelOf, IsOpening, KnowsShortest};
 
     /// The completion of the stack, bottom first: a minimal sentence of the symbols after the dot of a kernel item of the top state, and
     /// then, for each item whose rule this ends, of those after the rule in an item that waits for it, down to the start item.
@@ -34,42 +34,60 @@ impl<'a, StorageT: StorageIndex> Completer<'a, StorageT> {
         requires shortest { KnowsShortest self.now }
         ensures { IfOk result (CompletesStack StorageT.index self.now stack.now) }
     {
+        let mut tokens = Vec::new(alloc);
+        if self.push_completion(alloc, stack, &mut tokens)? {
+            Ok(Some(tokens))
+        } else {
+            Ok(None)
+        }
+    }
+
+    // Puts the tokens of the completion into the empty list; returns whether there is one.
+    fn push_completion(
+        &self,
+        alloc: Global,
+        stack: &[StIdx<StorageT>],
+        tokens: &mut Vec<TIdx<StorageT>>,
+    ) -> Result<bool, AllocError>
+        requires shortest { KnowsShortest self.now }
+        requires empty { tokens.old.items ≡ [] }
+        ensures { IfOk result (FindsCompletion StorageT.index self.now stack.now tokens.new) }
+    {
         let _lemma = self.data.stable();
         if stack.is_empty() {
-            return Ok(None);
+            return Ok(false);
         }
         let mut place = stack.len() - 1;
         let top = stack[place];
         if !self.has_state(top) {
-            return Ok(None);
+            return Ok(false);
         }
         let start = usize::from(self.data.grm().start_prod());
         let (mut prod, mut dot) = self.kernel_core(top);
-        let mut tokens = Vec::new(alloc);
         let grm = self.data.grm();
         let rest = &grm.prod(prod)[dot..];
-        if !push_rest(alloc, grm, self.shortest, &mut tokens, rest)? {
-            return Ok(None);
+        if !push_rest(alloc, grm, self.shortest, tokens, rest)? {
+            return Ok(false);
         }
         'items: while usize::from(prod) != start {
             if dot == 0 {
-                return Ok(None);
+                return Ok(false);
             }
             if place < dot {
-                return Ok(None);
+                return Ok(false);
             }
             place -= dot;
             let base = stack[place];
             if !self.has_state(base) {
-                return Ok(None);
+                return Ok(false);
             }
-            let Some((next, at)) = self.find_opener(alloc, base, prod, &mut tokens)? else {
-                return Ok(None);
+            let Some((next, at)) = self.find_opener(alloc, base, prod, tokens)? else {
+                return Ok(false);
             };
             prod = next;
             dot = at;
         }
-        Ok(Some(tokens))
+        Ok(true)
     }
 
     // Whether the state is one of the table.

@@ -18,7 +18,7 @@ use std::alloc::{AllocError, Global};
 use std::marker::Model;
 
 /// How many tokens of a completion are tried at each place, if nothing else is set.
-const MOST: usize = 8;
+const MOST_TOKENS_TRIED: usize = 8;
 
 /// A recoverer that always repairs, over a table that is complete and viable, as each built table without conflicts is, of a grammar
 /// whose reachable rules are productive.
@@ -88,7 +88,7 @@ impl<'a, StorageT: StorageIndex> Completion<'a, StorageT> {
             Ok(()) => Ok(Completion {
                 data: checked,
                 shortest,
-                most: MOST,
+                most: MOST_TOKENS_TRIED,
             }),
             Err(CompleteFault::Condition(condition, state)) => {
                 Err(NoCompletion::Incomplete(condition, state))
@@ -125,13 +125,12 @@ impl<StorageT: StorageIndex, LexemeT: Lexeme<StorageT>> Recoverer<StorageT, Lexe
     ) -> Result<Vec<Vec<RepairStep<StorageT>>>, AllocError>
         ensures allowed { IfOk result (IsCompletedBy StorageT.index LexemeT.parts self.now point.now) }
     {
-        let mut answer = Vec::new(alloc);
         let completer = Completer {
             data: self.data,
             shortest: &self.shortest,
         };
         let Some(tokens) = completer.completion(alloc, point.stack())? else {
-            return Ok(answer);
+            return Ok(Vec::new(alloc));
         };
         let search = Search {
             point,
@@ -139,9 +138,11 @@ impl<StorageT: StorageIndex, LexemeT: Lexeme<StorageT>> Recoverer<StorageT, Lexe
             most: self.most,
         };
         let Some(repair) = search.nearest(alloc)? else {
-            return Ok(answer);
+            return Ok(Vec::new(alloc));
         };
-        answer.push(search.steps(alloc, repair)?)?;
+        let steps = search.steps(alloc, repair)?;
+        let mut answer = Vec::new(alloc);
+        answer.push(steps)?;
         Ok(answer)
     }
 }

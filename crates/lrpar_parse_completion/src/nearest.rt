@@ -1,5 +1,5 @@
 //! The nearest lexeme at which a parse can go on, after some first tokens of a completion are inserted.
-ghost use Rattle.std.specs.Prelude.{◌≤◌, ◌↔◌, IfOk, IsTrue, length};
+ghost use Rattle.std.specs.Prelude.{◌≡◌, ◌≤◌, ◌↔◌, [], IfOk, IsTrue, OnOk, length};
 
 use lrpar_grammar::span::{StIdx, StorageIndex, TIdx};
 use lrpar_parse_lexemes::lex_api::Lexeme;
@@ -9,7 +9,7 @@ use lrpar_table_check::check::Overlay;
 use std::alloc::{AllocError, Global};
 
 /// A repair: how many tokens of a completion are inserted, and the place up to which lexemes are deleted.
-#[derive(Clone, Copy, Debug)]
+#[derive(Clone, Copy)]
 pub(crate) struct Nearest {
     pub(crate) inserted: usize,
     pub(crate) place: usize,
@@ -24,7 +24,7 @@ pub(crate) struct Search<'a, 'p, StorageT: StorageIndex, LexemeT: Lexeme<Storage
 }
 
 impl<'a, 'p, StorageT: StorageIndex, LexemeT: Lexeme<StorageT>> Search<'a, 'p, StorageT, LexemeT> {
-    ghost use Rattle.lrpar_parse_completion.specs.SearchView.{FindsNearest, FirstAt, FirstAtEnd, GoesOnBy, HasStack, HasSteps, InsertsToken, TriesStacks};
+    ghost use Rattle.lrpar_parse_completion.specs.SearchView.{FindsNearest, FirstAt, FirstAtEnd, GoesOnBy, HasPointStack, HasStack, HasSteps, InsertsToken, TriesStacks};
 
     /// The repair at the nearest place; of several, the one that inserts fewest tokens.
     pub(crate) fn nearest(&self, alloc: Global) -> Result<Option<Nearest>, AllocError>
@@ -47,18 +47,31 @@ impl<'a, 'p, StorageT: StorageIndex, LexemeT: Lexeme<StorageT>> Search<'a, 'p, S
     fn stacks(&self, alloc: Global) -> Result<Vec<Vec<StIdx<StorageT>>>, AllocError>
         ensures { IfOk result (λ stacks. TriesStacks StorageT.index self.now stacks.items) }
     {
+        let mut stacks = Vec::new(alloc);
+        self.push_stacks(alloc, &mut stacks)?;
+        Ok(stacks)
+    }
+
+    // Puts these stacks into the empty list.
+    fn push_stacks(
+        &self,
+        alloc: Global,
+        stacks: &mut Vec<Vec<StIdx<StorageT>>>,
+    ) -> Result<(), AllocError>
+        requires empty { stacks.old.items ≡ [] }
+        ensures { OnOk result (TriesStacks StorageT.index self.now stacks.new.items) }
+    {
         let tried = &self.tokens[..self.tokens.len().min(self.most)];
         let mut stack = Vec::from_slice(alloc, self.point.stack())?;
-        let mut stacks = Vec::new(alloc);
         'tokens: for token in tried {
             let before = Vec::from_slice(alloc, &stack)?;
             stacks.push(before)?;
             if !self.feed(&mut stack, *token)? {
-                return Ok(stacks);
+                return Ok(());
             }
         }
         stacks.push(stack)?;
-        Ok(stacks)
+        Ok(())
     }
 
     // How many tokens lead to the first of the stacks from which a parse can go on at the place.
@@ -84,17 +97,29 @@ impl<'a, 'p, StorageT: StorageIndex, LexemeT: Lexeme<StorageT>> Search<'a, 'p, S
     fn at_end(&self, alloc: Global) -> Result<Option<usize>, AllocError>
         ensures { IfOk result (FirstAtEnd StorageT.index LexemeT.parts self.now) }
     {
-        let place = self.point.lexemes().len();
         let mut stack = Vec::from_slice(alloc, self.point.stack())?;
+        self.feed_to_end(alloc, &mut stack)
+    }
+
+    // The fewest tokens after which a parse can go on at the end of the lexemes. Feeds the tokens to this copy of the point's stack.
+    fn feed_to_end(
+        &self,
+        alloc: Global,
+        stack: &mut Vec<StIdx<StorageT>>,
+    ) -> Result<Option<usize>, AllocError>
+        requires stack { HasPointStack StorageT.index self.now stack.old.items }
+        ensures { IfOk result (FirstAtEnd StorageT.index LexemeT.parts self.now) }
+    {
+        let place = self.point.lexemes().len();
         'tokens: for (inserted, token) in self.tokens.iter().enumerate() {
-            if self.goes_on(alloc, &stack, place)? {
+            if self.goes_on(alloc, stack, place)? {
                 return Ok(Some(inserted));
             }
-            if !self.feed(&mut stack, *token)? {
+            if !self.feed(stack, *token)? {
                 return Ok(None);
             }
         }
-        if self.goes_on(alloc, &stack, place)? {
+        if self.goes_on(alloc, stack, place)? {
             Ok(Some(self.tokens.len()))
         } else {
             Ok(None)

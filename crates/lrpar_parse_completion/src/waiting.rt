@@ -11,7 +11,7 @@ use lrpar_table_first::after_dot::rule_after;
 use std::alloc::{AllocError, Global};
 
 /// A rule, and an item that has it after the dot: its production and its dot.
-#[derive(Clone, Copy, Debug)]
+#[derive(Clone, Copy)]
 pub(crate) struct Link<StorageT: StorageIndex> {
     pub(crate) rule: RIdx<StorageT>,
     pub(crate) prod: PIdx<StorageT>,
@@ -19,7 +19,7 @@ pub(crate) struct Link<StorageT: StorageIndex> {
 }
 
 /// The rules that are found so far, in the order in which they are found, and for each rule of the grammar whether it is among them.
-#[derive(Debug, Drop)]
+#[derive(Drop)]
 struct Found<StorageT: StorageIndex> {
     links: Vec<Link<StorageT>>,
     marks: Vec<bool>,

@@ -1,4 +1,4 @@
-use Rattle.std.proofs.Common.{◌<◌, ℕ, List, ap, arith, inl, inr, length, subst, sym, length-append}
+use Rattle.std.proofs.Common.{◌<◌, ◌∙◌, ℕ, List, ap, arith, inl, inr, length, subst, sym, length-append}
 use Rattle.std.proofs.lemmas.List.{length-map}
 use Rattle.std.proofs.lemmas.Option.{slice_get_within}
 use Rattle.lrpar_grammar.specs.Grammar.{start_prod}
@@ -46,7 +46,7 @@ add_prods-requires-clause-rule g c =
     let index = g.StorageT.StorageIndex.index in
     let d = c.args.checked.now in
     let own = IsOwnCore d.grammar d.graph d.table (index c.args.state.0) in
-    let low : c.found.place < length c.found.found.links.items = omega (arith, c.found-test.true, c.len.ensures, c.found.found.links.ok.0) in
+    let low : c.found.place < length c.found.found.links.items = subst (λ (n : ℕ). c.found.place < n) (c.len.ensures ∙ c.found.found.links.ok.0) c.found-test.true in
     let at = link_at index c.found.found.links.items c.found.place c.index-link.result.now low c.index-link.ensures in
     rw c.grm-grm.ensures (link_rule_low d.grammar c.stable-lemma.ensures.checked.well_formed own (links_of index c.found.found.links.items) c.found.invariant.found.each c.found.place _ at)
 
@@ -61,7 +61,7 @@ found-preserved g c =
     let link = link_of index c.index-link.result.now in
     let links = links_of index l.found.links.items in
     let after = links_of index c.add_prods.new.self.links.items in
-    let low : l.place < length l.found.links.items = omega (arith, c.found-test.true, c.len.ensures, l.found.links.ok.0) in
+    let low : l.place < length l.found.links.items = subst (λ (n : ℕ). l.place < n) (c.len.ensures ∙ l.found.links.ok.0) c.found-test.true in
     let at = link_at index l.found.links.items l.place c.index-link.result.now low c.index-link.ensures in
     let grows = rw c.grm-grm.ensures at c.in_ok-add_prods.ensures.grows in
     let one = grows d.graph d.table s l.invariant.found (link_contained links l.place link at) in
@@ -78,7 +78,7 @@ pub found-smaller : goal.found-smaller
 found-smaller g c =
     let index = g.StorageT.StorageIndex.index in
     let l = c.found in
-    let low : l.place < length l.found.links.items = omega (arith, c.found-test.true, c.len.ensures, l.found.links.ok.0) in
+    let low : l.place < length l.found.links.items = subst (λ (n : ℕ). l.place < n) (c.len.ensures ∙ l.found.links.ok.0) c.found-test.true in
     let at = link_at index l.found.links.items l.place c.index-link.result.now low c.index-link.ensures in
     let inside = slice_get_within (links_of index l.found.links.items) l.place _ at in
     omega (arith, inside, l.invariant.counted.0, l.invariant.counted.1)

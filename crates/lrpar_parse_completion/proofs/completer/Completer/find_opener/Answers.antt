@@ -1,5 +1,6 @@
 use Rattle.std.proofs.Common.{◌≡◌, ◌<◌, ◌+◌, ◌++◌, ◌∷◌, ◌-◌, ◌∙◌, ℕ, List, [], arith, length, refl, subst, sym, take}
 use Rattle.std.specs.List.{Contains}
+use Rattle.std.proofs.lemmas.Bool.{both_ways, iff_false}
 use Rattle.std.proofs.lemmas.List.{length-map, take_all}
 use Rattle.lrpar_grammar.specs.Grammar.{Nonterminal, prod_len, rule_of, symbols_of}
 use Rattle.lrpar_table_stacks.specs.Expected.{tokens_of}
@@ -55,8 +56,7 @@ returns-then-not-branch g c =
       some = λ must.
           let trees = link_trees d c.stable-lemma.ensures.checked must.can (index c.args.state.0) (links_of index c.in_ok-links.links.items) c.requires.state
           must.walked c.in_ok-links.ensures (c.links.place - 1) (link_of index link) at in
-          let some = (rw c.grm-grm.ensures at c.in_ok-push_after.ensures.some) trees in
-          absurd (cc);
+          absurd (both_ways _ c.if-not-branch.true ((rw c.grm-grm.ensures at c.in_ok-push_after.ensures.some) trees));
     }
 
 pub returns-then-is_kernel : goal.returns-then-is_kernel
@@ -67,7 +67,7 @@ returns-then-is_kernel g c =
     let link = c.index-link.result.now in
     let at = link_before index c.in_ok-links.links.items l.place link c.links-test.true l.invariant.within c.index-link.ensures in
     let wanted : index link.rule.0 ≡ index l.wanted.0 = sym c.from.ensures ∙ c.if-from.false ∙ c.from-in-links.ensures in
-    let pushed = (rw c.grm-grm.ensures at c.in_ok-push_after.ensures.pushed) (cc) in
+    let pushed = (rw c.grm-grm.ensures at c.in_ok-push_after.ensures.pushed) c.if-not-branch.false in
     record {
       opened = opens_here d c.stable-lemma.ensures.checked (index c.args.state.0) (rule_of d.grammar (index c.args.prod.0)) (index l.wanted.0)
           (links_of index c.in_ok-links.links.items) c.in_ok-links.ensures.each (l.place - 1) (link_of index link) at wanted
@@ -87,7 +87,7 @@ links-preserved g c =
     let past = climbs_past d c.stable-lemma.ensures.checked (index c.args.state.0) (rule_of d.grammar (index c.args.prod.0)) (index l.wanted.0)
     (links_of index c.in_ok-links.links.items) c.in_ok-links.ensures.each (l.place - 1) (link_of index link) at wanted
     (tokens_of index c.args.tokens.now.items) (tokens_of index l.tokens.items) (tokens_of index c.push_after.new.tokens.items)
-    l.invariant.climbs ((rw c.grm-grm.ensures at c.in_ok-push_after.ensures.pushed) (cc)) (λ begun. let yes = c.is_kernel.ensures.1 begun in absurd (cc)) in
+    l.invariant.climbs ((rw c.grm-grm.ensures at c.in_ok-push_after.ensures.pushed) c.if-not-branch.false) (iff_false c.is_kernel.ensures c.if-is_kernel.false) in
     let next : index c.prod_to_rule-wanted-in-links.result.0 ≡ rule_of d.grammar (index link.prod.0) =
     rw c.grm-grm.ensures at c.prod_to_rule-wanted-in-links.ensures.rule in
     record {

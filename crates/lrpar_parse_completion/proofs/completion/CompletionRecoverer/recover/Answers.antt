@@ -20,7 +20,7 @@ returns-in_default g c =
     let none =
     no_completion token c.args.self.now MAX c.self.inside.shortest c.self.inside.data.now c.self.invariant same c.args.point.now c.stack.ensures.stop st c.stack.ensures.stack
     says in
-    record { allowed = rw c.new-answer.ensures.items none }
+    record { allowed = rw c.new.ensures.items none }
 
 pub returns-in_default-2 : goal.returns-in_default-2
 returns-in_default-2 g c =
@@ -34,7 +34,7 @@ returns-in_default-2 g c =
     let none =
     no_nearest token c.args.self.now MAX c.self.inside.shortest c.self.inside.data.now c.self.invariant same c.args.point.now c.stack.ensures.stop st c.stack.ensures.stack
     tokens says never in
-    record { allowed = rw c.new-answer.ensures.items none }
+    record { allowed = rw c.new-in_default-2.ensures.items none }
 
 pub steps-requires : goal.steps-requires
 steps-requires g c =
@@ -56,7 +56,7 @@ returns g c =
     let nearest = subst (λ (o : Completer). IsNearest token c.args.point.now o.most tokens repair.place repair.inserted) c.self.view_is found in
     let made = rw c.deref.ensures.value at c.in_ok-steps.ensures in
     let one =
-    ap (plain_sequences index) (c.in_ok-push.ensures.items ∙ ap (λ l. l ++ c.in_ok-steps.field-0 ∷ []) c.new-answer.ensures.items)
+    ap (plain_sequences index) (c.in_ok-push.ensures.items ∙ ap (λ l. l ++ c.in_ok-steps.steps ∷ []) c.new-answer.ensures.items)
     ∙ ap (λ s. s ∷ []) made in
     record {
       allowed =

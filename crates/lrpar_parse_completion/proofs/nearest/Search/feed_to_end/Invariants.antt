@@ -3,7 +3,7 @@ use Rattle.lrpar_table_stacks.specs.Expected.{tokens_of}
 use Rattle.lrpar_table_stacks.specs.Stack.{IsStack, states_of}
 use Rattle.lrpar_parse_completion.specs.Nearest.{FeedsAll}
 use Rattle.lrpar_parse_completion.proofs.NearestLemmas.{NotBefore}
-use Rattle.lrpar_parse_completion.proofs.nearest.Search.at_end.Given as goal
+use Rattle.lrpar_parse_completion.proofs.nearest.Search.feed_to_end.Given as goal
 
 -- the stack after the tokens so far; after fewer of them the parse can't go on
 abbrev pub invariant-tokens : goal.invariant-tokens

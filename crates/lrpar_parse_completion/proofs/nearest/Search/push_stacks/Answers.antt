@@ -6,13 +6,13 @@ use Rattle.lrpar_table_stacks.specs.Stack.{states_of}
 use Rattle.lrpar_parse_completion.specs.Trying.{AreTried, stacks_of}
 use Rattle.lrpar_parse_completion.proofs.FeedLemmas.{fed_at, stacks_pushed, token_front}
 use Rattle.lrpar_parse_completion.proofs.NearestLemmas.{Trying, trying_ends, trying_first, trying_more, trying_stops}
-use Rattle.lrpar_parse_completion.proofs.nearest.Search.stacks.Goals as goal
+use Rattle.lrpar_parse_completion.proofs.nearest.Search.push_stacks.Goals as goal
 
 pub tokens-init : goal.tokens-init
 tokens-init g c =
     let index = g.StorageT.StorageIndex.index in
     let at = c.args.self.now.point.now in
-    rw (c.new-stacks.ensures.items, c.in_ok-stack.ensures.items, c.stack.ensures.stack)
+    rw (c.requires.empty, c.in_ok-stack.ensures.items, c.stack.ensures.stack)
     (trying_first at.checked.grammar at.checked.table at.stack (tokens_of index c.args.self.now.tokens.now) c.stack.ensures.stop.stack)
 
 pub feed-requires : goal.feed-requires

@@ -4,7 +4,7 @@ use Rattle.lrpar_table_stacks.specs.Expected.{tokens_of}
 use Rattle.lrpar_table_stacks.specs.Stack.{IsStack, states_of}
 use Rattle.lrpar_parse_completion.specs.Opening.{CanComplete}
 use Rattle.lrpar_parse_completion.proofs.OpenLemmas.{Completing}
-use Rattle.lrpar_parse_completion.proofs.completer.Completer.completion.Given as goal
+use Rattle.lrpar_parse_completion.proofs.completer.Completer.push_completion.Given as goal
 
 -- the state in the place has the core, and what comes after its production completes the stack
 abbrev pub invariant-items : goal.invariant-items

@@ -2,7 +2,7 @@ use Rattle.lrpar_table_stacks.specs.Expected.{tokens_of}
 use Rattle.lrpar_table_stacks.specs.Stack.{states_of}
 use Rattle.lrpar_parse_completion.specs.Trying.{stacks_of}
 use Rattle.lrpar_parse_completion.proofs.NearestLemmas.{Trying}
-use Rattle.lrpar_parse_completion.proofs.nearest.Search.stacks.Given as goal
+use Rattle.lrpar_parse_completion.proofs.nearest.Search.push_stacks.Given as goal
 
 -- the stacks before this one, and this one
 abbrev pub invariant-tokens : goal.invariant-tokens
