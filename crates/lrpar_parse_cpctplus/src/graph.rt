@@ -43,16 +43,14 @@ impl<StorageT: StorageIndex> Graph<StorageT> {
     pub(crate) fn new(alloc: Global, root: Configuration) -> Result<Self, AllocError>
         ensures { IfOk result (IsRootAlone root) }
     {
-        let mut configurations = IndexSet::new(alloc);
-        let (_number, _is_new) = configurations.insert_full(root)?;
-        let mut firsts = Vec::new(alloc);
-        firsts.push(0)?;
-        let links = Vec::new(alloc);
-        Ok(Graph {
-            configurations,
-            firsts,
-            links,
-        })
+        let mut graph = Graph {
+            configurations: IndexSet::new(alloc),
+            firsts: Vec::new(alloc),
+            links: Vec::new(alloc),
+        };
+        let (_number, _is_new) = graph.configurations.insert_full(root)?;
+        graph.firsts.push(0)?;
+        Ok(graph)
     }
 
     /// How many configurations there are.

@@ -147,7 +147,7 @@ fn links_to_end<StorageT: StorageIndex>(
 ) -> Result<Vec<Link<StorageT>>, AllocError>
     ensures { IfOk result (AreLinksToEnd StorageT.index linked.now reach) }
 {
-    let mut links = copied(alloc, &linked.links)?;
+    let mut links = Vec::from_slice(alloc, &linked.links)?;
     for ending in &linked.endings {
         if ending.reach == reach {
             links.push(Link {
@@ -158,20 +158,6 @@ fn links_to_end<StorageT: StorageIndex>(
         }
     }
     Ok(links)
-}
-
-// A copy of the links.
-fn copied<StorageT: StorageIndex>(
-    alloc: Global,
-    links: &[Link<StorageT>],
-) -> Result<Vec<Link<StorageT>>, AllocError>
-    ensures { IfOk result (λ copy. copy.items ≡ links.now) }
-{
-    let mut copy = Vec::with_capacity(alloc, links.len())?;
-    for link in links {
-        copy.push(*link)?;
-    }
-    Ok(copy)
 }
 
 impl<'a, StorageT: StorageIndex> Nodes<'a, StorageT> {
