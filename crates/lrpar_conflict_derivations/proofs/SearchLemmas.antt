@@ -1,13 +1,13 @@
 -- What a search has tried, step by step.
-use Rattle.std.proofs.Common.{◌≡◌, ◌+◌, ◌∙◌, ◌↔◌, sym, ap, subst, inl, inr, arith, ℕ, Bool, true, false, IsTrue, List, [], ◌∷◌, ◌++◌, map}
+use Rattle.std.proofs.Common.{◌≡◌, ◌+◌, ◌∙◌, ◌↔◌, ap, inl, inr, arith, ℕ, Bool, true, false, IsTrue, List, [], ◌∷◌, ◌++◌, map}
 use Rattle.std.proofs.lemmas.List.{map-append}
 use Rattle.lrpar_conflict_derivations.specs.Example.{ExampleOf, HasSearched, after_search}
 use Rattle.lrpar_conflict_derivations.specs.Queue.{HasItems, KeepsItems}
-use Rattle.lrpar_conflict_derivations.specs.Search.{EndsTurn, EndsWithin, IsOver, KeepsStart, KeepsTried, LooksFirst, StartsAt, TriesEnd, state_of, tried_in}
+use Rattle.lrpar_conflict_derivations.specs.Search.{EndsWithin, IsOver, KeepsStart, LooksFirst, StartsAt, TriesEnd, state_of, tried_in}
 use Rattle.lrpar_conflict_derivations.specs.declared.access_paths.AccessPaths.{AccessPaths}
 use Rattle.lrpar_conflict_derivations.specs.declared.access_paths.End.{End}
+use Rattle.lrpar_conflict_derivations.specs.declared.priority_queue.PriorityQueue.{PriorityQueue}
 use Rattle.lrpar_conflict_derivations.specs.declared.search.Search.{Search}
-use Rattle.lrpar_conflict_derivations.specs.declared.search.Turn.TheVariants.{Further}
 
 -- the first end is still there when one is appended
 pub start_pushed : {S : Type 0} (index : S → ℕ) (old new : List (End S)) (x : End S) → new ≡ old ++ x ∷ []
@@ -15,10 +15,6 @@ pub start_pushed : {S : Type 0} (index : S → ℕ) (old new : List (End S)) (x 
 start_pushed index old new x put state start =
     let last = state_of index x ∷ [] in
     (start.0 ++ last, ap (map (state_of index)) put ∙ map-append (state_of index) old (x ∷ []) ∙ ap (λ xs. xs ++ last) start.1)
-
--- what is kept by one step and the next is kept by both
-pub kept_then : {S : Type 0} (old middle new : Search S) → KeepsTried old middle → KeepsTried middle new → KeepsTried old new
-kept_then old middle new first second = (second.0 ∙ first.0, second.1 ∙ first.1)
 
 -- a turn that has tried one counts as one
 pub one_more : {S : Type 0} (index : S → ℕ) (state n : ℕ) (old new : Search S) → tried_in new ≡ tried_in old + 1 → KeepsStart index old.paths new.paths
@@ -42,11 +38,7 @@ looks_first search true ends items = ends
 looks_first search false ends items = λ none. absurd (omega (arith, items, none))
 
 -- an end was tried, and then a configuration may have been added
-pub end_tried : {S : Type 0} (index : S → ℕ) (old new : Search S) (paths : AccessPaths S) → HasItems old.paths.queue → TriesEnd old.paths paths
-    → KeepsStart index old.paths paths → new.paths ≡ paths → KeepsItems old.queue new.queue → EndsTurn index old new Further
-end_tried index old new paths left tries keeps same kept =
-    let ends = ap (λ (p : AccessPaths _). p.queue.popped) same in
-    let tried = tries left in (
-      omega (arith, ends, tried, kept),
-      λ state start. subst (StartsAt index state) (sym same) (keeps state start),
-    )
+pub end_tried : {S : Type 0} (index : S → ℕ) (old : Search S) (paths : AccessPaths S) (queue : PriorityQueue) → HasItems old.paths.queue
+    → TriesEnd old.paths paths → KeepsStart index old.paths paths → KeepsItems old.queue queue
+    → (paths.queue.popped + queue.popped ≡ tried_in old + 1) × KeepsStart index old.paths paths
+end_tried index old paths queue left tries keeps kept = let tried = tries left in (omega (arith, tried, kept), keeps)

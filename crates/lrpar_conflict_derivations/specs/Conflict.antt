@@ -7,7 +7,7 @@ use Rattle.lrpar_table_first.specs.FirstRows.{dummy_lookahead}
 use Rattle.lrpar_table_items.specs.Canonical.{HasAfterDot, HasReduce, sets_of}
 use Rattle.lrpar_table_sentences.specs.Moves.{Makes, MoveOf, Takes, move_of}
 use Rattle.lrpar_conflict_derivations.specs.Example.{ExampleOf, IsExample}
-use Rattle.lrpar_conflict_derivations.specs.declared.search.Conflict.{Conflict}
+use Rattle.lrpar_conflict_derivations.specs.declared.configurations.Conflict.{Conflict}
 
 -- a conflict: its state, its token, and the moves by which the two derivations go on
 pub record ConflictOf : Type 0 where

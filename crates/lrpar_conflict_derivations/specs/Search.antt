@@ -1,12 +1,12 @@
 -- How the search for a unifying counterexample ends without one. It comes to ends of access paths of the conflict's state, and to
 -- configurations of two derivations after them. Each waits in a queue until a turn of the search takes it out and tries it.
-use Rattle.std.specs.Prelude.{◌≡◌, ◌≤◌, ◌+◌, ◌⊎◌, ℕ, Bool, IsTrue, IfSome, List, ◌∷◌, map, MatchBool, MatchOption, Option, ⊤}
+use Rattle.std.specs.Prelude.{◌≡◌, ◌≤◌, ◌+◌, ◌⊎◌, ℕ, Bool, IsTrue, IfSome, List, ◌∷◌, map, MatchBool, MatchOption, Option}
 use Rattle.lrpar_grammar_places.specs.declared.span.StIdx.{StIdx}
 use Rattle.lrpar_conflict_derivations.specs.Example.{ExampleOf}
-use Rattle.lrpar_conflict_derivations.specs.Queue.{HasItems, HasOne, IsEmptied, IsNew, KeepsItems}
+use Rattle.lrpar_conflict_derivations.specs.Queue.{HasItems, HasOne, IsEmptied, IsNew}
 use Rattle.lrpar_conflict_derivations.specs.declared.access_paths.AccessPaths.{AccessPaths}
 use Rattle.lrpar_conflict_derivations.specs.declared.access_paths.End.{End}
-use Rattle.lrpar_conflict_derivations.specs.declared.search.Conflict.{Conflict}
+use Rattle.lrpar_conflict_derivations.specs.declared.configurations.Conflict.{Conflict}
 use Rattle.lrpar_conflict_derivations.specs.declared.search.Search.{Search}
 use Rattle.lrpar_conflict_derivations.specs.declared.search.Turn.{Turn}
 use Rattle.lrpar_conflict_derivations.specs.declared.search.Turn.TheVariants.{Found, Further, Over}
@@ -46,19 +46,9 @@ TriesEnd old new = HasItems old.queue → new.queue.popped ≡ old.queue.popped 
 abbrev pub IsNewSearch : {S : Type 0} → (S → ℕ) → StIdx S → Search S → Type 0
 IsNewSearch index state search = StartsAt index (index state.0) search.paths × HasOne search.paths.queue × IsNew search.queue
 
--- configurations may have been added; none was tried, and no end
-abbrev pub KeepsTried : {S : Type 0} → Search S → Search S → Type 0
-KeepsTried old new = (new.paths ≡ old.paths) × KeepsItems old.queue new.queue
-
 -- an end is left; or none is left, if no configuration is
 abbrev pub LooksFirst : {S : Type 0} → Search S → Bool → Type 0
 LooksFirst search first = MatchBool first (HasItems search.paths.queue) (IsEmptied search.queue → IsEmptied search.paths.queue)
-
--- the search isn't over
-abbrev pub IsGoingOn : Turn → Type 0
-IsGoingOn (Found n) = ⊤
-IsGoingOn Further = ⊤
-IsGoingOn Over = ⊥
 
 -- a turn has tried one end or configuration; or nothing is left, and it has tried none
 abbrev pub HasTurned : {S : Type 0} → Search S → Search S → Turn → Type 0

@@ -14,7 +14,7 @@ use Rattle.lrpar_grammar.specs.Tokens.{has}
 use Rattle.lrpar_grammar.specs.Tree.{Forest}
 use Rattle.lrpar_table_rows.specs.Graph.{Graph, HasCore, graph_len}
 use Rattle.lrpar_table_rows.specs.Safe.{GoesBy}
-use Rattle.lrpar_table_rows.specs.Table.{Table, states_len}
+use Rattle.lrpar_table_rows.specs.Table.{Table}
 use Rattle.lrpar_table_first.specs.FirstRows.{dummy_lookahead, rows_of}
 use Rattle.lrpar_table_items.specs.Canonical.{HasAfterDot, sets_of}
 use Rattle.lrpar_table_build.specs.Built.{IsBuilt}
@@ -37,7 +37,7 @@ use Rattle.lrpar_conflict_derivations.specs.declared.closure_links.Link.{Link}
 use Rattle.lrpar_conflict_derivations.specs.declared.completion.Up.{Up}
 use Rattle.lrpar_conflict_derivations.specs.declared.context.Context.{Context}
 use Rattle.lrpar_conflict_derivations.specs.declared.examples.Front.{Front}
-use Rattle.lrpar_conflict_derivations.specs.declared.search.Conflict.{Conflict}
+use Rattle.lrpar_conflict_derivations.specs.declared.configurations.Conflict.{Conflict}
 
 -- the token is one of the grammar
 abbrev pub IsTokenOf : {S : Type 0} → (S → ℕ) → Grammar → TIdx S → Type 0
@@ -46,14 +46,6 @@ IsTokenOf index g token = index token.0 < dummy_lookahead g
 -- the state is one of the graph
 abbrev pub IsStateOf : {S : Type 0} → (S → ℕ) → Graph → StIdx S → Type 0
 IsStateOf index graph state = index state.0 < graph_len graph
-
--- the state is one of the search's graph
-abbrev pub IsStateIn : {S : Type 0} → (S → ℕ) → Context S → StIdx S → Type 0
-IsStateIn index context state = IsStateOf index context.graph.now state
-
--- the first of the states is one of the search's table
-abbrev pub IsFirstIn : {S : Type 0} → (S → ℕ) → Context S → StIdx S × StIdx S → Type 0
-IsFirstIn index context states = index states.0.0 < states_len context.table.now
 
 -- the symbol is the token
 abbrev pub IsToken : {S : Type 0} → (S → ℕ) → Symbol S → TIdx S → Type 0
@@ -221,6 +213,11 @@ IsCalledFor index g graph state token next = CallsFor g graph (index state.0) (i
 abbrev pub DerivesBy : {S : Type 0} → (S → ℕ) → Grammar → List (Step S) → List (Move S) → TIdx S → Move S → List (Move S) → Type 0
 DerivesBy index g steps front token next moves =
     Derives g (steps_of index steps) (index token.0) (moves_in index front) (move_of index next) (moves_in index moves)
+
+-- no moves, or a derivation that begins with moves of trees of any steps' symbols and goes on with this move, at the token
+abbrev pub FindsDerivation : {S A : Type 0} → (S → ℕ) → Grammar → List (Move S) → TIdx S → Move S → Option (Vec (Move S) A) → Type 0
+FindsDerivation index g front token next = λ found.
+    IfSome found (λ moves. (steps : List StepOf) → Derives g steps (index token.0) (moves_in index front) (move_of index next) (moves_in index moves.items))
 
 -- a derivation that begins with the moves of this front goes on with this move, at the token
 abbrev pub GoesOnBy : {S A : Type 0} → (S → ℕ) → Grammar → Front S → TIdx S → Move S → Vec (Move S) A → Type 0

@@ -1,9 +1,8 @@
 //! The access paths of a state, those with the shortest access strings first.
 ghost use Rattle.std.specs.Prelude.{IfOk};
-ghost use Rattle.lrpar_conflict_derivations.specs.Queue.{HasOne, KeepsItems, Looks};
+ghost use Rattle.lrpar_conflict_derivations.specs.Queue.{HasOne, KeepsItems};
 
 use crate::context::Context;
-use crate::predecessors::Predecessor;
 use crate::priority_queue::{NONE, PriorityQueue};
 use crate::stacks::Stacks;
 use lrpar_grammar::span::{StIdx, StorageIndex, Symbol};
@@ -59,13 +58,6 @@ impl<StorageT: StorageIndex> AccessPaths<StorageT> {
         Ok(AccessPaths { ends, queue })
     }
 
-    /// The least length of an access string that may still be found, if there is one.
-    pub(crate) fn least(&self) -> Option<usize>
-        ensures { Looks self.now.queue result }
-    {
-        self.queue.least()
-    }
-
     /// Looks at one more end. If it is a whole access path, this is the level at its top, with the length of its text.
     pub(crate) fn turn(
         &mut self,
@@ -98,20 +90,6 @@ impl<StorageT: StorageIndex> AccessPaths<StorageT> {
         }
     }
 
-    // Adds an end, if its state has an access string. A symbol without tokens counts as one, so that no path goes round a cycle for free.
-    #[tactic(auto, using(crate::proofs::SearchLemmas::start_pushed))]
-    fn add(&mut self, context: &Context<'_, StorageT>, end: End<StorageT>) -> Result<(), AllocError>
-        ensures kept { KeepsItems self.old.queue self.new.queue }
-        ensures start { KeepsStart StorageT.index self.old self.new }
-    {
-        let key = context.len_to(end.state).saturating_add(end.len);
-        if key != NONE {
-            self.ends.push(end)?;
-            self.queue.add(key)?;
-        }
-        Ok(())
-    }
-
     // Adds the ends that are longer by one step.
     fn extend(
         &mut self,
@@ -127,15 +105,16 @@ impl<StorageT: StorageIndex> AccessPaths<StorageT> {
             let Some(predecessor) = context.predecessors.get(number) else {
                 return Ok(());
             };
-            let Predecessor { step, next } = predecessor;
-            self.add_before(context, toward, end.len, step)?;
-            number = next;
+            self.add(context, toward, end.len, predecessor.step)?;
+            number = predecessor.next;
         }
         Ok(())
     }
 
-    // Adds the end that is longer by this step.
-    fn add_before(
+    // Adds the end that is longer by this step, if its state has an access string. A symbol without tokens counts as one, so that no path
+    // goes round a cycle for free.
+    #[tactic(auto, using(crate::proofs::SearchLemmas::start_pushed))]
+    fn add(
         &mut self,
         context: &Context<'_, StorageT>,
         toward: usize,
@@ -146,17 +125,18 @@ impl<StorageT: StorageIndex> AccessPaths<StorageT> {
         ensures start { KeepsStart StorageT.index self.old self.new }
     {
         let Step { from, symbol } = step;
-        let own = context.len_of(symbol).max(1);
-        let len = len.saturating_add(own);
-        self.add(
-            context,
-            End {
+        let len = len.saturating_add(context.len_of(symbol).max(1));
+        let key = context.len_to(from).saturating_add(len);
+        if key != NONE {
+            self.ends.push(End {
                 state: from,
                 symbol,
                 toward,
                 len,
-            },
-        )
+            })?;
+            self.queue.add(key)?;
+        }
+        Ok(())
     }
 
     // The level at the top of the access path.

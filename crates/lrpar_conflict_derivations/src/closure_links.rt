@@ -14,7 +14,7 @@ use lrpar_table_rows::table::StateGraph;
 use std::alloc::{AllocError, Global};
 
 /// Why a state has items of a rule with the dot at the front: the rule comes after the dot of another item.
-#[derive(Clone, Copy, Debug)]
+#[derive(Clone, Copy)]
 pub(crate) struct Link<StorageT> {
     /// The rule.
     pub(crate) rule: RIdx<StorageT>,
@@ -55,19 +55,41 @@ pub(crate) fn links_to<StorageT: StorageIndex>(
     ensures linked { IfOk result (λ links. LinkItemsOf StorageT.index grm.now graph.now state token rule asked links.items) }
 {
     let mut found = nothing_found(alloc, grm.rules_len())?;
-    note_kernel(grm, firsts, graph, state, token, &mut found)?;
-    let mut at = 0;
-    'links: while goes_on(&found, at, rule, asked) {
-        let link = found.links[at];
-        note_rule(grm, firsts, token, link, at, &mut found)?;
-        at += 1;
-    }
+    find_links(grm, firsts, graph, state, token, rule, asked, &mut found)?;
     let Found {
         links,
         any: _,
         asked: _,
     } = found;
     Ok(links)
+}
+
+// Finds links of rules of items that the state has by closure, until one of this rule is among them.
+fn find_links<StorageT: StorageIndex>(
+    grm: &YaccGrammar<StorageT>,
+    firsts: &[TokenSet],
+    graph: &StateGraph<StorageT>,
+    state: StIdx<StorageT>,
+    token: TIdx<StorageT>,
+    rule: RIdx<StorageT>,
+    asked: bool,
+    found: &mut Found<StorageT>,
+) -> Result<(), AllocError>
+    requires asked { AsksFor StorageT.index grm.now firsts.now graph.now state token }
+    requires rule { StorageT.index rule.0 < rules_len grm.now }
+    requires none { HasNoLinks StorageT.index found.old }
+    requires marks { AreMarked StorageT.index grm.now found.old }
+    ensures links { OnOk result (AreLinksOf StorageT.index grm.now graph.now state token found.new.links.items) }
+    ensures linked { OnOk result (LinkItemsOf StorageT.index grm.now graph.now state token rule asked found.new.links.items) }
+{
+    note_kernel(grm, firsts, graph, state, token, found)?;
+    let mut at = 0;
+    'links: while goes_on(found, at, rule, asked) {
+        let link = found.links[at];
+        note_rule(grm, firsts, token, link, at, found)?;
+        at += 1;
+    }
+    Ok(())
 }
 
 // Whether there are links from this number on, and none yet of the rule.

@@ -18,7 +18,7 @@ use lrpar_table_sentences::shortest::Shortest;
 use std::alloc::{AllocError, Global};
 
 /// The kernel item that is reached from an item with its dot at the front, and whether it has the token that is asked for as lookahead.
-#[derive(Clone, Copy, Debug)]
+#[derive(Clone, Copy)]
 pub(crate) struct Up<StorageT> {
     pub(crate) prod: PIdx<StorageT>,
     pub(crate) dot: usize,

@@ -1,4 +1,9 @@
 //! What the search uses: a grammar, its table, and what was computed of both.
+ghost use Rattle.std.specs.Prelude.{◌<◌, IfSome};
+ghost use Rattle.lrpar_grammar.specs.Grammar.{Terminal};
+ghost use Rattle.lrpar_grammar.specs.Symbols.{symbol_of};
+ghost use Rattle.lrpar_table_rows.specs.Table.{states_len};
+ghost use Rattle.lrpar_conflict_derivations.specs.Stored.{Goes};
 
 use crate::min_lengths::MinLengths;
 use crate::predecessors::Predecessors;
@@ -21,15 +26,6 @@ pub(crate) struct Context<'a, StorageT: StorageIndex> {
 }
 
 impl<'a, StorageT: StorageIndex> Context<'a, StorageT> {
-    /// The number of symbols of the production, if there is one.
-    pub(crate) fn prod_len(&self, prod: PIdx<StorageT>) -> Option<usize> {
-        if usize::from(prod) < self.grm.prods_len() {
-            Some(self.grm.prod(prod).len())
-        } else {
-            None
-        }
-    }
-
     /// The rule of the production, if there is one.
     pub(crate) fn rule_of(&self, prod: PIdx<StorageT>) -> Option<RIdx<StorageT>> {
         if usize::from(prod) < self.grm.prods_len() {
@@ -39,16 +35,21 @@ impl<'a, StorageT: StorageIndex> Context<'a, StorageT> {
         }
     }
 
-    /// The rule after the core's dot, if one is there.
-    pub(crate) fn rule_after(&self, core: Core<StorageT>) -> Option<RIdx<StorageT>> {
+    /// The symbols after the core's dot.
+    pub(crate) fn rest(&self, core: Core<StorageT>) -> &[Symbol<StorageT>] {
         if usize::from(core.0) >= self.grm.prods_len() {
-            return None;
+            return &[];
         }
         let symbols = self.grm.prod(core.0);
         if core.1 >= symbols.len() {
-            return None;
+            return &[];
         }
-        match symbols[core.1] {
+        &symbols[core.1..]
+    }
+
+    /// The rule after the core's dot, if one is there.
+    pub(crate) fn rule_after(&self, core: Core<StorageT>) -> Option<RIdx<StorageT>> {
+        match *self.rest(core).first()? {
             Symbol::Rule(rule) => Some(rule),
             Symbol::Token(_) => None,
         }
@@ -74,31 +75,36 @@ impl<'a, StorageT: StorageIndex> Context<'a, StorageT> {
         self.access.len_to(state).unwrap_or(usize::MAX)
     }
 
-    /// The state that the rule's goto leads to.
-    pub(crate) fn goto(
-        &self,
-        state: StIdx<StorageT>,
-        rule: RIdx<StorageT>,
-    ) -> Option<StIdx<StorageT>> {
-        if usize::from(state) < self.table.states_len()
-            && usize::from(rule) < self.table.rules_len()
-        {
-            self.table.goto(state, rule)
-        } else {
-            None
+    /// The productions and dots of the state's items.
+    pub(crate) fn cores(&self, state: StIdx<StorageT>) -> &[Core<StorageT>] {
+        if usize::from(state) >= self.graph.states_len() {
+            return &[];
         }
+        self.graph.cores(state)
     }
 
-    /// The state that a shift of the token leads to.
-    pub(crate) fn shift(
-        &self,
-        state: StIdx<StorageT>,
-        token: TIdx<StorageT>,
-    ) -> Option<StIdx<StorageT>> {
-        match self.action(state, token) {
-            Action::Shift(next) => Some(next),
-            Action::Reduce(_) | Action::Accept | Action::Error => None,
+    /// Those whose dot is after a symbol, and that of the start item.
+    pub(crate) fn begun_cores(&self, state: StIdx<StorageT>) -> &[Core<StorageT>] {
+        if usize::from(state) >= self.graph.states_len() {
+            return &[];
         }
+        self.graph.begun_cores(state)
+    }
+
+    /// The tokens for which the state has an action.
+    pub(crate) fn tokens(&self, state: StIdx<StorageT>) -> &[TIdx<StorageT>] {
+        if usize::from(state) >= self.table.states_len() {
+            return &[];
+        }
+        self.table.actions_of(state).0
+    }
+
+    /// The rules for which the state has a goto.
+    pub(crate) fn rules(&self, state: StIdx<StorageT>) -> &[RIdx<StorageT>] {
+        if usize::from(state) >= self.table.states_len() {
+            return &[];
+        }
+        self.table.gotos_of(state).0
     }
 
     /// The state's action at the token.
@@ -110,5 +116,46 @@ impl<'a, StorageT: StorageIndex> Context<'a, StorageT> {
         } else {
             Action::Error
         }
+    }
+}
+
+/// The state that the symbol leads to from this one, if it leads to one.
+pub(crate) fn next_by<StorageT: StorageIndex>(
+    table: &StateTable<StorageT>,
+    state: StIdx<StorageT>,
+    symbol: Symbol<StorageT>,
+) -> Option<StIdx<StorageT>>
+    ensures { IfSome result (Goes StorageT.index table.now state (symbol_of StorageT.index symbol)) }
+{
+    if usize::from(state) >= table.states_len() {
+        return None;
+    }
+    match symbol {
+        Symbol::Token(token) => shift_by(table, state, token),
+        Symbol::Rule(rule) => {
+            if usize::from(rule) < table.rules_len() {
+                table.goto(state, rule)
+            } else {
+                None
+            }
+        }
+    }
+}
+
+// The state that a shift of the token leads to.
+fn shift_by<StorageT: StorageIndex>(
+    table: &StateTable<StorageT>,
+    state: StIdx<StorageT>,
+    token: TIdx<StorageT>,
+) -> Option<StIdx<StorageT>>
+    requires { StorageT.index state.0 < states_len table.now }
+    ensures { IfSome result (Goes StorageT.index table.now state (Terminal (StorageT.index token.0))) }
+{
+    if usize::from(token) >= table.tokens_len() {
+        return None;
+    }
+    match table.action(state, token) {
+        Action::Shift(next) => Some(next),
+        Action::Reduce(_) | Action::Accept | Action::Error => None,
     }
 }

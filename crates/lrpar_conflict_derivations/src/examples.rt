@@ -12,13 +12,14 @@ ghost use Rattle.lrpar_conflict_derivations.specs.Example.{AreExamplesFor, HasSe
 ghost use Rattle.lrpar_conflict_derivations.specs.Search.{FindsFor};
 ghost use Rattle.lrpar_conflict_derivations.specs.Stored.{FindsExampleOf, GoesOnBy, IsCalledFor, IsFrontTo, IsStateOf};
 
+use crate::configurations::Conflict;
 use crate::context::Context;
 use crate::derivations::derive;
 pub use crate::example::{Example, tokens_of};
 pub use crate::fault::ExampleFault;
 use crate::min_lengths::MinLengths;
 use crate::predecessors::Predecessors;
-use crate::search::{Conflict, Search};
+use crate::search::Search;
 use crate::unifying::find_unifying;
 use crate::validation::symbols_of;
 use lrpar_grammar::grammar::YaccGrammar;
@@ -195,11 +196,33 @@ impl<StorageT: StorageIndex> Examples<StorageT> {
         ensures bound { IfOk result (λ x. x.bound ≡ bound) }
     {
         let front = self.front(alloc, grm, sgraph, stable, conflict.state)?;
-        let plain = self.plain(alloc, grm, sgraph, &front, conflict, bound)?;
+        self.of_front(alloc, grm, sgraph, stable, &front, conflict, bound)
+    }
+
+    // The counterexample that begins with this access path; if its derivations have two texts, a unifying one that is found within the bound.
+    fn of_front(
+        &self,
+        alloc: Global,
+        grm: &YaccGrammar<StorageT>,
+        sgraph: &StateGraph<StorageT>,
+        stable: &StateTable<StorageT>,
+        front: &Front<StorageT>,
+        conflict: &Conflict<StorageT>,
+        bound: usize,
+    ) -> Result<Example<StorageT>, AllocError>
+        requires built { IsBuilt grm.now sgraph.now stable.now }
+        requires made { AreExamplesFor grm.now sgraph.now stable.now usize.MAX self.now }
+        requires conflict { IsConflict grm.now sgraph.now (conflict_of StorageT.index conflict.now) }
+        requires front { IsFrontTo StorageT.index grm.now sgraph.now conflict.now.state front.now }
+        ensures example { IfOk result (IsExampleOf grm.now sgraph.now (conflict_of StorageT.index conflict.now)) }
+        ensures searched { IfOk result (HasSearched bound) }
+        ensures bound { IfOk result (λ x. x.bound ≡ bound) }
+    {
+        let plain = self.plain(alloc, grm, sgraph, front, conflict, bound)?;
         if plain.is_ambiguous() {
             return Ok(plain);
         }
-        let (found, search) = self.one_text(alloc, grm, sgraph, stable, &front, conflict, bound)?;
+        let (found, search) = self.one_text(alloc, grm, sgraph, stable, front, conflict, bound)?;
         match found {
             Some(found) => Ok(found),
             None => Ok(plain.with_search(search.tried(), search.is_over())),

@@ -5,6 +5,7 @@ mod access_paths;
 mod begins;
 mod closure_links;
 mod completion;
+mod configurations;
 mod context;
 mod derivations;
 mod example;

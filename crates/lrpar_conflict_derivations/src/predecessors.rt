@@ -1,8 +1,9 @@
 //! The transitions into each state of a table.
 
-use crate::priority_queue::NONE;
+use crate::context::next_by;
+use crate::priority_queue::{NONE, head};
 use lrpar_grammar::span::{StIdx, StorageIndex, Symbol};
-use lrpar_table_rows::table::{Action, StateTable};
+use lrpar_table_rows::table::StateTable;
 use lrpar_table_sentences::access_strings::Step;
 use std::alloc::{AllocError, Global};
 
@@ -53,12 +54,7 @@ impl<StorageT: StorageIndex> Predecessors<StorageT> {
 
     /// The number of the first step to the state, or none.
     pub(crate) fn first(&self, state: StIdx<StorageT>) -> usize {
-        let number = usize::from(state);
-        if number < self.heads.len() {
-            self.heads[number]
-        } else {
-            NONE
-        }
+        head(&self.heads, usize::from(state))
     }
 
     /// How many steps there are.
@@ -84,42 +80,33 @@ impl<StorageT: StorageIndex> Predecessors<StorageT> {
         if usize::from(from) >= table.states_len() {
             return Ok(());
         }
-        let (tokens, actions) = table.actions_of(from);
-        for (place, token) in tokens.iter().enumerate() {
-            if place < actions.len() {
-                if let Action::Shift(to) = actions[place] {
-                    self.push(
-                        Step {
-                            from,
-                            symbol: Symbol::Token(*token),
-                        },
-                        to,
-                    )?;
-                }
-            }
+        for token in table.actions_of(from).0 {
+            self.push_by(table, from, Symbol::Token(*token))?;
         }
-        let (rules, states) = table.gotos_of(from);
-        for (place, rule) in rules.iter().enumerate() {
-            if place < states.len() {
-                self.push(
-                    Step {
-                        from,
-                        symbol: Symbol::Rule(*rule),
-                    },
-                    states[place],
-                )?;
-            }
+        for rule in table.gotos_of(from).0 {
+            self.push_by(table, from, Symbol::Rule(*rule))?;
         }
         Ok(())
     }
 
-    // Adds a step to the state.
-    fn push(&mut self, step: Step<StorageT>, to: StIdx<StorageT>) -> Result<(), AllocError> {
+    // Adds the step by the symbol, if it leads to a state.
+    fn push_by(
+        &mut self,
+        table: &StateTable<StorageT>,
+        from: StIdx<StorageT>,
+        symbol: Symbol<StorageT>,
+    ) -> Result<(), AllocError> {
+        let Some(to) = next_by(table, from, symbol) else {
+            return Ok(());
+        };
         let number = usize::from(to);
         if number < self.heads.len() {
             let next = self.heads[number];
             self.heads[number] = self.predecessors.len();
-            self.predecessors.push(Predecessor { step, next })?;
+            self.predecessors.push(Predecessor {
+                step: Step { from, symbol },
+                next,
+            })?;
         }
         Ok(())
     }

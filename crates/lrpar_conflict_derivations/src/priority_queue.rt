@@ -71,6 +71,11 @@ impl PriorityQueue {
         Ok(())
     }
 
+    /// How many items were added.
+    pub(crate) fn len(&self) -> usize {
+        self.nexts.len()
+    }
+
     /// The least key of an item that waits, if one does.
     pub(crate) fn least(&self) -> Option<usize>
         ensures { Looks self.now result }
@@ -113,8 +118,8 @@ impl PriorityQueue {
     }
 }
 
-// The first item of the slot, or none.
-fn head(heads: &[usize], slot: usize) -> usize {
+/// The first item of the slot, or none.
+pub(crate) fn head(heads: &[usize], slot: usize) -> usize {
     if slot < heads.len() {
         heads[slot]
     } else {

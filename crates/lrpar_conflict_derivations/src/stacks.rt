@@ -1,6 +1,6 @@
 //! Stacks of states that share their lower parts, and the least number of tokens that complete a text from each.
 
-use crate::context::Context;
+use crate::context::{Context, next_by};
 use crate::priority_queue::NONE;
 use lrpar_grammar::span::{PIdx, RIdx, StIdx, StorageIndex, Symbol};
 use lrpar_table_rows::table::Core;
@@ -72,6 +72,14 @@ impl<StorageT: StorageIndex> Stacks<StorageT> {
         }
     }
 
+    /// The least number of tokens that complete a text from the level, or `NONE` if there is no such level.
+    pub(crate) fn rest(&self, level: usize) -> usize {
+        match self.get(level) {
+            Some(own) => own.rest,
+            None => NONE,
+        }
+    }
+
     /// How many levels there are.
     pub(crate) fn len(&self) -> usize {
         self.levels.len()
@@ -87,6 +95,16 @@ impl<StorageT: StorageIndex> Stacks<StorageT> {
             }
         }
         level
+    }
+
+    /// The state that the symbol leads to from the level, if it leads to one.
+    pub(crate) fn next(
+        &self,
+        context: &Context<'_, StorageT>,
+        level: usize,
+        symbol: Symbol<StorageT>,
+    ) -> Option<StIdx<StorageT>> {
+        next_by(context.table, self.get(level)?.state, symbol)
     }
 
     /// The item that waits for the rule on top of the level, if there is one.
@@ -138,10 +156,7 @@ impl<StorageT: StorageIndex> Stacks<StorageT> {
         }
         self.fill(context, below)?;
         let level = self.levels.len();
-        let sibling = match self.get(below) {
-            Some(own) => own.child,
-            None => NONE,
-        };
+        let sibling = self.first_child(below);
         self.levels.push(Level {
             below,
             state,
@@ -165,25 +180,27 @@ impl<StorageT: StorageIndex> Stacks<StorageT> {
         level: usize,
         prod: PIdx<StorageT>,
     ) -> Result<usize, AllocError> {
-        let (Some(len), Some(rule)) = (context.prod_len(prod), context.rule_of(prod)) else {
+        let Some(rule) = context.rule_of(prod) else {
             return Ok(NONE);
         };
-        let below = self.below(level, len);
-        let Some(own) = self.get(below) else {
-            return Ok(NONE);
-        };
-        match context.goto(own.state, rule) {
+        let below = self.below(level, context.rest((prod, 0)).len());
+        match self.next(context, below, Symbol::Rule(rule)) {
             Some(state) => self.push(context, below, Symbol::Rule(rule), state),
             None => Ok(NONE),
         }
     }
 
-    // The level with this state on top of another one, if it is there.
-    fn child_by(&self, below: usize, state: StIdx<StorageT>) -> usize {
-        let mut number = match self.get(below) {
+    // The first level on top of another one, if there is one.
+    fn first_child(&self, below: usize) -> usize {
+        match self.get(below) {
             Some(own) => own.child,
             None => NONE,
-        };
+        }
+    }
+
+    // The level with this state on top of another one, if it is there.
+    fn child_by(&self, below: usize, state: StIdx<StorageT>) -> usize {
+        let mut number = self.first_child(below);
         for _ in 0..self.levels.len() {
             match self.get(number) {
                 Some(child) if usize::from(child.state) == usize::from(state) => return number,
@@ -196,11 +213,8 @@ impl<StorageT: StorageIndex> Stacks<StorageT> {
 
     // Keeps the least number of tokens that complete a text from the level.
     fn keep_rest(&mut self, context: &Context<'_, StorageT>, level: usize, state: StIdx<StorageT>) {
-        if usize::from(state) >= context.graph.states_len() {
-            return;
-        }
         let mut rest = NONE;
-        for core in context.graph.begun_cores(state) {
+        for core in context.begun_cores(state) {
             rest = rest.min(self.rest_of(context, level, *core));
         }
         if level < self.levels.len() {
@@ -243,11 +257,8 @@ impl<StorageT: StorageIndex> Stacks<StorageT> {
         level: usize,
         state: StIdx<StorageT>,
     ) -> bool {
-        if usize::from(state) >= context.graph.states_len() {
-            return false;
-        }
         let mut lower = false;
-        for core in context.graph.cores(state) {
+        for core in context.cores(state) {
             if self.lower(context, level, *core) {
                 lower = true;
             }

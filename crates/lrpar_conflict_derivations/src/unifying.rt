@@ -1,16 +1,18 @@
 //! The search for a unifying counterexample, shortest texts first. Its result is validated by a replay.
 ghost use Rattle.std.specs.Prelude.{IfOk};
-ghost use Rattle.lrpar_conflict_derivations.specs.Search.{FindsFor, IfUnifying};
+ghost use Rattle.lrpar_conflict_derivations.specs.Search.{FindsFor, IfUnifying, IsNewSearch};
 ghost use Rattle.lrpar_conflict_derivations.specs.Stored.{FindsExample, HasSentences, IsBuiltIn, IsConflictIn, IsFrontIn};
 
+use crate::configurations::{Configurations, Conflict, Origin, Side};
 use crate::context::Context;
 use crate::example::Example;
 use crate::examples::Front;
 use crate::minimal_sentences::{push_sentence, push_sentences};
-use crate::search::{Conflict, Origin, Search, Side, Turn};
+use crate::search::{Search, Turn};
 use crate::stacks::Stacks;
 use crate::validation::validated;
 use lrpar_grammar::span::{PIdx, StorageIndex, Symbol};
+use lrpar_table_rows::table::Core;
 use lrpar_table_sentences::access_strings::Step;
 use lrpar_table_sentences::moves::Move;
 use std::alloc::{AllocError, Global};
@@ -53,20 +55,48 @@ pub(crate) fn find_unifying<StorageT: StorageIndex>(
     ensures searched { IfOk result (FindsFor StorageT.index conflict.now bound) }
 {
     let mut search = Search::new(alloc, context, conflict)?;
+    let found = run(alloc, context, front, conflict, bound, &mut search)?;
+    Ok((found, search))
+}
+
+// Takes turns of a new search, until one finds a unifying counterexample.
+fn run<StorageT: StorageIndex>(
+    alloc: Global,
+    context: &Context<'_, StorageT>,
+    front: &Front<StorageT>,
+    conflict: &Conflict<StorageT>,
+    bound: usize,
+    search: &mut Search<StorageT>,
+) -> Result<Option<Example<StorageT>>, AllocError>
+    requires built { IsBuiltIn context.now }
+    requires shortest { HasSentences usize.MAX context.now }
+    requires conflict { IsConflictIn StorageT.index context.now conflict.now }
+    requires front { IsFrontIn StorageT.index context.now conflict.now front.now }
+    requires new { IsNewSearch StorageT.index conflict.now.state search.old }
+    ensures example { IfOk result (FindsExample StorageT.index context.now conflict.now bound) }
+    ensures searched { IfOk result (λ found. FindsFor StorageT.index conflict.now bound (found, search.new)) }
+{
     for _ in 0..bound {
         match search.turn(context, conflict)? {
             Turn::Found(number) => {
+                let configurations = &search.configurations;
                 if let Some(example) = example_at(
-                    alloc, context, front, conflict, &search, number, bound,
+                    alloc,
+                    context,
+                    front,
+                    conflict,
+                    configurations,
+                    number,
+                    bound,
                 )? {
-                    return Ok((Some(example), search));
+                    return Ok(Some(example));
                 }
             }
             Turn::Further => {}
-            Turn::Over => return Ok((None, search)),
+            Turn::Over => return Ok(None),
         }
     }
-    Ok((None, search))
+    Ok(None)
 }
 
 // The counterexample of the configuration, if its derivations are valid.
@@ -75,7 +105,7 @@ fn example_at<StorageT: StorageIndex>(
     context: &Context<'_, StorageT>,
     front: &Front<StorageT>,
     conflict: &Conflict<StorageT>,
-    search: &Search<StorageT>,
+    configurations: &Configurations<StorageT>,
     number: usize,
     bound: usize,
 ) -> Result<Option<Example<StorageT>>, AllocError>
@@ -86,53 +116,46 @@ fn example_at<StorageT: StorageIndex>(
     ensures example { IfOk result (FindsExample StorageT.index context.now conflict.now bound) }
     ensures unifying { IfOk result IfUnifying }
 {
-    let text = unifying_of(alloc, context, conflict, search, number)?;
-    validated(alloc, context, front, conflict, &text, bound)
-}
-
-// The access path and the derivations of the configuration.
-fn unifying_of<StorageT: StorageIndex>(
-    alloc: Global,
-    context: &Context<'_, StorageT>,
-    conflict: &Conflict<StorageT>,
-    search: &Search<StorageT>,
-    number: usize,
-) -> Result<Unifying<StorageT>, AllocError>
-    requires { HasSentences usize.MAX context.now }
-{
-    let origins = origins_of(alloc, search, number)?;
     let mut text = Unifying {
         steps: Vec::new(alloc),
         first: Vec::new(alloc),
         second: Vec::new(alloc),
     };
+    push_all(alloc, context, conflict, configurations, number, &mut text)?;
+    validated(alloc, context, front, conflict, &text, bound)
+}
+
+// Appends the access path and the derivations of the configuration.
+fn push_all<StorageT: StorageIndex>(
+    alloc: Global,
+    context: &Context<'_, StorageT>,
+    conflict: &Conflict<StorageT>,
+    configurations: &Configurations<StorageT>,
+    number: usize,
+    text: &mut Unifying<StorageT>,
+) -> Result<(), AllocError>
+    requires { HasSentences usize.MAX context.now }
+{
     push_reduce(&mut text.first, conflict.one)?;
     push_reduce(&mut text.second, conflict.other)?;
-    for origin in &origins {
-        push_origin(alloc, context, search, *origin, &mut text)?;
-    }
-    finish(
-        alloc,
-        context,
-        &search.stacks,
-        search.top(number),
-        &mut text,
-    )?;
-    Ok(text)
+    let origins = origins_of(alloc, configurations, number)?;
+    push_origins(alloc, context, &configurations.stacks, &origins, text)?;
+    let top = configurations.top(number);
+    finish(alloc, context, &configurations.stacks, top, text)
 }
 
 // How the configuration came about, from the access path on.
 fn origins_of<StorageT: StorageIndex>(
     alloc: Global,
-    search: &Search<StorageT>,
+    configurations: &Configurations<StorageT>,
     number: usize,
 ) -> Result<Vec<Origin<StorageT>>, AllocError> {
     let mut origins = Vec::new(alloc);
     let mut number = number;
-    for _ in 0..search.len() {
-        if let Some((origin, parent)) = search.origin(number) {
-            origins.push(origin)?;
-            number = parent;
+    for _ in 0..configurations.len() {
+        if let Some(configuration) = configurations.get(number) {
+            origins.push(configuration.origin)?;
+            number = configuration.parent;
         }
     }
     origins.reverse();
@@ -151,21 +174,24 @@ fn push_reduce<StorageT: StorageIndex>(
 }
 
 // Appends the moves by which a configuration came about.
-fn push_origin<StorageT: StorageIndex>(
+fn push_origins<StorageT: StorageIndex>(
     alloc: Global,
     context: &Context<'_, StorageT>,
-    search: &Search<StorageT>,
-    origin: Origin<StorageT>,
+    stacks: &Stacks<StorageT>,
+    origins: &[Origin<StorageT>],
     text: &mut Unifying<StorageT>,
 ) -> Result<(), AllocError>
     requires { HasSentences usize.MAX context.now }
 {
-    match origin {
-        Origin::Start(level) => push_steps(&search.stacks, level, &mut text.steps),
-        Origin::Reduced(Side::First, prod) => Ok(text.first.push(Move::Make(prod))?),
-        Origin::Reduced(Side::Second, prod) => Ok(text.second.push(Move::Make(prod))?),
-        Origin::Both(symbol) => push_symbol(alloc, context, symbol, text),
+    for origin in origins {
+        match *origin {
+            Origin::Start(level) => push_steps(stacks, level, &mut text.steps)?,
+            Origin::Reduced(Side::First, prod) => text.first.push(Move::Make(prod))?,
+            Origin::Reduced(Side::Second, prod) => text.second.push(Move::Make(prod))?,
+            Origin::Both(symbol) => push_symbol(alloc, context, symbol, text)?,
+        }
     }
+    Ok(())
 }
 
 // Appends the steps from the bottom to the level.
@@ -260,65 +286,63 @@ fn finish<StorageT: StorageIndex>(
 ) -> Result<(), AllocError>
     requires { HasSentences usize.MAX context.now }
 {
-    let Some((prod, dot)) = least_core(context, stacks, level) else {
-        return Ok(());
-    };
-    let mut level = stacks.below(level, dot);
-    let (mut prod, mut dot) = (prod, dot);
+    let mut next = least_core(context, stacks, level);
     for _ in 0..stacks.len().saturating_mul(context.table.rules_len()) {
-        push_rest(alloc, context, prod, dot, text)?;
-        let Some(rule) = context.rule_of(prod) else {
+        let Some((level, core)) = next else {
             return Ok(());
         };
-        if context.is_start(prod) {
-            return Ok(());
-        }
-        text.first.push(Move::Make(prod))?;
-        text.second.push(Move::Make(prod))?;
-        let Some(waiting) = stacks.waiting(level, rule) else {
-            return Ok(());
-        };
-        level = stacks.below(level, waiting.dot);
-        prod = waiting.prod;
-        dot = waiting.dot.saturating_add(1);
+        push_rest(alloc, context, core, text)?;
+        next = waiting_core(context, stacks, level, core.0);
     }
     Ok(())
 }
 
-// The core of the level's state from which the fewest tokens complete a text, if there is one.
+// The core of the level's state from which the fewest tokens complete a text, if there is one, and the level before its symbols.
 fn least_core<StorageT: StorageIndex>(
     context: &Context<'_, StorageT>,
     stacks: &Stacks<StorageT>,
     level: usize,
-) -> Option<(PIdx<StorageT>, usize)> {
+) -> Option<(usize, Core<StorageT>)> {
     let top = stacks.get(level)?;
-    if usize::from(top.state) >= context.graph.states_len() {
-        return None;
-    }
-    for core in context.graph.begun_cores(top.state) {
+    for core in context.begun_cores(top.state) {
         if stacks.rest_of(context, level, *core) == top.rest {
-            return Some(*core);
+            return Some((stacks.below(level, core.1), *core));
         }
     }
     None
 }
 
-// Appends minimal sentences of the production's symbols after the dot to both derivations.
+// The core that waits on top of the level for the production's rule, with its dot after that, if there is one, and the level before its
+// symbols.
+fn waiting_core<StorageT: StorageIndex>(
+    context: &Context<'_, StorageT>,
+    stacks: &Stacks<StorageT>,
+    level: usize,
+    prod: PIdx<StorageT>,
+) -> Option<(usize, Core<StorageT>)> {
+    if context.is_start(prod) {
+        return None;
+    }
+    let waiting = stacks.waiting(level, context.rule_of(prod)?)?;
+    let dot = waiting.dot.saturating_add(1);
+    Some((stacks.below(level, waiting.dot), (waiting.prod, dot)))
+}
+
+// Appends minimal sentences of the symbols after the core's dot to both derivations, and the reduction of its production, unless that is the
+// start production.
 fn push_rest<StorageT: StorageIndex>(
     alloc: Global,
     context: &Context<'_, StorageT>,
-    prod: PIdx<StorageT>,
-    dot: usize,
+    core: Core<StorageT>,
     text: &mut Unifying<StorageT>,
 ) -> Result<(), AllocError>
     requires { HasSentences usize.MAX context.now }
 {
-    if usize::from(prod) >= context.grm.prods_len() {
+    push_both(alloc, context, context.rest(core), text)?;
+    if context.is_start(core.0) {
         return Ok(());
     }
-    let symbols = context.grm.prod(prod);
-    if dot > symbols.len() {
-        return Ok(());
-    }
-    push_both(alloc, context, &symbols[dot..], text)
+    text.first.push(Move::Make(core.0))?;
+    text.second.push(Move::Make(core.0))?;
+    Ok(())
 }

@@ -1,21 +1,18 @@
 //! Whether the result of the search is a unifying counterexample.
-ghost use Rattle.std.specs.Prelude.{◌<◌, IfOk, IfSome, IsTrue};
-ghost use Rattle.lrpar_grammar.specs.Grammar.{Terminal};
-ghost use Rattle.lrpar_grammar.specs.Symbols.{symbol_of};
-ghost use Rattle.lrpar_table_rows.specs.Table.{states_len};
+ghost use Rattle.std.specs.Prelude.{IfOk, IsTrue};
 ghost use Rattle.lrpar_conflict_derivations.specs.Search.{IfUnifying};
-ghost use Rattle.lrpar_conflict_derivations.specs.Stored.{AreJoined, AreSymbolsOf, BeginBy, FindsExample, FindsExampleAfter, FindsMovesTo, Goes, HasSentences, HasTwoMoves, IsBuiltIn, IsConflictIn, IsFrontIn, IsSameMove, LeadFromStart, ShiftFirst};
+ghost use Rattle.lrpar_conflict_derivations.specs.Stored.{AreJoined, AreSymbolsOf, BeginBy, FindsDerivation, FindsExample, FindsExampleAfter, FindsMovesTo, HasSentences, HasTwoMoves, IsBuiltIn, IsConflictIn, IsFrontIn, IsSameMove, LeadFromStart, ShiftFirst};
 
-use crate::context::Context;
+use crate::configurations::Conflict;
+use crate::context::{Context, next_by};
 use crate::example::{Example, have_as_many};
 use crate::examples::Front;
 use crate::minimal_sentences::push_sentences;
 use crate::replay::are_of_tree;
-use crate::search::Conflict;
 use crate::unifying::Unifying;
 use lrpar_grammar::grammar::YaccGrammar;
 use lrpar_grammar::span::{StIdx, StorageIndex, Symbol, TIdx};
-use lrpar_table_rows::table::{Action, StateTable};
+use lrpar_table_rows::table::StateTable;
 use lrpar_table_sentences::access_strings::Step;
 use lrpar_table_sentences::moves::Move;
 use std::alloc::{AllocError, Global};
@@ -99,47 +96,6 @@ fn lead<StorageT: StorageIndex>(
     usize::from(state) == usize::from(last)
 }
 
-// The state that the symbol leads to.
-fn next_by<StorageT: StorageIndex>(
-    table: &StateTable<StorageT>,
-    state: StIdx<StorageT>,
-    symbol: Symbol<StorageT>,
-) -> Option<StIdx<StorageT>>
-    ensures { IfSome result (Goes StorageT.index table.now state (symbol_of StorageT.index symbol)) }
-{
-    if usize::from(state) >= table.states_len() {
-        return None;
-    }
-    match symbol {
-        Symbol::Token(token) => shift_by(table, state, token),
-        Symbol::Rule(rule) => {
-            if usize::from(rule) < table.rules_len() {
-                table.goto(state, rule)
-            } else {
-                None
-            }
-        }
-    }
-}
-
-// The state that a shift of the token leads to.
-fn shift_by<StorageT: StorageIndex>(
-    table: &StateTable<StorageT>,
-    state: StIdx<StorageT>,
-    token: TIdx<StorageT>,
-) -> Option<StIdx<StorageT>>
-    requires { StorageT.index state.0 < states_len table.now }
-    ensures { IfSome result (Goes StorageT.index table.now state (Terminal (StorageT.index token.0))) }
-{
-    if usize::from(token) >= table.tokens_len() {
-        return None;
-    }
-    match table.action(state, token) {
-        Action::Shift(next) => Some(next),
-        Action::Reduce(_) | Action::Accept | Action::Error => None,
-    }
-}
-
 // The counterexample of two derivations that continue these first moves, if they begin with the conflict's moves, shift its token next, are
 // those of trees, and have one text.
 fn example_of<StorageT: StorageIndex>(
@@ -155,17 +111,15 @@ fn example_of<StorageT: StorageIndex>(
     ensures example { IfOk result (FindsExampleAfter StorageT.index grm.now conflict.now front.now short.now bound) }
     ensures unifying { IfOk result IfUnifying }
 {
-    let (first, second) = (text.first.as_slice(), text.second.as_slice());
-    let (one, other, token) = (conflict.one, conflict.other, conflict.token);
-    if !begin_with(first, one, token) || !begin_with(second, other, token) {
-        return Ok(None);
-    }
-    let first = joined(alloc, front, first)?;
-    let second = joined(alloc, front, second)?;
-    if !are_of_tree(alloc, grm, &first)? || !are_of_tree(alloc, grm, &second)? {
-        return Ok(None);
-    }
     let shortest = have_as_many(alloc, front, short)?;
+    let (token, moves) = (conflict.token, text.first.as_slice());
+    let Some(first) = derivation_of(alloc, grm, front, moves, conflict.one, token)? else {
+        return Ok(None);
+    };
+    let moves = text.second.as_slice();
+    let Some(second) = derivation_of(alloc, grm, front, moves, conflict.other, token)? else {
+        return Ok(None);
+    };
     let example = Example::new(alloc, front, first, second, shortest, bound)?;
     if !example.is_ambiguous() {
         return Ok(None);
@@ -173,16 +127,25 @@ fn example_of<StorageT: StorageIndex>(
     Ok(Some(example))
 }
 
-// Whether the moves begin with this one, and the token is the first that they shift.
-fn begin_with<StorageT: StorageIndex>(
+// The first moves and these after them, if these begin with this one and shift the token first, and all are those of a tree.
+fn derivation_of<StorageT: StorageIndex>(
+    alloc: Global,
+    grm: &YaccGrammar<StorageT>,
+    front: &[Move<StorageT>],
     moves: &[Move<StorageT>],
     next: Move<StorageT>,
     token: TIdx<StorageT>,
-) -> bool
-    ensures begins { IsTrue result → BeginBy StorageT.index next moves.now }
-    ensures shifts { IsTrue result → ShiftFirst StorageT.index token moves.now }
+) -> Result<Option<Vec<Move<StorageT>>>, AllocError>
+    ensures { IfOk result (FindsDerivation StorageT.index grm.now front.now token next) }
 {
-    begins_by(moves, next) && shifts_first(moves, token)
+    if !begins_by(moves, next) || !shifts_first(moves, token) {
+        return Ok(None);
+    }
+    let all = joined(alloc, front, moves)?;
+    if !are_of_tree(alloc, grm, &all)? {
+        return Ok(None);
+    }
+    Ok(Some(all))
 }
 
 // Whether the moves begin with this one.

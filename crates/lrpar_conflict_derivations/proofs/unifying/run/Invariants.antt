@@ -1,6 +1,6 @@
 use Rattle.std.proofs.Common.{◌≡◌}
 use Rattle.lrpar_conflict_derivations.specs.Search.{StartsAt, tried_in}
-use Rattle.lrpar_conflict_derivations.proofs.unifying.find_unifying.Given as goal
+use Rattle.lrpar_conflict_derivations.proofs.unifying.run.Given as goal
 
 -- the search from the conflict's state has taken as many turns
 abbrev pub invariant-loop : goal.invariant-loop

@@ -5,7 +5,7 @@ use Rattle.lrpar_grammar.specs.Grammar.{rules_len}
 use Rattle.lrpar_table_items.specs.Canonical.{sets_of}
 use Rattle.lrpar_conflict_derivations.specs.ClosureLinks.{ArePut, HasLink, IsKernelLink, IsLinkBelow, LinkOf, link_at, link_of, links_of}
 use Rattle.lrpar_conflict_derivations.proofs.LinkLemmas.{all_linked, begun_kept, length_put, link_is, links_begun, links_below, ofs_more, rule_within}
-use Rattle.lrpar_conflict_derivations.proofs.closure_links.links_to.Goals as goal
+use Rattle.lrpar_conflict_derivations.proofs.closure_links.find_links.Goals as goal
 
 pub links-init : goal.links-init
 links-init g c =
@@ -15,7 +15,7 @@ links-init g c =
     let token = index c.args.token.0 in
     let new = links_of index c.note_kernel.new.found.links.items in
     let put : ArePut (IsKernelLink grm set token) [] new =
-    subst (λ (old : List LinkOf). ArePut (IsKernelLink grm set token) old new) c.in_ok-found.ensures.none c.in_ok-note_kernel.ensures.put in (
+    subst (λ (old : List LinkOf). ArePut (IsKernelLink grm set token) old new) c.requires.none c.in_ok-note_kernel.ensures.put in (
       c.in_ok-note_kernel.ensures.marks,
       links_begun grm set token [] new (λ i low. absurd (omega arith)) put,
       c.in_ok-note_kernel.ensures.noted,

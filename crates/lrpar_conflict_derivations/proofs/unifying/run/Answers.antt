@@ -1,8 +1,8 @@
 use Rattle.std.proofs.Common.{subst, inr, arith}
 use Rattle.lrpar_conflict_derivations.specs.Search.{EndsTurn}
 use Rattle.lrpar_conflict_derivations.proofs.SearchLemmas.{one_more}
-use Rattle.lrpar_conflict_derivations.proofs.unifying.find_unifying.Goals as goal
-use Rattle.lrpar_conflict_derivations.proofs.unifying.find_unifying.Goals.{in-Found+in_ok-example-in-Found+in_default, in-Further}
+use Rattle.lrpar_conflict_derivations.proofs.unifying.run.Goals as goal
+use Rattle.lrpar_conflict_derivations.proofs.unifying.run.Goals.{in-Found+in_ok-example-in-Found+in_default, in-Further}
 
 pub returns-in-Some-clause-searched : goal.returns-in-Some-clause-searched
 returns-in-Some-clause-searched g c =
@@ -26,7 +26,7 @@ pub loop-preserved : goal.loop-preserved
 loop-preserved g c =
     let index = g.StorageT.StorageIndex.index in
     let state = index c.args.conflict.now.state.0 in
-    elim c.match-branch-3.branch [
+    elim c.match-branch-2.branch [
       | in-Found+in_ok-example-in-Found+in_default w ↦
           let turned = subst (EndsTurn index c.loop.search c.turn.new.self) w.in-Found.is c.in_ok-number.ensures in
           one_more index state c.loop.counter c.loop.search c.turn.new.self turned.0 turned.1 c.loop.invariant.0 c.loop.invariant.1

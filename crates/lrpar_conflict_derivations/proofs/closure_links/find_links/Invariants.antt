@@ -2,7 +2,7 @@ use Rattle.std.proofs.Common.{◌<◌, ◌≤◌, ◌-◌, ◌*◌, ℕ, length}
 use Rattle.lrpar_grammar.specs.Grammar.{rules_len}
 use Rattle.lrpar_table_items.specs.Canonical.{sets_of}
 use Rattle.lrpar_conflict_derivations.specs.ClosureLinks.{AreKernelItemsNoted, AreLinks, AreMarks, AreNotedOf, link_at, links_of}
-use Rattle.lrpar_conflict_derivations.proofs.closure_links.links_to.Given as goal
+use Rattle.lrpar_conflict_derivations.proofs.closure_links.find_links.Given as goal
 
 -- the links are good; the kernel items have theirs, and so have the rules of the links so far
 abbrev pub invariant-links : goal.invariant-links
