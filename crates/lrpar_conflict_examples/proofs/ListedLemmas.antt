@@ -16,7 +16,7 @@ use Rattle.lrpar_table_build.proofs.MemberLemmas.{member_first, member_later}
 use Rattle.lrpar_table_sentences.specs.Moves.{MoveOf, Makes, Takes}
 use Rattle.lrpar_conflict_derivations.specs.Derivation.{IsDerivation}
 use Rattle.lrpar_conflict_derivations.specs.Example.{ExampleOf}
-use Rattle.lrpar_conflict_examples.specs.Conflicts.{AreAlike, AreAmong, AreExamplesOf, ConflictExampleOf, ConflictOf, IsCounterexample, IsExampleOf, conflicts_in, of_reductions, of_shift}
+use Rattle.lrpar_conflict_examples.specs.Conflicts.{AreAlike, AreAmong, AreExamplesOf, ConflictExampleOf, ConflictOf, HaveSearched, IsCounterexample, IsExampleOf, conflicts_in, of_reductions, of_shift}
 use Rattle.lrpar_conflict_examples.specs.ExamplesFit.{DerivesFrom, ExampleFits, ExamplesFit}
 use Rattle.lrpar_conflict_examples.specs.Fits.{IsMoveOf}
 
@@ -129,10 +129,15 @@ module _ (lists : ConflictLists) (c : ConflictOf) (there : Contains (conflicts_i
             let never : Makes x.0.prod ≡ Takes t = ap (λ (o : ConflictOf). o.first) x.2 ∙ first in cc
       ]
 
--- what two clauses say of a value together
-pub if_ok_both : {T E : Type 0} (r : Result T E) (P Q R : T → Type 0) → ((x : T) → P x → Q x → R x) → IfOk r P → IfOk r Q → IfOk r R
-if_ok_both (Ok x) P Q R both one other = both x one other
-if_ok_both (Err e) P Q R both one other = tt
+-- what three clauses say of a value together
+pub if_ok_all : {T E : Type 0} (r : Result T E) (P Q R All : T → Type 0) → ((x : T) → P x → Q x → R x → All x) → IfOk r P → IfOk r Q → IfOk r R → IfOk r All
+if_ok_all (Ok x) P Q R All all one other third = all x one other third
+if_ok_all (Err e) P Q R All all one other third = tt
+
+-- the searches for counterexamples of conflicts have gone on as long as the bound allows
+pub examples_searched : (g : Grammar) (graph : Graph) (bound : ℕ) (xs : List ConflictExampleOf) → AllByRecursion (IsExampleOf g graph bound) xs → HaveSearched bound xs
+examples_searched g graph bound [] each = tt
+examples_searched g graph bound (x ∷ xs) each = (each.0.2, examples_searched g graph bound xs each.1)
 
 -- what a conflict names is of the grammar
 record NamesOf (g : Grammar) (c : ConflictOf) : Type 0 where

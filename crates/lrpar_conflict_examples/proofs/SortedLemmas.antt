@@ -1,5 +1,5 @@
 -- The conflicts of a table with merged item sets, each in its list.
-use Rattle.std.proofs.Common.{◌≡◌, ◌<◌, ◌≤◌, ◌+◌, ◌&&◌, ◌==◌, ◌↔◌, ◌∙◌, refl, sym, ap, subst, inl, inr, ℕ, suc, Bool, true, false, cond, drop, List, [], ◌∷◌, ◌++◌, Option, Some, None, get_or, length, map, option_map, take}
+use Rattle.std.proofs.Common.{◌≡◌, ◌<◌, ◌≤◌, ◌+◌, ◌&&◌, ◌==◌, ◌∙◌, refl, sym, ap, subst, inl, inr, ℕ, suc, Bool, true, false, cond, drop, List, [], ◌∷◌, ◌++◌, Some, None, get_or, length, map, take}
 use Rattle.std.specs.List.{AllByRecursion, Contains, find}
 use Rattle.std.proofs.lemmas.Bool.{cases_Bool, eq-eqb, eqb-true, false≢true}
 use Rattle.std.proofs.Math.Seq.{drop-cons}
@@ -7,14 +7,14 @@ use Rattle.std.proofs.lemmas.List.{map-append, take-append-drop, take_all}
 use Rattle.std.proofs.lemmas.List.Elements.{Contains-append_right}
 use Rattle.lrpar_grammar_places.proofs.ListLemmas.{all_both, map-take_more}
 use Rattle.lrpar_grammar.specs.Grammar.{Grammar}
-use Rattle.lrpar_table_build.proofs.MemberLemmas.{member_cases, member_first, member_later, member_none}
+use Rattle.lrpar_table_build.proofs.MemberLemmas.{member_cases, member_first, member_none}
 use Rattle.lrpar_table_precedence.specs.Precedence.{PrecedenceLists}
 use Rattle.lrpar_table_rows.specs.Graph.{Graph}
 use Rattle.lrpar_table_rows.specs.Table.{Table}
 use Rattle.lrpar_table_sentences.specs.Moves.{MoveOf, Makes, Takes}
 use Rattle.lrpar_table_sentences.specs.Reachable.{is_marked}
-use Rattle.lrpar_conflict_examples.specs.Conflicts.{AreAlike, ConflictExampleOf, ConflictOf, table_conflicts, unmet_in, unmet_of}
-use Rattle.lrpar_conflict_examples.specs.Merged.{AddsExample, Apart, AreSorted, ComesOfMerging, HasExampleOfFirst, IsCanonicalOf, IsComparedTo, IsDealt, IsFirstIn, IsSetApart, IsUnmet, KeepsExamples, LiesIn, ToMerged, ToUnmet, TwoTables, WithExample, are_alike, first_in, lies_by, same_move}
+use Rattle.lrpar_conflict_examples.specs.Conflicts.{AreAlike, ConflictExampleOf, ConflictOf, HaveSearched, table_conflicts, unmet_in, unmet_of}
+use Rattle.lrpar_conflict_examples.specs.Merged.{Apart, AreSorted, ComesOfMerging, HasExampleOfFirst, IsCanonicalOf, IsComparedTo, IsDealt, IsFirstIn, IsSetApart, IsUnmet, KeepsExamples, LiesIn, ToMerged, ToUnmet, TwoTables, WithExample, are_alike, first_in, lies_by, same_move}
 use Rattle.lrpar_conflict_examples.specs.Pairs.{has_pair, rows_in}
 use Rattle.lrpar_conflict_examples.specs.declared.merged.Canonical.{Canonical}
 use Rattle.lrpar_conflict_examples.specs.declared.merged.MergedConflicts.{MergedConflicts}
@@ -146,6 +146,12 @@ first_like index canonical conflict own found =
       subst (λ l. Contains l own) (sym parts.2) (Contains-append_right parts.0 (own ∷ parts.1) own (member_first own parts.1)),
       alike_is own shown met.0,
     )
+
+-- the searches for the counterexamples have gone on as long as the bound allows
+pub sorted_searched : (g : Grammar) (graph : Graph) (tables : TwoTables) (bound : ℕ) (xs : List ConflictExampleOf)
+    → AllByRecursion (HasExampleOfFirst g graph tables bound) xs → HaveSearched bound xs
+sorted_searched g graph tables bound [] each = tt
+sorted_searched g graph tables bound (x ∷ xs) each = (each.0.example.2, sorted_searched g graph tables bound xs each.1)
 
 -- at first there are none
 pub sorted_none : {S : Type 0} (index : S → ℕ) (g : Grammar) (graph : Graph) (tables : TwoTables) (bound : ℕ) (found : MergedConflicts S) → found.examples.items ≡ []

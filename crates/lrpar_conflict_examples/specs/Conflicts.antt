@@ -8,7 +8,7 @@ use Rattle.lrpar_table_rows.specs.Table.{ConflictLists, ReduceReduce, ShiftReduc
 use Rattle.lrpar_table_build.specs.Built.{IsBuilt}
 use Rattle.lrpar_table_build.specs.BuilderLaws.{lists_in}
 use Rattle.lrpar_table_sentences.specs.Moves.{MoveOf, Makes, Takes, move_of}
-use Rattle.lrpar_conflict_derivations.specs.Example.{AreExamplesFor, ExampleOf, ExamplesOf, IsExample}
+use Rattle.lrpar_conflict_derivations.specs.Example.{AreExamplesFor, ExampleOf, ExamplesOf, HasSearched, IsExample}
 use Rattle.lrpar_conflict_examples.specs.declared.unresolved.UnmetConflict.{UnmetConflict}
 
 -- a conflict: a state, a token, and the moves by which two derivations go on there
@@ -78,7 +78,7 @@ with_example index conflict x = record { conflict = unmet_of index conflict; exa
 
 -- the counterexample is one of the conflict, and its search had this bound
 abbrev pub IsCounterexample : Grammar → Graph → ℕ → ConflictOf → ExampleOf → Type 0
-IsCounterexample g graph bound c x = IsExample g graph c.state c.token c.first c.second x × (x.bound ≡ bound)
+IsCounterexample g graph bound c x = IsExample g graph c.state c.token c.first c.second x × (x.bound ≡ bound) × HasSearched bound x
 
 abbrev pub IsExampleOf : Grammar → Graph → ℕ → ConflictExampleOf → Type 0
 IsExampleOf g graph bound x = IsCounterexample g graph bound x.conflict x.example
@@ -87,6 +87,15 @@ IsExampleOf g graph bound x = IsCounterexample g graph bound x.conflict x.exampl
 pub record AreExamplesOf (g : Grammar) (graph : Graph) (bound : ℕ) (conflicts : List ConflictOf) (examples : List ConflictExampleOf) : Type 0 where
   pub conflicts_are : map (λ (x : ConflictExampleOf). x.conflict) examples ≡ conflicts
   pub each : AllByRecursion (IsExampleOf g graph bound) examples
+
+-- both derivations of each counterexample have one text; or the search for two that have has tried as much as the bound allows, or all that
+-- it came to
+abbrev pub HaveSearched : ℕ → List ConflictExampleOf → Type 0
+HaveSearched bound examples = AllByRecursion (λ (x : ConflictExampleOf). HasSearched bound x.example) examples
+
+-- the searches for the counterexamples in the vector have gone on as long as the bound allows
+abbrev pub AllSearched : {A : Type 0} → ℕ → Vec ConflictExampleOf A → Type 0
+AllSearched bound = λ examples. HaveSearched bound examples.items
 
 -- a counterexample of each of the code's conflicts, in order
 abbrev pub HasExamples : {S A : Type 0} → (S → ℕ) → Grammar → Graph → ℕ → List (UnmetConflict S) → Vec ConflictExampleOf A → Type 0

@@ -8,7 +8,7 @@ use Rattle.lrpar_table_rows.specs.Table.{Table}
 use Rattle.lrpar_table_build.specs.Built.{IsBuilt}
 use Rattle.lrpar_table_sentences.specs.Moves.{MoveOf, Makes, Takes}
 use Rattle.lrpar_table_sentences.specs.Reachable.{is_marked}
-use Rattle.lrpar_conflict_examples.specs.Conflicts.{AreAlike, ConflictExampleOf, ConflictOf, IsCounterexample, IsReady, table_conflicts, unmet_in, unmet_of}
+use Rattle.lrpar_conflict_examples.specs.Conflicts.{AreAlike, ConflictExampleOf, ConflictOf, HaveSearched, IsCounterexample, IsReady, table_conflicts, unmet_in, unmet_of}
 use Rattle.lrpar_conflict_examples.specs.Met.{AreMet, IsMet}
 use Rattle.lrpar_conflict_examples.specs.Pairs.{ArePaired, HasAllPairs, HasSomePair, has_pair, rows_in}
 use Rattle.lrpar_conflict_examples.specs.declared.merged.Canonical.{Canonical}
@@ -23,6 +23,10 @@ conflicts_of index found =
 -- the conflict was added to one of the three lists
 abbrev pub AddsConflict : {S : Type 0} → (S → ℕ) → ConflictOf → MergedConflicts S → MergedConflicts S → Type 0
 AddsConflict index conflict old new = IsPermutation (conflict ∷ conflicts_of index old) (conflicts_of index new)
+
+-- the searches for the counterexamples have gone on as long as the bound allows
+abbrev pub MergedSearched : {S : Type 0} → ℕ → MergedConflicts S → Type 0
+MergedSearched bound = λ found. HaveSearched bound found.examples.items
 
 -- the counterexamples are as before
 abbrev pub KeepsExamples : {S : Type 0} → MergedConflicts S → MergedConflicts S → Type 0

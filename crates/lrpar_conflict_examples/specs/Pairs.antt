@@ -7,7 +7,7 @@ use Rattle.lrpar_grammar_places.specs.declared.span.StIdx.{StIdx}
 use Rattle.lrpar_grammar_places.specs.declared.span.TIdx.{TIdx}
 use Rattle.lrpar_table_rows.specs.PlainRows.{plain_action}
 use Rattle.lrpar_table_rows.specs.declared.rows.Action.{Action}
-use Rattle.lrpar_table_rows.specs.Table.{IsClosed, Table, TableAction, ShiftTo, action_of, actions_at, goto_of, gotos_at, states_len}
+use Rattle.lrpar_table_rows.specs.Table.{IsClosed, Table, TableAction, ShiftTo, action_of, goto_of, states_len}
 use Rattle.lrpar_conflict_examples.specs.declared.paired.Pairs.{Pairs}
 
 -- one step of both tables by the same symbol: from states s and q to states next and beside

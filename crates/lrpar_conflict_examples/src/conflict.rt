@@ -10,13 +10,27 @@ use lrpar_table_sentences::moves::Move;
 use std::marker::Model;
 
 /// A conflict of a table, with its counterexample.
-#[derive(Debug, Drop)]
+#[derive(Debug)]
 pub struct ConflictExample<StorageT: StorageIndex> {
     token: TIdx<StorageT>,
     state: StIdx<StorageT>,
     first: Move<StorageT>,
     second: Move<StorageT>,
     example: Example<StorageT>,
+}
+
+// A drop of its own: code that drops one then has one call to prove.
+impl<StorageT: StorageIndex> Drop for ConflictExample<StorageT> {
+    fn drop(self) {
+        let ConflictExample {
+            token: _,
+            state: _,
+            first: _,
+            second: _,
+            example,
+        } = self;
+        drop(example);
+    }
 }
 
 impl<StorageT: StorageIndex> Model for ConflictExample<StorageT> {

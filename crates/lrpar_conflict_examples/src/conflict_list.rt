@@ -2,7 +2,7 @@
 ghost use Rattle.std.specs.Prelude.{IfErr, IfOk};
 ghost use Rattle.lrpar_table_build.specs.Built.{IsBuilt};
 ghost use Rattle.lrpar_conflict_derivations.specs.Example.{IsFault};
-ghost use Rattle.lrpar_conflict_examples.specs.Conflicts.{AreAllConflicts, HasExamples, HasExamplesOf, IsCounterexample, IsReady, ListsConflicts, ListsConflict, unmet_of};
+ghost use Rattle.lrpar_conflict_examples.specs.Conflicts.{AllSearched, AreAllConflicts, HasExamples, HasExamplesOf, IsCounterexample, IsReady, ListsConflicts, ListsConflict, unmet_of};
 ghost use Rattle.lrpar_conflict_examples.specs.ExamplesFit.{AllFit};
 
 use crate::conflict::ConflictExample;
@@ -30,6 +30,7 @@ pub fn conflict_examples<StorageT: StorageIndex>(
 ) -> Result<Vec<ConflictExample<StorageT>>, ExampleFault<StorageT>>
     requires built { IsBuilt grm.now sgraph.now stable.now }
     ensures examples { IfOk result (HasExamplesOf grm.now sgraph.now stable.now bound) }
+    ensures searched { IfOk result (AllSearched bound) }
     ensures fit { IfOk result (AllFit grm.now) }
     ensures refused { IfErr result (IsFault StorageT.index grm.now) }
 {

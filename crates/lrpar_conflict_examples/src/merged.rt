@@ -3,7 +3,7 @@ ghost use Rattle.std.specs.Prelude.{◌≡◌, IfErr, IfOk, IsPermutation, OnOk}
 ghost use Rattle.lrpar_table_sentences.specs.Moves.{move_of};
 ghost use Rattle.lrpar_conflict_examples.specs.Conflicts.{table_conflicts, unmet_of};
 ghost use Rattle.lrpar_conflict_examples.specs.ExamplesFit.{MergedFit};
-ghost use Rattle.lrpar_conflict_examples.specs.Merged.{AddsConflict, AddsExample, AreSortedBy, HasRoom, IsCanonicalOf, IsComparedTo, IsDealt, IsFirstOf, IsSetApart, KeepsExamples, SaysWhetherLies, are_alike, conflicts_of, same_move};
+ghost use Rattle.lrpar_conflict_examples.specs.Merged.{AddsConflict, AddsExample, AreSortedBy, HasRoom, IsCanonicalOf, IsComparedTo, IsDealt, IsFirstOf, IsSetApart, KeepsExamples, MergedSearched, SaysWhetherLies, are_alike, conflicts_of, same_move};
 ghost use Rattle.lrpar_conflict_examples.specs.NoExamples.{IsReason};
 
 use crate::conflict::ConflictExample;
@@ -153,6 +153,7 @@ pub fn conflict_examples_by<StorageT: StorageIndex>(
     bound: usize,
 ) -> Result<MergedConflicts<StorageT>, NoExamples<StorageT>>
     ensures fit { IfOk result (MergedFit grm.now) }
+    ensures searched { IfOk result (MergedSearched bound) }
     // Each conflict of the table is in one of the three lists, as often as the table lists it, and they have no others.
     ensures all { IfOk result (λ found. IsPermutation (table_conflicts stable.now) (conflicts_of StorageT.index found)) }
     // It is with an example if and only if a canonical conflict lies in it: that of the first one. It is unmet if and only if no path leads

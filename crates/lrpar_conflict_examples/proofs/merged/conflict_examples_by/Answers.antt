@@ -5,7 +5,7 @@ use Rattle.lrpar_conflict_examples.specs.Conflicts.{ConflictExampleOf, unmet_in,
 use Rattle.lrpar_conflict_examples.specs.ExamplesFit.{ExamplesFit}
 use Rattle.lrpar_conflict_examples.specs.Merged.{ByCanonical, conflicts_of}
 use Rattle.lrpar_conflict_examples.proofs.DealtLemmas.{dealt_more, dealt_none}
-use Rattle.lrpar_conflict_examples.proofs.SortedLemmas.{sorted_more, sorted_none}
+use Rattle.lrpar_conflict_examples.proofs.SortedLemmas.{sorted_more, sorted_none, sorted_searched}
 use Rattle.lrpar_conflict_examples.proofs.merged.conflict_examples_by.Goals as goal
 
 pub loop-conflict-init : goal.loop-conflict-init
@@ -34,6 +34,10 @@ returns-clause-all g c =
     subst (λ l. IsPermutation l (conflicts_of index c.loop-conflict.found))
     (ap (unmet_in index) (take_all c.loop-conflict.conflict-index c.deref-conflict-items.result.now c.loop-conflict-test.false ∙ c.deref-conflict-items.ensures.value)
     ∙ c.in_ok-listed.ensures) c.loop-conflict.invariant.1
+
+pub returns-clause-searched : goal.returns-clause-searched
+returns-clause-searched g c =
+    sorted_searched c.args.grm.now c.in_ok-canonical.canonical.sgraph _ c.args.bound c.loop-conflict.found.examples.items c.loop-conflict.invariant.2.examples
 
 pub returns-clause-sorted : goal.returns-clause-sorted
 returns-clause-sorted g c =

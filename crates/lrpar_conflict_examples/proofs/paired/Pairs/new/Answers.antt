@@ -1,7 +1,7 @@
 use Rattle.std.proofs.Common.{◌<◌, ◌↔◌, ◌∙◌, arith, length, map, subst, sym}
 use Rattle.std.specs.List.{Contains}
 use Rattle.std.proofs.lemmas.List.{length-map}
-use Rattle.lrpar_conflict_examples.specs.Pairs.{AreNextPairs, IsPairStep, PairLists, pairs_in}
+use Rattle.lrpar_conflict_examples.specs.Pairs.{IsPairStep, PairLists, pairs_in}
 use Rattle.lrpar_conflict_examples.proofs.PairLemmas.{all_found, first_found, found_within, nexts_below, place_below, round_more}
 use Rattle.lrpar_conflict_examples.proofs.paired.Pairs.new.Goals as goal
 
