@@ -48,8 +48,11 @@ fn read_outline(alloc: Global, text: &str) -> Result<Outline, GrammarFault>
     }
 }
 
-// The parts that the declarations and rules spell, if they have no fault.
-fn checked_parts<StorageT: StorageIndex>(
+/// The parts that the declarations and rules spell, if they have no fault. Each alternative must be of a rule that is defined, and its
+/// symbols must be in the order of the text.
+///
+/// Fails as `read_parts` does, but for `Syntax`. Takes memory linear in the outline, and time as `read_parts` does.
+pub fn checked_parts<StorageT: StorageIndex>(
     alloc: Global,
     outline: &Outline,
 ) -> Result<GrammarParts<StorageT>, GrammarFault>

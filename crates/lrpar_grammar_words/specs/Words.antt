@@ -106,7 +106,7 @@ pub record PlacedWord : Type 0 where
 
 -- a word as plain data
 abbrev pub placed : Word → PlacedWord
-placed w = record { kind = w.kind; name = w.name.now; span = record { start = w.end - length w.name.now; end = w.end } }
+placed w = record { kind = w.kind; name = w.name.now; span = record { start = w.end - w.len; end = w.end } }
 
 -- the word of that kind and length at the start of s, which begins at that place of the text
 abbrev pub word_at : ℕ → List ℕ → WordKind → ℕ → PlacedWord

@@ -33,8 +33,8 @@ pub struct Outline<'a> {
     pub defined: Vec<Word<'a>>,
     /// The alternatives of the rules.
     pub alternatives: Vec<Alternative<'a>>,
-    // the symbols of an alternative that hasn't ended
-    pub(crate) symbols: Vec<Word<'a>>,
+    /// The symbols of an alternative that hasn't ended.
+    pub symbols: Vec<Word<'a>>,
 }
 
 // Hand-written, so that code that drops an outline needs the proof of one call only.

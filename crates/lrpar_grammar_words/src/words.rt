@@ -35,7 +35,9 @@ pub struct Word<'a> {
     pub kind: WordKind,
     /// Its text, without quotes.
     pub name: &'a str,
-    /// The byte after that text, counted from the start of the grammar text.
+    /// The length in bytes of what is there in the text: `name`, or what stands for it.
+    pub len: usize,
+    /// The byte after that, counted from the start of the grammar text.
     pub end: usize,
 }
 
@@ -44,7 +46,7 @@ impl Word<'_> {
     pub fn span(&self) -> Span
         ensures { result ≡ (placed self.now).span }
     {
-        Span::new(self.end.saturating_sub(self.name.len()), self.end)
+        Span::new(self.end.saturating_sub(self.len), self.end)
     }
 }
 
@@ -115,6 +117,7 @@ pub fn word_at(text: &str, place: usize, kind: WordKind, len: usize) -> Word
     Word {
         kind,
         name: &text[start..end],
+        len: end - start,
         end,
     }
 }
