@@ -5,32 +5,33 @@ use Rattle.std.specs.Ordering.{nat_cmp}
 use Rattle.std.specs.declared.cmp.Ordering.{Ordering}
 use Rattle.std.specs.declared.cmp.Ordering.TheVariants.{Less, Equal, Greater}
 use Rattle.lrpar_table_precedence.specs.declared.precedence.AssocKind.{AssocKind}
-use Rattle.lrpar_table_precedence.specs.declared.precedence.AssocKind.TheVariants.{Left, Right, Nonassoc}
+use Rattle.lrpar_table_precedence.specs.declared.precedence.AssocKind.TheVariants.{Left, Right, Nonassoc, Undeclared}
 use Rattle.lrpar_table_precedence.specs.declared.precedence.Precedence.{Precedence}
 use Rattle.lrpar_table_precedence.specs.declared.precedence.Resolution.{Resolution}
 use Rattle.lrpar_table_precedence.specs.declared.precedence.Resolution.TheVariants.{Shift, Reduce, Error}
 
 -- how a conflict is resolved if both have one level: by a reduction if it is left-associative, by the shift if it is right-associative,
--- and to an error if it is nonassociative
-abbrev pub by_kind : AssocKind → Resolution
-by_kind Left = Reduce
-by_kind Right = Shift
-by_kind Nonassoc = Error
+-- to an error if it is nonassociative, and not at all if its associativity isn't declared
+abbrev pub by_kind : AssocKind → Option Resolution
+by_kind Left = Some Reduce
+by_kind Right = Some Shift
+by_kind Nonassoc = Some Error
+by_kind Undeclared = None
 
 -- how a conflict is resolved by the levels of the production and the token: the higher one wins, and at one level its associativity
 -- decides
-abbrev pub by_levels : Ordering → AssocKind → Resolution
-by_levels Less kind = Shift
+abbrev pub by_levels : Ordering → AssocKind → Option Resolution
+by_levels Less kind = Some Shift
 by_levels Equal kind = by_kind kind
-by_levels Greater kind = Reduce
+by_levels Greater kind = Some Reduce
 
--- how a production's precedence against a token's resolves a conflict
-abbrev pub against : Precedence → Precedence → Resolution
+-- how a production's precedence against a token's resolves a conflict, if it does
+abbrev pub against : Precedence → Precedence → Option Resolution
 against prod token = by_levels (nat_cmp prod.level token.level) token.kind
 
--- what a production's precedence against a token's decides, if both have one; otherwise nothing is decided
+-- what a production's precedence against a token's decides: nothing, unless both have one
 abbrev pub decided : Option Precedence → Option Precedence → Option Resolution
-decided (Some prod) (Some token) = Some (against prod token)
+decided (Some prod) (Some token) = against prod token
 decided (Some prod) None = None
 decided None token = None
 

@@ -13,6 +13,8 @@ pub enum AssocKind {
     Right,
     /// Not at all, as `%nonassoc` declares: `1<2<3` is an error.
     Nonassoc,
+    /// It isn't said, as bison's `%precedence` declares: a conflict at this level stays one.
+    Undeclared,
 }
 
 /// A precedence: the number of a level, the weakest first, counted from 0, and how the tokens of that level associate.
@@ -35,24 +37,26 @@ pub enum Resolution {
 
 /// What a production's precedence decides against a token's, by yacc's rule: the higher level wins; at one level, the state
 /// reduces if the level associates to the left, shifts if it associates to the right, and reports an error if it doesn't associate.
-pub fn resolved_by(prod: Precedence, token: Precedence) -> Resolution
+/// `None` if the level doesn't say how it associates.
+pub fn resolved_by(prod: Precedence, token: Precedence) -> Option<Resolution>
     ensures { result ≡ against prod token }
 {
     match prod.level.cmp(&token.level) {
-        Ordering::Less => Resolution::Shift,
+        Ordering::Less => Some(Resolution::Shift),
         Ordering::Equal => by_association(token.kind),
-        Ordering::Greater => Resolution::Reduce,
+        Ordering::Greater => Some(Resolution::Reduce),
     }
 }
 
 // What is decided at one level.
-fn by_association(kind: AssocKind) -> Resolution
+fn by_association(kind: AssocKind) -> Option<Resolution>
     ensures { result ≡ by_kind kind }
 {
     match kind {
-        AssocKind::Left => Resolution::Reduce,
-        AssocKind::Right => Resolution::Shift,
-        AssocKind::Nonassoc => Resolution::Error,
+        AssocKind::Left => Some(Resolution::Reduce),
+        AssocKind::Right => Some(Resolution::Shift),
+        AssocKind::Nonassoc => Some(Resolution::Error),
+        AssocKind::Undeclared => None,
     }
 }
 
@@ -66,12 +70,12 @@ pub fn slot_at(slots: &[Option<Precedence>], number: usize) -> Option<Precedence
     }
 }
 
-/// What a production's precedence decides against a token's, if both have one; otherwise nothing is decided.
+/// What a production's precedence decides against a token's: nothing, unless both have one.
 pub fn decision(prod: Option<Precedence>, token: Option<Precedence>) -> Option<Resolution>
     ensures { result ≡ decided prod token }
 {
     match (prod, token) {
-        (Some(prod), Some(token)) => Some(resolved_by(prod, token)),
+        (Some(prod), Some(token)) => resolved_by(prod, token),
         _ => None,
     }
 }

@@ -75,7 +75,7 @@ impl Precedences {
     }
 
     /// How a conflict between the reduction by the production and the shift of the token is resolved: by yacc's rule, if both have a
-    /// precedence, and otherwise not at all.
+    /// precedence; otherwise, or if both are of one level that doesn't say how it associates, not at all.
     pub fn resolution<StorageT: StorageIndex>(
         &self,
         pidx: PIdx<StorageT>,

@@ -117,6 +117,7 @@ fn push_level(out: &mut Printed, level: &Level) {
         AssocKind::Left => "left",
         AssocKind::Right => "right",
         AssocKind::Nonassoc => "nonassoc",
+        AssocKind::Undeclared => "precedence",
     });
     push_names(out, &level.names);
 }

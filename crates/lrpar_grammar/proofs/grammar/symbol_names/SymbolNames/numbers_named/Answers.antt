@@ -8,13 +8,13 @@ use Rattle.lrpar_grammar.proofs.grammar.symbol_names.SymbolNames.numbers_named.G
 
 pub returns-in_default-number_named : goal.returns-in_default-number_named
 returns-in_default-number_named c =
-    let d : Word = record { kind = Name; name = record { ref_ptr = (0, 0); now = [] }; end = 0 } in
+    let d : Word = record { kind = Name; name = record { ref_ptr = (0, 0); now = [] }; len = 0; end = 0 } in
     sym (c.loop-word.invariant ∙ unnamed_word_code c.args.self.now c.args.symbols.now c.loop-word.word-index d c.loop-word.numbers.items c.loop-word-test.true
     (sym c.number_named-in-loop-word.ensures ∙ c.in_default-number_named.is))
 
 pub loop-word-preserved : goal.loop-word-preserved
 loop-word-preserved c =
-    let d : Word = record { kind = Name; name = record { ref_ptr = (0, 0); now = [] }; end = 0 } in
+    let d : Word = record { kind = Name; name = record { ref_ptr = (0, 0); now = [] }; len = 0; end = 0 } in
     let words = c.args.symbols.now in
     c.loop-word.invariant
     ∙ named_more_code c.args.self.now words c.loop-word.word-index d c.loop-word.numbers.items c.in-Some-number_named.number c.loop-word-test.true
