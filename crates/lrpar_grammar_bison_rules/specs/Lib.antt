@@ -1,0 +1,4 @@
+pub mod Directives
+pub mod Signs
+pub mod WordOrder
+pub mod Rules
