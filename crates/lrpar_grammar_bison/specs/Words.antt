@@ -130,9 +130,7 @@ unread_at (c ∷ s) = unread_from c s
 -- the number of bytes of a word before its name
 abbrev pub front_len : WordKind → ℕ
 front_len Directive = 1
-front_len Character = 1
-front_len Text = 1
-front_len Translated = 3
+front_len Translated = 2
 front_len Tag = 1
 front_len Code = 1
 front_len Prologue = 2
@@ -141,9 +139,7 @@ front_len _ = 0
 
 -- the number of bytes of a word after its name
 abbrev pub back_len : WordKind → ℕ
-back_len Character = 1
-back_len Text = 1
-back_len Translated = 2
+back_len Translated = 1
 back_len Tag = 1
 back_len Code = 1
 back_len Prologue = 2

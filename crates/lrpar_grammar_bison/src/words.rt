@@ -47,7 +47,7 @@ pub enum WordKind {
 pub struct Word<'a> {
     /// Its kind.
     pub kind: WordKind,
-    /// Its text, without the signs around it: quotes, brackets, or the `%` of a directive.
+    /// Its text, without the signs around it: brackets, or the `%` of a directive. A literal keeps its quotes: `'a'` isn't `a`.
     pub name: &'a str,
     /// Its length in bytes, with these signs.
     pub len: usize,
@@ -128,17 +128,11 @@ impl WordKind {
     // The number of bytes of a word before its name.
     fn front_len(self) -> usize
         ensures len { result ≡ front_len self }
-        ensures few { result ≤ 3 }
+        ensures few { result ≤ 2 }
     {
         match self {
-            WordKind::Directive
-            | WordKind::Character
-            | WordKind::Text
-            | WordKind::Tag
-            | WordKind::Code
-            | WordKind::Label => 1,
-            WordKind::Prologue => 2,
-            WordKind::Translated => 3,
+            WordKind::Directive | WordKind::Tag | WordKind::Code | WordKind::Label => 1,
+            WordKind::Prologue | WordKind::Translated => 2,
             _ => 0,
         }
     }
@@ -149,12 +143,8 @@ impl WordKind {
         ensures few { result ≤ 2 }
     {
         match self {
-            WordKind::Character
-            | WordKind::Text
-            | WordKind::Tag
-            | WordKind::Code
-            | WordKind::Label => 1,
-            WordKind::Translated | WordKind::Prologue => 2,
+            WordKind::Translated | WordKind::Tag | WordKind::Code | WordKind::Label => 1,
+            WordKind::Prologue => 2,
             _ => 0,
         }
     }
@@ -401,8 +391,8 @@ fn name_after(first: u8, after: &[u8]) -> Option<Piece>
 fn translated_len(after: &[u8]) -> Option<usize>
     ensures len { result ≡ translated_len after.now }
     ensures within { IfSome result (λ len. (4 ≤ len) × (len ≤ length after.now)) }
-    ensures front { IfSome result (λ len. slice_index after.now 1 ≡ 34) }
-    ensures back { IfSome result (λ len. slice_index after.now (len - 2) ≡ 34) }
+    ensures front { IfSome result (λ len. slice_index after.now 0 ≡ 40) }
+    ensures back { IfSome result (λ len. slice_index after.now (len - 1) ≡ 41) }
 {
     let [b'(', b'"', text @ ..] = after else {
         return None;
