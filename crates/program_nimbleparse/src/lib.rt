@@ -1,4 +1,4 @@
-//! `nimbleparse` over words, files and streams: grammars, lexers, trees, and messages of each.
+//! `nimbleparse` over words, files and streams: grammars, lexers, trees, messages of each, and looks at grammars.
 #![tactic(auto)]
 
 mod command;
@@ -10,14 +10,17 @@ pub mod grammar;
 mod header;
 mod inputs;
 pub mod kind;
+mod look;
 mod options;
 pub mod parse;
 pub mod plan;
 mod program;
 pub mod rules;
 pub mod show;
+mod sizes;
 mod source;
 mod states;
+mod useless;
 
 pub use lrpar_report::Look;
 pub use program::{Terminal, run, run_of_process};
