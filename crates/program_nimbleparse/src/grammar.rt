@@ -89,7 +89,7 @@ impl Drop for GrammarTable {
 }
 
 /// The checked table of a grammar file. A line says that it is built, if the terminal is to show that.
-pub(crate) fn table_of_file<O: Write, E: Write>(
+pub(crate) fn make_table<O: Write, E: Write>(
     alloc: Global,
     file: GrammarFile<'_>,
     out: &mut O,
@@ -99,12 +99,12 @@ pub(crate) fn table_of_file<O: Write, E: Write>(
         write_messages(out, err, "nimbleparse: building the table ..\n")?;
     }
     let reporter = file.reporter(alloc)?;
-    make_table(alloc, &reporter, file.text, file.asked, out, err)
+    build_table(alloc, &reporter, file.text, file.asked, out, err)
 }
 
 // The checked table of a grammar file. Warns of what is of no use, and of conflicts, unless the program is to be quiet. A table with another
 // number of conflicts than the file expects is refused.
-fn make_table<O: Write, E: Write>(
+fn build_table<O: Write, E: Write>(
     alloc: Global,
     reporter: &Reporter<'_>,
     text: &str,

@@ -1,4 +1,4 @@
-//! `nimbleparse` over words, files and streams: grammars, lexers, trees, messages of each, and looks at grammars.
+//! `nimbleparse` over words, files and streams: grammars, lexers, trees, and messages of each.
 #![tactic(auto)]
 
 mod command;

@@ -1,6 +1,6 @@
 //! A look at a grammar alone.
 use crate::expects::counts_of;
-use crate::grammar::{GrammarFile, GrammarTable, table_of_file};
+use crate::grammar::{GrammarFile, GrammarTable, make_table};
 use crate::sizes::{push_sizes, push_table};
 use program_files::fault::Fault;
 use program_files::streams::Status;
@@ -15,7 +15,7 @@ pub(crate) fn look_at<O: Write, E: Write>(
     out: &mut O,
     err: &mut E,
 ) -> Result<Status, Fault> {
-    let table = table_of_file(alloc, file, out, err)?;
+    let table = make_table(alloc, file, out, err)?;
     if !file.asked.is_quiet {
         print_table(alloc, file, &table, out)?;
     }

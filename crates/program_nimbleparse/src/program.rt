@@ -4,7 +4,7 @@ ghost use Rattle.std.specs.Prelude.{◌≤◌};
 
 use crate::command::PossibleValues;
 use crate::fault_line::FaultLine;
-use crate::grammar::{GrammarFile, GrammarTable, table_of_file};
+use crate::grammar::{GrammarFile, GrammarTable, make_table};
 use crate::inputs::{STANDARD_INPUT, file_text, input_text};
 use crate::look::look_at;
 use crate::options::{GrammarOptions, Options, Request, request_of};
@@ -226,7 +226,7 @@ fn run_work<R: Files, I: Read + Drop, O: Write, E: Write>(
     out: &mut O,
     err: &mut E,
 ) -> Result<Status, Fault> {
-    let table = table_of_file(alloc, work.grammar, out, err)?;
+    let table = make_table(alloc, work.grammar, out, err)?;
     let rules = rules_of_lexer(alloc, work, &table.data)?;
     warn(alloc, work, &table, &rules, out, err)?;
     parse_inputs(rt, alloc, work, &table, &rules, input, out, err)
