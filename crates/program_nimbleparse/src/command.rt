@@ -234,7 +234,7 @@ pub(crate) fn command_line<'a>(
     add_format(alloc, command, values)
 }
 
-// Adds the paths. A single path is found as that of the lexer, and GRAMMAR is then absent.
+// Adds the paths. A single one is found under the name of the lexer, though it is that of a grammar.
 fn add_paths<'a>(alloc: Global, command: Command<'a>) -> Result<Command<'a>, AllocError> {
     command
         .arg(
@@ -245,8 +245,7 @@ fn add_paths<'a>(alloc: Global, command: Command<'a>) -> Result<Command<'a>, All
         .arg(
             Arg::new(alloc, GRAMMAR)
                 .value_name("GRAMMAR")
-                .help("A grammar text, or a .y file of yacc or of grmtools")
-                .required_unless_present(LEXER)?,
+                .help("A grammar text, or a .y file of yacc or of grmtools"),
         )?
         .arg(
             Arg::new(alloc, INPUT)

@@ -119,9 +119,11 @@ fn build_table<O: Write, E: Write>(
     };
     let avoided = avoided_tokens(alloc, &grammar, declared)?;
     let has_precedences = matches!(declared, Some(declared) if !declared.levels.is_empty());
-    let is_clean = warn_of_useless(alloc, reporter, &grammar, declared, asked, out, err)?;
-    let data = build_data(alloc, reporter, grammar, declared, asked, out, err)?;
-    let has_warnings = !is_clean || !has_expected(declared, data.stable());
+    let useless = useless_reports(alloc, &grammar, declared, asked.is_looked_at)?;
+    let data = build_data(
+        alloc, reporter, grammar, declared, &useless, asked, out, err,
+    )?;
+    let has_warnings = !useless.is_empty() || !has_expected(declared, data.stable());
     Ok(GrammarTable {
         data,
         avoided,
@@ -129,25 +131,6 @@ fn build_table<O: Write, E: Write>(
         expects_conflicts: expects_conflicts(declared),
         has_warnings,
     })
-}
-
-// Warns of what is of no use, unless the program is to be quiet. Returns whether there is nothing to warn of.
-fn warn_of_useless<O: Write, E: Write>(
-    alloc: Global,
-    reporter: &Reporter<'_>,
-    grm: &YaccGrammar<u32>,
-    declared: Option<&Declarations<'_>>,
-    asked: Asked,
-    out: &mut O,
-    err: &mut E,
-) -> Result<bool, Fault> {
-    let reports = useless_reports(alloc, grm, declared, asked.is_looked_at)?;
-    if !asked.is_quiet && !reports.is_empty() {
-        let mut text = String::new(alloc);
-        push_reports(&mut text, alloc, reporter, &reports)?;
-        write_messages(out, err, text.as_str())?;
-    }
-    Ok(reports.is_empty())
 }
 
 // The tokens that repairs are to avoid.
@@ -167,12 +150,22 @@ fn avoided_tokens(
     Ok(tokens)
 }
 
+// A table that was built, the grammar and the precedences by which it was, and its item sets.
+#[derive(Clone, Copy)]
+struct Built<'a> {
+    grm: &'a YaccGrammar<u32>,
+    precedences: &'a Precedences,
+    sgraph: &'a StateGraph<u32>,
+    stable: &'a StateTable<u32>,
+}
+
 // The checked table of a grammar whose conflicts are resolved by the precedences that its file declares, if it declares any.
 fn build_data<O: Write, E: Write>(
     alloc: Global,
     reporter: &Reporter<'_>,
     grm: YaccGrammar<u32>,
     declared: Option<&Declarations<'_>>,
+    useless: &[Report],
     asked: Asked,
     out: &mut O,
     err: &mut E,
@@ -184,19 +177,13 @@ fn build_data<O: Write, E: Write>(
         .max_states(MAX_STATES);
     match options.state_table(alloc, &grm) {
         Ok((sgraph, stable)) => {
-            if !asked.is_quiet {
-                warn_of_conflicts(
-                    alloc,
-                    reporter,
-                    &grm,
-                    declared,
-                    &precedences,
-                    &stable,
-                    out,
-                    err,
-                )?;
-                write_states(alloc, asked, &grm, &sgraph, &stable, out, err)?;
-            }
+            let built = Built {
+                grm: &grm,
+                precedences: &precedences,
+                sgraph: &sgraph,
+                stable: &stable,
+            };
+            write_notes(alloc, reporter, built, declared, useless, asked, out, err)?;
             expect(alloc, reporter, declared, &stable)?;
             check_chains(alloc, reporter, grm, sgraph, stable)
         }
@@ -216,40 +203,61 @@ fn precedences_of(
     }
 }
 
-// Warns of conflicts, unless these are what the file expects.
-fn warn_of_conflicts<O: Write, E: Write>(
+// Writes warnings of what is of no use and of conflicts, and the states of the table if they are asked for; or nothing, if the program is to
+// be quiet.
+fn write_notes<O: Write, E: Write>(
     alloc: Global,
     reporter: &Reporter<'_>,
-    grm: &YaccGrammar<u32>,
+    built: Built<'_>,
     declared: Option<&Declarations<'_>>,
-    precedences: &Precedences,
-    stable: &StateTable<u32>,
+    useless: &[Report],
+    asked: Asked,
     out: &mut O,
     err: &mut E,
 ) -> Result<(), Fault> {
-    if has_expected(declared, stable) {
+    if asked.is_quiet {
         return Ok(());
     }
-    let mut text = String::new(alloc);
-    push_conflicts(&mut text, alloc, reporter, grm, precedences, stable)?;
-    write_messages(out, err, text.as_str())
+    let notes = notes_of(alloc, reporter, built, declared, useless)?;
+    write_messages(out, err, notes.as_str())?;
+    if asked.shows_states {
+        write_states(alloc, built, asked, out, err)?;
+    }
+    Ok(())
 }
 
-// Writes the states of the table if they are asked for: to standard output if the grammar is looked at, and to standard error otherwise.
+// Warnings of what is of no use, and of conflicts, unless these are what the file expects.
+fn notes_of(
+    alloc: Global,
+    reporter: &Reporter<'_>,
+    built: Built<'_>,
+    declared: Option<&Declarations<'_>>,
+    useless: &[Report],
+) -> Result<String, AllocError> {
+    let Built {
+        grm,
+        precedences,
+        stable,
+        ..
+    } = built;
+    let mut notes = String::new(alloc);
+    push_reports(&mut notes, alloc, reporter, useless)?;
+    if !has_expected(declared, stable) {
+        push_conflicts(&mut notes, alloc, reporter, grm, precedences, stable)?;
+    }
+    Ok(notes)
+}
+
+// Writes the states of the table: to standard output if the grammar is looked at, and to standard error otherwise.
 fn write_states<O: Write, E: Write>(
     alloc: Global,
+    built: Built<'_>,
     asked: Asked,
-    grm: &YaccGrammar<u32>,
-    sgraph: &StateGraph<u32>,
-    stable: &StateTable<u32>,
     out: &mut O,
     err: &mut E,
 ) -> Result<(), Fault> {
-    if !asked.shows_states {
-        return Ok(());
-    }
     let mut text = String::new(alloc);
-    push_states(&mut text, grm, sgraph, stable)?;
+    push_states(&mut text, built.grm, built.sgraph, built.stable)?;
     if asked.is_looked_at {
         out.write_all(text.as_bytes())?;
         Ok(())

@@ -13,6 +13,9 @@ use lrpar_table_options::Minimiser;
 use program_files::fault::{Fault, Misuse};
 use std::alloc::{AllocError, Global};
 
+/// What is wrong with words without a path.
+const NO_PATH: &str = "the following required arguments were not provided: <GRAMMAR>";
+
 /// What the words ask for.
 #[derive(Drop)]
 pub(crate) enum Request<'a> {
@@ -64,9 +67,11 @@ pub(crate) fn request_of<'a>(
     }
 }
 
-// What the words ask for in which this was found. What has a default is found.
+// What the words ask for in which this was found. What has a default is found. A single path is that of a grammar.
 fn request_by<'a>(alloc: Global, matches: &ArgMatches<'a>) -> Result<Request<'a>, Fault> {
-    let first = matches.get_str(LEXER).unwrap_or("");
+    let Some(first) = matches.get_str(LEXER) else {
+        return Err(Fault::Words(String::from_str(alloc, NO_PATH)?));
+    };
     match matches.get_str(GRAMMAR) {
         Some(grammar) => Ok(Request::Parse(options_of(alloc, matches, first, grammar)?)),
         None => Ok(Request::LookAt(grammar_options(alloc, matches, first)?)),
