@@ -40,7 +40,8 @@ pub struct Asked {
     pub is_verbose: bool,
     /// Whether its item sets are merged.
     pub minimiser: Minimiser,
-    /// Whether the grammar is looked at alone. Then tokens that are of no use are warned of, too, and states go to standard output.
+    /// Whether the grammar is looked at alone. Then tokens that are of no use are warned of, too, and its states are what was asked for, so
+    /// they go to standard output.
     pub is_looked_at: bool,
 }
 
