@@ -1,6 +1,6 @@
 //! Warnings of rules and tokens that are of no use.
 use lrpar_grammar::grammar::YaccGrammar;
-use lrpar_grammar::span::{PIdx, Symbol, TIdx};
+use lrpar_grammar::span::{PIdx, Span, Symbol, TIdx};
 use lrpar_grammar_yacc::declarations::Declarations;
 use lrpar_report::{Report, push_quoted, rule_warnings_but};
 use lrpar_table_sentences::reachable::Reachable;
@@ -23,7 +23,7 @@ pub(crate) fn useless_reports(
         if let Some(declared) = declared {
             push_prec_names(&mut names, declared)?;
         }
-        push_tokens(&mut reports, alloc, grm, &names)?;
+        push_unused_tokens(&mut reports, alloc, grm, &names)?;
     }
     Ok(reports)
 }
@@ -51,23 +51,23 @@ fn push_prec_names<'a>(
 }
 
 // Adds a warning for each declared token that no reachable rule uses, but for those with one of these names.
-fn push_tokens(
+fn push_unused_tokens(
     reports: &mut Vec<Report>,
     alloc: Global,
     grm: &YaccGrammar<u32>,
     names: &[&str],
 ) -> Result<(), AllocError> {
-    let marks = mark_tokens(alloc, grm)?;
+    let marks = token_marks(alloc, grm)?;
     for token in grm.iter_tidxs() {
         if let Some(false) = marks.get(usize::from(token)) {
-            push_token(reports, alloc, grm, token, names)?;
+            push_unused_token(reports, alloc, grm, token, names)?;
         }
     }
     Ok(())
 }
 
 // For each token but the end token, whether a reachable rule uses it, or nothing declares it.
-fn mark_tokens(alloc: Global, grm: &YaccGrammar<u32>) -> Result<Vec<bool>, AllocError> {
+fn token_marks(alloc: Global, grm: &YaccGrammar<u32>) -> Result<Vec<bool>, AllocError> {
     let reached = Reachable::new(alloc, grm)?;
     let mut marks = vec![in alloc; false; grm.tokens_len().saturating_sub(1)]?;
     for prod in grm.iter_pidxs() {
@@ -89,21 +89,27 @@ fn mark_tokens_of(
     let is_reachable = reached.is_reachable(grm.prod_to_rule(prod));
     for (symbol, place) in grm.prod(prod).iter().zip(grm.symbol_spans(prod)) {
         if let Symbol::Token(token) = symbol {
-            let number = usize::from(*token);
-            if number >= grm.tokens_len() {
-                continue;
-            }
-            if is_reachable || grm.token_span(*token) == Some(*place) {
-                if let Some(mark) = marks.get_mut(number) {
-                    *mark = true;
-                }
+            if is_reachable || is_first_at(grm, *token, *place) {
+                mark_token(marks, *token);
             }
         }
     }
 }
 
+// Whether the token is declared or used first at this place.
+fn is_first_at(grm: &YaccGrammar<u32>, token: TIdx<u32>, place: Span) -> bool {
+    usize::from(token) < grm.tokens_len() && grm.token_span(token) == Some(place)
+}
+
+// Marks the token, if it isn't the end token.
+fn mark_token(marks: &mut [bool], token: TIdx<u32>) {
+    if let Some(mark) = marks.get_mut(usize::from(token)) {
+        *mark = true;
+    }
+}
+
 // Adds the warning of a token that isn't used, unless it has one of these names.
-fn push_token(
+fn push_unused_token(
     reports: &mut Vec<Report>,
     alloc: Global,
     grm: &YaccGrammar<u32>,
