@@ -1,0 +1,4 @@
+pub mod Symbols
+pub mod Midrules
+pub mod Unquoted
+pub mod Faults

@@ -1,0 +1,10 @@
+//! The grammars of `.y` files as bison reads them.
+#![tactic(auto)]
+
+pub mod faults;
+pub mod grammar;
+pub mod midrules;
+pub mod outline;
+pub mod precedences;
+pub mod symbols;
+pub mod unquoted;
