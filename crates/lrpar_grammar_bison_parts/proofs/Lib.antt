@@ -1,0 +1,4 @@
+pub mod MidruleLemmas
+pub mod NameLemmas
+pub mod SymbolLemmas
+pub mod UnquotedLemmas

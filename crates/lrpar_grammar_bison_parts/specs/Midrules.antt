@@ -36,6 +36,10 @@ ends_action _ = false
 abbrev pub action_at : PlacedItem → Option PlacedItem
 action_at x = if is_action x.kind then Some x else None
 
+-- the word of the part, if it is an action
+abbrev pub action_word : Item → Option Word
+action_word x = if is_action x.kind then Some x.word else None
+
 -- the symbol, if the part is one
 abbrev pub symbol_at : PlacedItem → List PlacedItem
 symbol_at x = if is_symbol x.kind then x ∷ [] else []

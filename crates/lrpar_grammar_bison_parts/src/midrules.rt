@@ -1,9 +1,10 @@
 //! Actions among the symbols of an alternative: each is a rule without symbols, as in bison.
 ghost use Rattle.std.specs.Prelude.{◌≡◌, ◌++◌, ◌≤◌, IfOk, OnOk, length, map, string_bytes};
+ghost use Rattle.std.specs.Option.{option_to_list};
 ghost use Rattle.lrpar_grammar_bison.specs.Words.{placed};
 ghost use Rattle.lrpar_grammar_words.specs.Words.{placed as text_placed};
 ghost use Rattle.lrpar_grammar_bison_rules.specs.Rules.{alternative_of, item_of};
-ghost use Rattle.lrpar_grammar_bison_parts.specs.Midrules.{HasFilled, actions_in, actions_of, ends_action, is_action, is_symbol, midrule_name, midrule_names, midrules_from};
+ghost use Rattle.lrpar_grammar_bison_parts.specs.Midrules.{HasFilled, action_word, actions_in, actions_of, ends_action, is_action, is_symbol, midrule_name, midrule_names, midrules_from};
 
 use crate::symbols::symbol_word;
 use lrpar_grammar_bison::words::Word;
@@ -34,17 +35,32 @@ fn push_actions<'a>(actions: &mut Vec<Word<'a>>, items: &[Item<'a>]) -> Result<(
     let mut last = None;
     for item in items {
         if ends_action(item.kind) {
-            if let Some(action) = last {
-                actions.push(action)?;
-            }
-            last = if is_action(item.kind) {
-                Some(item.word)
-            } else {
-                None
-            };
+            push_some(actions, last)?;
+            last = action_word(item);
         }
     }
     Ok(())
+}
+
+// Appends the word, if there is one.
+fn push_some<'a>(words: &mut Vec<Word<'a>>, word: Option<Word<'a>>) -> Result<(), AllocError>
+    ensures { OnOk result (words.new.items ≡ words.old.items ++ option_to_list word.entry) }
+{
+    if let Some(word) = word {
+        words.push(word)?;
+    }
+    Ok(())
+}
+
+// The word of the part, if it is an action.
+fn action_word<'a>(item: &Item<'a>) -> Option<Word<'a>>
+    ensures { result ≡ action_word item.now }
+{
+    if is_action(item.kind) {
+        Some(item.word)
+    } else {
+        None
+    }
 }
 
 /// The number of actions of an alternative that a symbol or another action comes after.
