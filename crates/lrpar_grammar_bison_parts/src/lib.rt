@@ -2,9 +2,7 @@
 #![tactic(auto)]
 
 pub mod faults;
-pub mod grammar;
 pub mod midrules;
 pub mod outline;
-pub mod precedences;
 pub mod symbols;
 pub mod unquoted;
