@@ -111,6 +111,11 @@ AppendsSymbols found old new words =
 abbrev pub AreEpps : List Alias → List PlacedTextWord → Type 0
 AreEpps aliases names = names ≡ named_tokens (map alias_of aliases)
 
+-- if the map has some tokens in the place of texts, this is the text of the token: the first of several
+abbrev pub IsTextOf : BTreeMap (Bor (List ℕ)) Word → TextWord → TextWord → Type 0
+IsTextOf found token result =
+    (others : List PlacedAlias) → MapsAliases found others → text_placed result ≡ option_map_or text_word (token_with others token.name.now) (text_placed token)
+
 -- these are the texts of the tokens
 abbrev pub AreEppTexts : {A : Type 0} → List Alias → List TextWord → Vec TextWord A → Type 0
 AreEppTexts aliases tokens texts = map text_placed texts.items ≡ map (text_of (map alias_of aliases)) (map text_placed tokens)

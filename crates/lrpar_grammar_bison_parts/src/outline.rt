@@ -6,7 +6,7 @@ ghost use Rattle.lrpar_grammar_bison_rules.specs.Rules.{alternative_of as file_a
 ghost use Rattle.lrpar_grammar_words.specs.Outline.{alternative_of, outline_of};
 ghost use Rattle.lrpar_grammar_words.specs.Words.{placed};
 ghost use Rattle.lrpar_grammar_bison_parts.specs.Midrules.{actions_in, actions_of};
-ghost use Rattle.lrpar_grammar_bison_parts.specs.Outline.{AppendsMidrules, AppendsSymbols, AreDeclaredWords, AreEpps, AreEppTexts, AreTextAlternatives, AreTextWords, AreTurned, IsTextAlternative, declared_among, declared_in, declares, outline_by};
+ghost use Rattle.lrpar_grammar_bison_parts.specs.Outline.{AppendsMidrules, AppendsSymbols, AreDeclaredWords, AreEpps, AreEppTexts, AreTextAlternatives, AreTextWords, AreTurned, IsTextAlternative, IsTextOf, declared_among, declared_in, declares, outline_by};
 ghost use Rattle.lrpar_grammar_bison_parts.specs.Symbols.{HasAliases, text_word};
 
 use crate::midrules::{action_count, filled};
@@ -93,12 +93,19 @@ fn texts_of<'a>(
     let found = alias_map(alloc, &others)?;
     let mut texts = Vec::with_capacity(alloc, tokens.len())?;
     for token in tokens {
-        texts.push(match found.get(token.name) {
-            Some(text) => text_word(*text),
-            None => *token,
-        })?;
+        texts.push(text_of(*token, &found))?;
     }
     Ok(texts)
+}
+
+// The text of a token, by a map that gives the texts of tokens; the token itself if it has none.
+fn text_of<'a>(token: text::Word<'a>, texts: &BTreeMap<&'a str, Word<'a>>) -> text::Word<'a>
+    ensures { IsTextOf texts.now token.entry result }
+{
+    match texts.get(token.name) {
+        Some(text) => text_word(*text),
+        None => token,
+    }
 }
 
 // Texts and tokens, each in the place of the other.
