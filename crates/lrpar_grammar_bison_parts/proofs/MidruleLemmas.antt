@@ -151,7 +151,7 @@ counted_end is_open x xs met =
     one false = refl
 
 -- a symbol comes first
-filled_first : (aliases : List PlacedAlias) (midrules : List PlacedTextWord) (x : PlacedItem) (xs : List PlacedItem) → is_action x.kind ≡ false
+pub filled_first : (aliases : List PlacedAlias) (midrules : List PlacedTextWord) (x : PlacedItem) (xs : List PlacedItem) → is_action x.kind ≡ false
     → filled aliases midrules (x ∷ xs) ≡ symbol_word aliases x.word ∷ filled aliases midrules xs
 filled_first aliases [] x xs unmet = refl
 filled_first aliases (m ∷ ms) x xs unmet = ap (λ b. cond b (m ∷ filled aliases ms xs) (symbol_word aliases x.word ∷ filled aliases (m ∷ ms) xs)) unmet

@@ -6,4 +6,4 @@ use Rattle.lrpar_grammar_bison_parts.proofs.outline.texts_of.Given as goal
 
 -- the texts so far
 abbrev pub invariant-loop-token : goal.invariant-loop-token
-invariant-loop-token l = map text_placed l.texts.items ≡ map (text_of (map alias_of l.fn.aliases)) (map text_placed (take l.token-index l.tokens))
+invariant-loop-token l = map text_placed l.texts.items ≡ map (text_of (map alias_of l.fn.aliases)) (take l.token-index (map text_placed l.tokens))
