@@ -1,6 +1,6 @@
 -- The alternatives of an outline, one after another; each is of a defined rule, and has its symbols in the order of the text.
-use Rattle.std.proofs.Common.{◌≡◌, ◌<◌, ◌≤◌, ◌+◌, ◌-◌, ◌++◌, [], ◌∷◌, ℕ, zero, suc, List, Bool, true, false, cond, map, take, drop, get_or, length, length-append, append_assoc, Option, Some, None, refl, ap, sym, subst, ◌∙◌, arith}
-use Rattle.std.specs.List.{All, AllPairs, Contains, flat_map, slice_range}
+use Rattle.std.proofs.Common.{◌≡◌, ◌<◌, ◌≤◌, ◌+◌, ◌-◌, ◌++◌, [], ◌∷◌, ℕ, suc, List, Bool, true, false, map, take, drop, get_or, length, append_assoc, Option, Some, None, refl, ap, sym, subst, ◌∙◌, arith}
+use Rattle.std.specs.List.{All, AllPairs, Contains, slice_range}
 use Rattle.std.specs.Option.{option_to_list}
 use Rattle.std.proofs.lemmas.List.{drop-drop, drop-map, drop_at, drop_more, get_or-map, get_or_default, length-map, map-append, map_more, take-map, take_at}
 use Rattle.std.proofs.lemmas.List.Elements.{All-append, All-cons, All-drop, All-head, All-map, All-nil, All-tail, All-take, All-weaker, Contains-append_left, Contains-append_right}
@@ -243,7 +243,7 @@ midrules_append number (w ∷ ws) vs =
     ap (λ ms. record { kind = Name; name = midrule_name number; span = w.span } ∷ ms) (midrules_append (number + 1) ws vs ∙ ap (λ n. midrules_from (number + 1) ws ++ midrules_from n vs) next)
 
 -- as many rules
-midrules_length : (number : ℕ) (ws : List PlacedWord) → length (midrules_from number ws) ≡ length ws
+pub midrules_length : (number : ℕ) (ws : List PlacedWord) → length (midrules_from number ws) ≡ length ws
 midrules_length number [] = refl
 midrules_length number (w ∷ ws) = ap suc (midrules_length (number + 1) ws)
 

@@ -1,5 +1,5 @@
 -- The outline of a `.y` file: its declarations and rules as those of a grammar text.
-use Rattle.std.specs.Prelude.{◌≡◌, ◌++◌, ◌∷◌, [], Bool, true, false, ℕ, List, Option, bytes_eq, codes, drop, filter, length, map, take, Vec}
+use Rattle.std.specs.Prelude.{◌≡◌, ◌++◌, ◌∷◌, [], Bool, true, false, ℕ, List, bytes_eq, codes, drop, filter, length, map, take, Vec}
 use Rattle.std.specs.BTreeMap.{BTreeMap}
 use Rattle.std.specs.Borrow.{Bor}
 use Rattle.std.specs.List.{flat_map}
@@ -14,11 +14,9 @@ use Rattle.lrpar_grammar_bison.specs.Words.{PlacedWord, placed}
 use Rattle.lrpar_grammar_bison_rules.specs.declared.rules.Alias.{Alias}
 use Rattle.lrpar_grammar_bison_rules.specs.declared.rules.Alternative.{Alternative}
 use Rattle.lrpar_grammar_bison_rules.specs.declared.rules.FileRules.{FileRules}
-use Rattle.lrpar_grammar_bison_rules.specs.declared.rules.Item.{Item}
-use Rattle.lrpar_grammar_bison_rules.specs.declared.rules.RankedWord.{RankedWord}
 use Rattle.lrpar_grammar_bison_rules.specs.declared.word_order.ItemKind.{ItemKind}
-use Rattle.lrpar_grammar_bison_rules.specs.declared.word_order.ItemKind.TheVariants.{Symbol, Action, Prec, Empty}
-use Rattle.lrpar_grammar_bison_rules.specs.Rules.{PlacedAlias, PlacedAlternative, PlacedItem, PlacedRank, Rules, alias_of, alternative_of, item_of, rank_of, rules_in}
+use Rattle.lrpar_grammar_bison_rules.specs.declared.word_order.ItemKind.TheVariants.{Symbol, Prec}
+use Rattle.lrpar_grammar_bison_rules.specs.Rules.{PlacedAlias, PlacedAlternative, PlacedItem, PlacedRank, Rules, alias_of, alternative_of, rules_in}
 use Rattle.lrpar_grammar_bison_parts.specs.Midrules.{actions_in, actions_of, filled, midrules_from, symbols_in}
 use Rattle.lrpar_grammar_bison_parts.specs.Symbols.{MapsAliases, symbol_word, text_word, token_with}
 
