@@ -1,0 +1,5 @@
+pub mod MidruleLemmas
+pub mod NameLemmas
+pub mod OutlineLemmas
+pub mod SymbolLemmas
+pub mod UnquotedLemmas

@@ -1,0 +1,56 @@
+-- Words of a `.y` file as words of a grammar text.
+use Rattle.std.specs.Prelude.{◌≡◌, ℕ, List, Option, option_map, bytes_eq, map}
+use Rattle.std.specs.BTreeMap.{BTreeMap, get_by}
+use Rattle.std.specs.Borrow.{Bor}
+use Rattle.std.specs.Cmp.Lexicographic.{slice_cmp}
+use Rattle.std.specs.List.{find}
+use Rattle.std.specs.Option.{option_map_or}
+use Rattle.std.specs.Ordering.{nat_cmp}
+use Rattle.lrpar_grammar_words.specs.declared.words.Word.{Word as TextWord}
+use Rattle.lrpar_grammar_words.specs.declared.words.WordKind.{WordKind as TextKind}
+use Rattle.lrpar_grammar_words.specs.declared.words.WordKind.TheVariants.{Name, Quoted}
+use Rattle.lrpar_grammar_words.specs.Words.{PlacedWord as PlacedTextWord, placed as text_placed}
+use Rattle.lrpar_grammar_bison.specs.declared.words.Word.{Word}
+use Rattle.lrpar_grammar_bison.specs.declared.words.WordKind.{WordKind}
+use Rattle.lrpar_grammar_bison.specs.declared.words.WordKind.TheVariants.{Character, Text}
+use Rattle.lrpar_grammar_bison.specs.Words.{PlacedWord, placed}
+use Rattle.lrpar_grammar_bison_rules.specs.declared.rules.Alias.{Alias}
+use Rattle.lrpar_grammar_bison_rules.specs.Rules.{PlacedAlias, alias_of}
+
+-- the kind of a word in a grammar text: a literal is quoted
+abbrev pub text_kind : WordKind → TextKind
+text_kind Character = Quoted
+text_kind Text = Quoted
+text_kind _ = Name
+
+-- a word in a grammar text; a literal keeps its quotes
+abbrev pub text_word : PlacedWord → PlacedTextWord
+text_word w = record { kind = text_kind w.kind; name = w.name; span = w.span }
+
+-- the token that has this text, if one does: the first of such
+abbrev pub token_with : List PlacedAlias → List ℕ → Option PlacedWord
+token_with aliases text = option_map (λ (x : PlacedAlias). x.token) (find (λ (x : PlacedAlias). bytes_eq x.text.name text) aliases)
+
+-- the token that a word stands for, if it is the text of one; else the word
+abbrev pub target : List PlacedAlias → PlacedWord → PlacedWord
+target aliases w = option_map_or (λ (token : PlacedWord). token) (token_with aliases w.name) w
+
+-- a symbol of a rule in a grammar text: the token that it stands for, at its place
+abbrev pub symbol_word : List PlacedAlias → PlacedWord → PlacedTextWord
+symbol_word aliases w = record { kind = text_kind (target aliases w).kind; name = (target aliases w).name; span = w.span }
+
+-- the map gives for each text the token that has it
+abbrev pub MapsAliases : BTreeMap (Bor (List ℕ)) Word → List PlacedAlias → Type 0
+MapsAliases found aliases = (q : List ℕ) → option_map placed (get_by (λ k. slice_cmp nat_cmp q k.now) found) ≡ token_with aliases q
+
+-- the map has these texts
+abbrev pub HasAliases : List Alias → BTreeMap (Bor (List ℕ)) Word → Type 0
+HasAliases aliases found = MapsAliases found (map alias_of aliases)
+
+-- if the map has some texts, this is the word that another one stands for
+abbrev pub HasTarget : BTreeMap (Bor (List ℕ)) Word → Word → Word → Type 0
+HasTarget found word result = (aliases : List PlacedAlias) → MapsAliases found aliases → placed result ≡ target aliases (placed word)
+
+-- if the map has some texts, this is the word as a symbol
+abbrev pub IsSymbolWord : BTreeMap (Bor (List ℕ)) Word → Word → TextWord → Type 0
+IsSymbolWord found word result = (aliases : List PlacedAlias) → MapsAliases found aliases → text_placed result ≡ symbol_word aliases (placed word)

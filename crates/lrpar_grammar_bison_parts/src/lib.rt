@@ -1,0 +1,8 @@
+//! The grammars of `.y` files as bison reads them.
+#![tactic(auto)]
+
+pub mod faults;
+pub mod midrules;
+pub mod outline;
+pub mod symbols;
+pub mod unquoted;
