@@ -1,5 +1,5 @@
 pub mod Symbols
 pub mod Midrules
-pub mod Outline
+pub mod Precedences
 pub mod Unquoted
 pub mod Faults

@@ -3,6 +3,6 @@
 
 pub mod faults;
 pub mod midrules;
-pub mod outline;
+pub mod precedences;
 pub mod symbols;
 pub mod unquoted;
