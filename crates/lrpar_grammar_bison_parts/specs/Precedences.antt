@@ -1,9 +1,9 @@
 -- The precedences that a `.y` file declares, by the numbers of tokens and productions.
-use Rattle.std.specs.Prelude.{◌≡◌, ◌++◌, ◌∷◌, [], Bool, true, false, ℕ, zero, suc, List, Option, None, Some, bytes_eq, length, map, option_map, Vec, if◌then◌else◌}
+use Rattle.std.specs.Prelude.{◌≡◌, ◌++◌, ◌∷◌, [], Bool, true, false, ℕ, List, Option, None, Some, bytes_eq, length, map, option_map, replicate, Vec, if◌then◌else◌}
 use Rattle.std.specs.BTreeMap.{BTreeMap, get_by}
 use Rattle.std.specs.Borrow.{Bor}
 use Rattle.std.specs.Cmp.Lexicographic.{slice_cmp}
-use Rattle.std.specs.List.{find, list_any}
+use Rattle.std.specs.List.{find, flat_map, list_any}
 use Rattle.std.specs.Ordering.{nat_cmp}
 use Rattle.lrpar_grammar_places.specs.Span.{Extent}
 use Rattle.lrpar_grammar_places.specs.declared.span.Symbol.{Symbol}
@@ -44,10 +44,14 @@ named_ranks aliases ranked = map (λ (x : PlacedRank). record { word = symbol_wo
 abbrev pub rank_with : List NamedRank → List ℕ → Option Precedence
 rank_with ranks name = option_map (λ (x : NamedRank). x.precedence) (find (λ (x : NamedRank). bytes_eq x.word.name name) ranks)
 
--- the place of the first token whose name is among these, or that of one before it
-abbrev pub repeated_after : List (List ℕ) → List NamedRank → Option Extent
-repeated_after seen [] = None
-repeated_after seen (x ∷ xs) = if list_any (bytes_eq x.word.name) seen then Some x.word.span else repeated_after (x.word.name ∷ seen) xs
+-- whether one of the tokens has that name
+abbrev pub has_rank : List NamedRank → List ℕ → Bool
+has_rank ranks name = list_any (λ (x : NamedRank). bytes_eq x.word.name name) ranks
+
+-- the place of the first token that is among the earlier ones, or in the list before
+abbrev pub repeated_after : List NamedRank → List NamedRank → Option Extent
+repeated_after before [] = None
+repeated_after before (x ∷ xs) = if has_rank before x.word.name then Some x.word.span else repeated_after (before ++ x ∷ []) xs
 
 -- the place of the first token that has a second precedence
 abbrev pub repeated_rank : List NamedRank → Option Extent
@@ -62,19 +66,13 @@ is_prec _ = false
 abbrev pub prec_in : List PlacedItem → Option PlacedWord
 prec_in items = option_map (λ (x : PlacedItem). x.word) (find (λ (x : PlacedItem). is_prec x.kind) items)
 
--- nothing, so many times
-abbrev pub nothings : ℕ → List (Option PlacedTextWord)
-nothings zero = []
-nothings (suc count) = None ∷ nothings count
-
 -- the symbols of the `%prec`s of an alternative and of the rules that stand for its actions, which come before it and have none
 abbrev pub prec_words_in : List PlacedAlias → List PlacedItem → List (Option PlacedTextWord)
-prec_words_in aliases items = nothings (length (actions_in items)) ++ option_map (symbol_word aliases) (prec_in items) ∷ []
+prec_words_in aliases items = replicate (length (actions_in items)) None ++ option_map (symbol_word aliases) (prec_in items) ∷ []
 
 -- the same of all alternatives
 abbrev pub prec_words : List PlacedAlias → List PlacedAlternative → List (Option PlacedTextWord)
-prec_words aliases [] = []
-prec_words aliases (x ∷ xs) = prec_words_in aliases x.items ++ prec_words aliases xs
+prec_words aliases alternatives = flat_map (λ (x : PlacedAlternative). prec_words_in aliases x.items) alternatives
 
 -- the precedence of the last token among symbols, if that has one; `slots`: the precedences of tokens by their numbers
 abbrev pub slot_after : List (Option Precedence) → Option Precedence → List GrammarSymbol → Option Precedence
