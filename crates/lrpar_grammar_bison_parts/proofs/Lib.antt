@@ -1,4 +1,5 @@
 pub mod MidruleLemmas
 pub mod NameLemmas
+pub mod PrecedenceLemmas
 pub mod SymbolLemmas
 pub mod UnquotedLemmas
