@@ -8,7 +8,7 @@ use Rattle.std.specs.Option.{is_some}
 use Rattle.std.proofs.lemmas.List.{drop_more, length-map, map_more}
 use Rattle.std.proofs.lemmas.Slice.Eq.{bytes_eq-Decides}
 use Rattle.lrpar_grammar_places.specs.Span.{Extent}
-use Rattle.lrpar_grammar_reader.specs.Grammar.{Production}
+use Rattle.lrpar_grammar_reader.specs.Grammar.{GrammarSymbol, Production}
 use Rattle.lrpar_grammar_words.specs.Words.{PlacedWord as PlacedTextWord}
 use Rattle.lrpar_table_precedence.specs.declared.precedence.Precedence.{Precedence}
 use Rattle.lrpar_grammar_bison_parts.specs.declared.precedences.Rank.{Rank}
@@ -79,13 +79,15 @@ slots_more ranking [] (q ∷ qs) p = ap (λ s. prod_slot ranking q.symbols None 
 slots_more ranking (w ∷ ws) (q ∷ qs) p = ap (λ s. prod_slot ranking q.symbols w ∷ s) (slots_more ranking ws qs p)
 
 -- the precedence of one more production that is stored
-pub slot_more : {X : Type 0} (f : X → Production) (ranking : Ranking) (words : List (Option PlacedTextWord)) (prods : List X) (i : ℕ) (x : X) (old new : List (Option Precedence)) (slot : Option Precedence)
-    → i < length prods → x ≡ get_or prods i x → new ≡ old ++ slot ∷ [] → slot ≡ prod_slot ranking (f x).symbols (get_or words i None)
+pub slot_more : {X : Type 0} (f : X → Production) (ranking : Ranking) (words : List (Option PlacedTextWord)) (prods : List X) (i : ℕ) (x : X) (symbols : List GrammarSymbol) (word : Option PlacedTextWord)
+    (old new : List (Option Precedence)) (slot : Option Precedence)
+    → i < length prods → x ≡ get_or prods i x → symbols ≡ (f x).symbols → word ≡ get_or words i None → slot ≡ prod_slot ranking symbols word → new ≡ old ++ slot ∷ []
     → old ≡ prod_slots ranking words (map f (take i prods)) → new ≡ prod_slots ranking words (map f (take (i + 1) prods))
-slot_more f ranking words prods i x old new slot within is pushed made so_far =
+slot_more f ranking words prods i x symbols word old new slot within is its own made pushed so_far =
     let before = map f (take i prods) in
     let within' : i ≤ length prods = omega (arith, within) in
     let len : length before ≡ i = length-map (take i prods) f ∙ length-take-le i prods within' in
     let all : map f (take (i + 1) prods) ≡ before ++ f x ∷ [] = map_more f prods i x within ∙ ap (λ y. before ++ f y ∷ []) (sym is) in
-    pushed ∙ ap (λ s. s ++ slot ∷ []) so_far ∙ ap (λ z. prod_slots ranking words before ++ z ∷ []) (made ∙ ap (λ n. prod_slot ranking (f x).symbols (get_or words n None)) (sym len))
-    ∙ sym (ap (prod_slots ranking words) all ∙ slots_more ranking words before (f x))
+    let here : slot ≡ prod_slot ranking (f x).symbols (get_or words (length before) None) =
+    made ∙ ap (λ s. prod_slot ranking s word) its ∙ ap (prod_slot ranking (f x).symbols) (own ∙ ap (λ n. get_or words n None) (sym len)) in
+    pushed ∙ ap (λ s. s ++ slot ∷ []) so_far ∙ ap (λ z. prod_slots ranking words before ++ z ∷ []) here ∙ sym (ap (prod_slots ranking words) all ∙ slots_more ranking words before (f x))

@@ -23,7 +23,7 @@ use Rattle.lrpar_grammar_bison_rules.specs.declared.rules.Item.{Item}
 use Rattle.lrpar_grammar_bison_rules.specs.declared.rules.RankedWord.{RankedWord}
 use Rattle.lrpar_grammar_bison_rules.specs.declared.word_order.ItemKind.{ItemKind}
 use Rattle.lrpar_grammar_bison_rules.specs.declared.word_order.ItemKind.TheVariants.{Prec}
-use Rattle.lrpar_grammar_bison_rules.specs.Rules.{PlacedAlias, PlacedAlternative, PlacedItem, PlacedRank, Rules, alternative_of, item_of, rank_of}
+use Rattle.lrpar_grammar_bison_rules.specs.Rules.{PlacedAlias, PlacedAlternative, PlacedItem, PlacedRank, alternative_of, item_of, rank_of}
 use Rattle.lrpar_grammar_bison_parts.specs.declared.faults.BisonFault.{BisonFault}
 use Rattle.lrpar_grammar_bison_parts.specs.declared.faults.BisonFault.TheVariants.{Memory, RepeatedPrecedence}
 use Rattle.lrpar_grammar_bison_parts.specs.declared.precedences.Rank.{Rank}

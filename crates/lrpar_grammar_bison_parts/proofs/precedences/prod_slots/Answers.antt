@@ -3,7 +3,7 @@ use Rattle.std.proofs.Math.ListN.{get_or-map}
 use Rattle.std.proofs.lemmas.List.{get_or_past, take_all}
 use Rattle.lrpar_grammar_reader.specs.Parts.{prod_of}
 use Rattle.lrpar_grammar_words.specs.Words.{placed as text_placed}
-use Rattle.lrpar_grammar_bison_parts.specs.Precedences.{prod_slot, prod_slots, ranking_by, symbols_in}
+use Rattle.lrpar_grammar_bison_parts.specs.Precedences.{prod_slots, ranking_by, symbols_in}
 use Rattle.lrpar_grammar_bison_parts.proofs.PrecedenceLemmas.{slot_more}
 use Rattle.lrpar_grammar_bison_parts.proofs.precedences.prod_slots.Goals as goal
 use Rattle.lrpar_grammar_bison_parts.proofs.precedences.prod_slots.Goals.{then-i-words, else-i-words}
@@ -22,12 +22,9 @@ loop-i-preserved g c =
     let word : option_map text_placed c.if-i-words.word ≡ get_or (map (option_map text_placed) words) i None =
     ap (option_map text_placed) here ∙ sym (get_or-map (option_map text_placed) words i None) in
     λ ranks maps.
-    let ranking = ranking_by c.args.ranks ranks in
-    slot_more (prod_of index) ranking (map (option_map text_placed) words) prods i c.index-prods-i.result c.loop-i.slots.items c.push.new.self.items c.prod_slot.result c.loop-i-test.true c.index-prods-i.is
-    c.in_ok-push.ensures.items
-    (c.prod_slot.ensures ranks maps ∙ ap (λ s. prod_slot ranking (symbols_in index s) (option_map text_placed c.if-i-words.word)) c.deref.ensures.value
-    ∙ ap (prod_slot ranking (prod_of index c.index-prods-i.result).symbols) word)
-    (c.loop-i.invariant ranks maps)
+    slot_more (prod_of index) (ranking_by c.args.ranks ranks) (map (option_map text_placed) words) prods i c.index-prods-i.result (symbols_in index c.deref.result.now) (option_map text_placed c.if-i-words.word)
+    c.loop-i.slots.items c.push.new.self.items c.prod_slot.result c.loop-i-test.true c.index-prods-i.is (ap (symbols_in index) c.deref.ensures.value) word (c.prod_slot.ensures ranks maps)
+    c.in_ok-push.ensures.items (c.loop-i.invariant ranks maps)
 
 pub returns : goal.returns
 returns g c = λ ranks maps.
