@@ -12,18 +12,20 @@ use Rattle.lrpar_grammar_bison.specs.Words.{PlacedWord, placed}
 use Rattle.lrpar_grammar_bison_rules.specs.Rules.{PlacedAlias}
 use Rattle.lrpar_grammar_bison_parts.specs.Symbols.{MapsAliases, token_with}
 
--- the token that has a text, if one more does
-token_more : (before : List PlacedAlias) (x : PlacedAlias) (text : List ℕ)
-    → token_with (before ++ x ∷ []) text ≡ option_or (token_with before text) (cond (bytes_eq x.text.name text) (Some x.token) None)
-token_more before x text =
-    ap (option_map (λ (y : PlacedAlias). y.token)) (find-append (λ (y : PlacedAlias). bytes_eq y.text.name text) before (x ∷ []))
-    ∙ either (find (λ (y : PlacedAlias). bytes_eq y.text.name text) before) (bytes_eq x.text.name text)
+-- what the first element with a property gives, with one more element
+pub first_more : {X Y : Type 0} (f : X → Y) (p : X → Bool) (before : List X) (x : X)
+    → option_map f (find p (before ++ x ∷ [])) ≡ option_or (option_map f (find p before)) (cond (p x) (Some (f x)) None)
+first_more {X} f p before x = ap (option_map f) (find-append p before (x ∷ [])) ∙ either (find p before) (p x)
   where
-    either : (found : Option PlacedAlias) (b : Bool)
-        → option_map (λ (y : PlacedAlias). y.token) (option_or found (cond b (Some x) None)) ≡ option_or (option_map (λ (y : PlacedAlias). y.token) found) (cond b (Some x.token) None)
+    either : (found : Option X) (b : Bool) → option_map f (option_or found (cond b (Some x) None)) ≡ option_or (option_map f found) (cond b (Some (f x)) None)
     either None true = refl
     either None false = refl
     either (Some y) b = refl
+
+-- the token that has a text, if one more does
+token_more : (before : List PlacedAlias) (x : PlacedAlias) (text : List ℕ)
+    → token_with (before ++ x ∷ []) text ≡ option_or (token_with before text) (cond (bytes_eq x.text.name text) (Some x.token) None)
+token_more before x text = first_more (λ (y : PlacedAlias). y.token) (λ (y : PlacedAlias). bytes_eq y.text.name text) before x
 
 -- a text that is there already stands for the token that it stood for
 had : (old : Option PlacedWord) (b : Bool) (new : PlacedWord) → (b ≡ true → is_some old ≡ true) → old ≡ option_or old (cond b (Some new) None)
@@ -46,8 +48,8 @@ alias_had m before x maps has q =
     (λ same. subst (λ s. is_some (token_with before s) ≡ true) ((bytes_eq-Decides x.text.name q).0 same) present)
     ∙ sym (token_more before x q)
 
--- a new text stands for the new token
-put : (old : Option PlacedWord) (b : Bool) (new : PlacedWord) → (b ≡ true → is_some old ≡ false) → cond b (Some new) old ≡ option_or old (cond b (Some new) None)
+-- a new text stands for the new value
+pub put : {X : Type 0} (old : Option X) (b : Bool) (new : X) → (b ≡ true → is_some old ≡ false) → cond b (Some new) old ≡ option_or old (cond b (Some new) None)
 put (Some w) true new has = absurd (let no = has refl in cc)
 put (Some w) false new has = refl
 put None true new has = refl

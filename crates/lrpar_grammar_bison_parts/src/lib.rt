@@ -2,7 +2,9 @@
 #![tactic(auto)]
 
 pub mod faults;
+pub mod grammar;
 pub mod midrules;
 pub mod outline;
+pub mod precedences;
 pub mod symbols;
 pub mod unquoted;
