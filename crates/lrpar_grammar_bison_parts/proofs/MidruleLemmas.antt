@@ -13,24 +13,24 @@ use Rattle.lrpar_grammar_bison.specs.Words.{PlacedWord, placed}
 use Rattle.lrpar_grammar_bison_rules.specs.declared.rules.Item.{Item}
 use Rattle.lrpar_grammar_bison_rules.specs.declared.word_order.ItemKind.{ItemKind}
 use Rattle.lrpar_grammar_bison_rules.specs.declared.word_order.ItemKind.TheVariants.{Symbol, Action, Prec, Empty}
-use Rattle.lrpar_grammar_bison_rules.specs.Rules.{PlacedAlias, PlacedItem, item_of}
+use Rattle.lrpar_grammar_bison_rules.specs.Rules.{FileAlias, FileItem, item_of}
 use Rattle.lrpar_grammar_bison_parts.specs.Midrules.{action_at, action_word, ends_action, filled, is_action, is_symbol, symbol_at, symbols_after}
 use Rattle.lrpar_grammar_bison_parts.specs.Symbols.{symbol_word}
 
 -- the words of the actions among some parts
-abbrev pub action_words : List PlacedItem → List PlacedWord
-action_words xs = map (λ (x : PlacedItem). x.word) (filter (λ (x : PlacedItem). is_action x.kind) xs)
+abbrev pub action_words : List FileItem → List PlacedWord
+action_words xs = map (λ (x : FileItem). x.word) (filter (λ (x : FileItem). is_action x.kind) xs)
 
 -- the actions of some parts, but for the last one
-abbrev pub actions_after : Option PlacedItem → List PlacedItem → List PlacedWord
+abbrev pub actions_after : Option FileItem → List FileItem → List PlacedWord
 actions_after last xs = action_words (symbols_after last xs)
 
 -- an action of that word
-abbrev pub action_of : PlacedWord → PlacedItem
+abbrev pub action_of : PlacedWord → FileItem
 action_of w = record { kind = Action; word = w }
 
 -- the last action, by its word
-abbrev pub last_action : Option Word → Option PlacedItem
+abbrev pub last_action : Option Word → Option FileItem
 last_action last = option_map (λ (w : Word). action_of (placed w)) last
 
 -- any word
@@ -46,7 +46,7 @@ abbrev pub no_item : Item
 no_item = record { kind = Symbol; word = no_word }
 
 -- some action, if there is one
-abbrev pub any_action : Bool → Option PlacedItem
+abbrev pub any_action : Bool → Option FileItem
 any_action is_open = cond is_open (Some (action_of (placed no_word))) None
 
 -- one, if there is an action
@@ -58,19 +58,19 @@ pub next_item : (items : List Item) (i : ℕ) → i < length items → map item_
 next_item items i within = ap (map item_of) (drop_more items i no_item within)
 
 -- a part that no action is before
-pub symbols_skip : (last : Option PlacedItem) (x : PlacedItem) (xs : List PlacedItem) → ends_action x.kind ≡ false → symbols_after last (x ∷ xs) ≡ symbols_after last xs
+pub symbols_skip : (last : Option FileItem) (x : FileItem) (xs : List FileItem) → ends_action x.kind ≡ false → symbols_after last (x ∷ xs) ≡ symbols_after last xs
 symbols_skip last x xs unmet = ap (λ b. cond b (option_to_list last ++ (symbol_at x ++ symbols_after (action_at x) xs)) (symbols_after last xs)) unmet
 
 -- a part that an action may be before
-pub symbols_end : (last : Option PlacedItem) (x : PlacedItem) (xs : List PlacedItem) → ends_action x.kind ≡ true
+pub symbols_end : (last : Option FileItem) (x : FileItem) (xs : List FileItem) → ends_action x.kind ≡ true
     → symbols_after last (x ∷ xs) ≡ option_to_list last ++ (symbol_at x ++ symbols_after (action_at x) xs)
 symbols_end last x xs met = ap (λ b. cond b (option_to_list last ++ (symbol_at x ++ symbols_after (action_at x) xs)) (symbols_after last xs)) met
 
 -- the actions of two lists
-words_append : (xs ys : List PlacedItem) → action_words (xs ++ ys) ≡ action_words xs ++ action_words ys
+words_append : (xs ys : List FileItem) → action_words (xs ++ ys) ≡ action_words xs ++ action_words ys
 words_append xs ys =
-    ap (map (λ (x : PlacedItem). x.word)) (filter-append (λ (x : PlacedItem). is_action x.kind) xs ys)
-    ∙ map-append (λ (x : PlacedItem). x.word) (filter (λ (x : PlacedItem). is_action x.kind) xs) (filter (λ (x : PlacedItem). is_action x.kind) ys)
+    ap (map (λ (x : FileItem). x.word)) (filter-append (λ (x : FileItem). is_action x.kind) xs ys)
+    ∙ map-append (λ (x : FileItem). x.word) (filter (λ (x : FileItem). is_action x.kind) xs) (filter (λ (x : FileItem). is_action x.kind) ys)
 
 -- no part is both a symbol and an action: the symbol that a part is, if it is one, has no action
 no_words : (kind : ItemKind) (w : PlacedWord) → action_words (symbol_at (record { kind = kind; word = w })) ≡ []
@@ -80,7 +80,7 @@ no_words Prec w = refl
 no_words Empty w = refl
 
 -- the actions from a part on that an action may be before
-pub actions_end : (last : Option PlacedItem) (x : PlacedItem) (xs : List PlacedItem) → ends_action x.kind ≡ true
+pub actions_end : (last : Option FileItem) (x : FileItem) (xs : List FileItem) → ends_action x.kind ≡ true
     → actions_after last (x ∷ xs) ≡ action_words (option_to_list last) ++ actions_after (action_at x) xs
 actions_end last x xs met =
     ap action_words (symbols_end last x xs met) ∙ words_append (option_to_list last) (symbol_at x ++ symbols_after (action_at x) xs)
@@ -100,7 +100,7 @@ last_word None = refl
 last_word (Some w) = refl
 
 -- the action before a part is appended
-pub pushed_last : (old new : List Word) (last next : Option Word) (x : Item) (xs : List PlacedItem) (all : List PlacedWord) → ends_action x.kind ≡ true
+pub pushed_last : (old new : List Word) (last next : Option Word) (x : Item) (xs : List FileItem) (all : List PlacedWord) → ends_action x.kind ≡ true
     → new ≡ old ++ option_to_list last → next ≡ action_word x → map placed old ++ actions_after (last_action last) (item_of x ∷ xs) ≡ all
     → map placed new ++ actions_after (last_action next) xs ≡ all
 pushed_last old new last next x xs all met pushed is so_far =
@@ -112,8 +112,8 @@ pushed_last old new last next x xs all met pushed is so_far =
     ∙ append_assoc (map placed old) (map placed (option_to_list last)) rest ∙ ap (λ ws. map placed old ++ ws) (sym here) ∙ so_far
 
 -- what reads the word of no action that may be the last, reads all such actions alike
-any_pending : {Z : Type 0} (F : List PlacedItem → Z) (P : List PlacedItem → Type 0) (x y : PlacedItem) → ((zs : List PlacedItem) → P (x ∷ zs) → F (x ∷ zs) ≡ F (y ∷ zs))
-    → (xs : List PlacedItem) → P (symbols_after (Some x) xs) → F (symbols_after (Some x) xs) ≡ F (symbols_after (Some y) xs)
+any_pending : {Z : Type 0} (F : List FileItem → Z) (P : List FileItem → Type 0) (x y : FileItem) → ((zs : List FileItem) → P (x ∷ zs) → F (x ∷ zs) ≡ F (y ∷ zs))
+    → (xs : List FileItem) → P (symbols_after (Some x) xs) → F (symbols_after (Some x) xs) ≡ F (symbols_after (Some y) xs)
 any_pending F P x y same [] holds = refl
 any_pending F P x y same (z ∷ zs) holds = step (λ held. any_pending F P x y same zs held) (ends_action z.kind) refl
   where
@@ -126,9 +126,9 @@ any_pending F P x y same (z ∷ zs) holds = step (λ held. any_pending F P x y s
         ap F (symbols_skip (Some x) z zs unmet) ∙ rest (subst P (symbols_skip (Some x) z zs unmet) holds) ∙ sym (ap F (symbols_skip (Some y) z zs unmet))
 
 -- the same of the action that a part is
-any_at : {Z : Type 0} (F : List PlacedItem → Z) (P : List PlacedItem → Type 0)
-    → ((v w : PlacedWord) (zs : List PlacedItem) → P (action_of v ∷ zs) → F (action_of v ∷ zs) ≡ F (action_of w ∷ zs))
-    → (kind : ItemKind) (w : PlacedWord) (xs : List PlacedItem) → P (symbols_after (action_at (record { kind = kind; word = w })) xs)
+any_at : {Z : Type 0} (F : List FileItem → Z) (P : List FileItem → Type 0)
+    → ((v w : PlacedWord) (zs : List FileItem) → P (action_of v ∷ zs) → F (action_of v ∷ zs) ≡ F (action_of w ∷ zs))
+    → (kind : ItemKind) (w : PlacedWord) (xs : List FileItem) → P (symbols_after (action_at (record { kind = kind; word = w })) xs)
     → F (symbols_after (action_at (record { kind = kind; word = w })) xs) ≡ F (symbols_after (any_action (is_action kind)) xs)
 any_at F P same Symbol w xs holds = refl
 any_at F P same Action w xs holds = any_pending F P (action_of w) (action_of (placed no_word)) (same w (placed no_word)) xs holds
@@ -136,11 +136,11 @@ any_at F P same Prec w xs holds = refl
 any_at F P same Empty w xs holds = refl
 
 -- the number of actions, whatever the word of the one that may be the last
-any_counted : (x : PlacedItem) (xs : List PlacedItem) → length (actions_after (action_at x) xs) ≡ length (actions_after (any_action (is_action x.kind)) xs)
+any_counted : (x : FileItem) (xs : List FileItem) → length (actions_after (action_at x) xs) ≡ length (actions_after (any_action (is_action x.kind)) xs)
 any_counted x xs = any_at (λ zs. length (action_words zs)) (λ _. Unit {0}) (λ v w zs _. refl) x.kind x.word xs tt
 
 -- the number of actions from a part on that an action may be before
-pub counted_end : (is_open : Bool) (x : PlacedItem) (xs : List PlacedItem) → ends_action x.kind ≡ true
+pub counted_end : (is_open : Bool) (x : FileItem) (xs : List FileItem) → ends_action x.kind ≡ true
     → length (actions_after (any_action is_open) (x ∷ xs)) ≡ one_if is_open + length (actions_after (any_action (is_action x.kind)) xs)
 counted_end is_open x xs met =
     ap length (actions_end (any_action is_open) x xs met) ∙ length-append (action_words (option_to_list (any_action is_open))) (actions_after (action_at x) xs)
@@ -151,19 +151,19 @@ counted_end is_open x xs met =
     one false = refl
 
 -- a symbol comes first
-pub filled_first : (aliases : List PlacedAlias) (midrules : List PlacedTextWord) (x : PlacedItem) (xs : List PlacedItem) → is_action x.kind ≡ false
+pub filled_first : (aliases : List FileAlias) (midrules : List PlacedTextWord) (x : FileItem) (xs : List FileItem) → is_action x.kind ≡ false
     → filled aliases midrules (x ∷ xs) ≡ symbol_word aliases x.word ∷ filled aliases midrules xs
 filled_first aliases [] x xs unmet = refl
 filled_first aliases (m ∷ ms) x xs unmet = ap (λ b. cond b (m ∷ filled aliases ms xs) (symbol_word aliases x.word ∷ filled aliases (m ∷ ms) xs)) unmet
 
 -- what comes in place of actions, whatever the word of the one that may be the last
-any_filled : (aliases : List PlacedAlias) (midrules : List PlacedTextWord) (v w : PlacedWord) (zs : List PlacedItem) → length (action_words (action_of v ∷ zs)) ≤ length midrules
+any_filled : (aliases : List FileAlias) (midrules : List PlacedTextWord) (v w : PlacedWord) (zs : List FileItem) → length (action_words (action_of v ∷ zs)) ≤ length midrules
     → filled aliases midrules (action_of v ∷ zs) ≡ filled aliases midrules (action_of w ∷ zs)
 any_filled aliases [] v w zs enough = absurd (omega arith)
 any_filled aliases (m ∷ ms) v w zs enough = refl
 
 -- a part that an action may be before: the symbol, if it is one, and what comes after it
-pub filled_at : (aliases : List PlacedAlias) (midrules : List PlacedTextWord) (kind : ItemKind) (w : PlacedWord) (xs : List PlacedItem)
+pub filled_at : (aliases : List FileAlias) (midrules : List PlacedTextWord) (kind : ItemKind) (w : PlacedWord) (xs : List FileItem)
     → length (actions_after (any_action (is_action kind)) xs) ≤ length midrules
     → filled aliases midrules (symbol_at (record { kind = kind; word = w }) ++ symbols_after (action_at (record { kind = kind; word = w })) xs)
     ≡ filled aliases midrules (symbol_at (record { kind = kind; word = w }) ++ symbols_after (any_action (is_action kind)) xs)
@@ -189,10 +189,10 @@ not_both Prec met = absurd (cc)
 not_both Empty met = absurd (cc)
 
 -- the rules from one on, in place of actions
-abbrev pub filled_from : List PlacedAlias → List TextWord → ℕ → List PlacedItem → List PlacedTextWord
+abbrev pub filled_from : List FileAlias → List TextWord → ℕ → List FileItem → List PlacedTextWord
 filled_from aliases midrules used zs = filled aliases (map text_placed (drop used midrules)) zs
 
-module _ (aliases : List PlacedAlias) (midrules : List TextWord) (x : PlacedItem) (xs : List PlacedItem) (all : List PlacedTextWord) where
+module _ (aliases : List FileAlias) (midrules : List TextWord) (x : FileItem) (xs : List FileItem) (all : List PlacedTextWord) where
   -- what comes from a part on, whatever the word of an action that may be the last
   filled_next : (next : Bool) (now : ℕ) → next ≡ is_action x.kind → now + length (actions_after (any_action next) xs) ≤ length midrules
       → filled_from aliases midrules now (symbol_at x ++ symbols_after (action_at x) xs) ≡ filled_from aliases midrules now (symbol_at x ++ symbols_after (any_action next) xs)
@@ -244,7 +244,7 @@ module _ (aliases : List PlacedAlias) (midrules : List TextWord) (x : PlacedItem
       ∙ ap (λ ys. map text_placed old ++ filled_from aliases midrules used ys) next_symbols ∙ so_far
 
   -- the symbol that a part is
-  pub filled_symbol : (old new : List TextWord) (w : TextWord) (used : ℕ) (last : Option PlacedItem) → is_symbol x.kind ≡ true → new ≡ old ++ w ∷ []
+  pub filled_symbol : (old new : List TextWord) (w : TextWord) (used : ℕ) (last : Option FileItem) → is_symbol x.kind ≡ true → new ≡ old ++ w ∷ []
       → text_placed w ≡ symbol_word aliases x.word
       → map text_placed old ++ filled_from aliases midrules used (symbol_at x ++ symbols_after last xs) ≡ all → map text_placed new ++ filled_from aliases midrules used (symbols_after last xs) ≡ all
   filled_symbol old new w used last met pushed is so_far =
@@ -256,7 +256,7 @@ module _ (aliases : List PlacedAlias) (midrules : List TextWord) (x : PlacedItem
       ∙ append_assoc (map text_placed old) (text_placed w ∷ []) rest ∙ ap (λ ws. map text_placed old ++ ws) (sym here) ∙ so_far
 
   -- a part that is none
-  pub filled_other : (old new : List TextWord) (used : ℕ) (last : Option PlacedItem) → is_symbol x.kind ≡ false → new ≡ old
+  pub filled_other : (old new : List TextWord) (used : ℕ) (last : Option FileItem) → is_symbol x.kind ≡ false → new ≡ old
       → map text_placed old ++ filled_from aliases midrules used (symbol_at x ++ symbols_after last xs) ≡ all → map text_placed new ++ filled_from aliases midrules used (symbols_after last xs) ≡ all
   filled_other old new used last unmet same so_far =
       ap (λ ws. map text_placed ws ++ filled_from aliases midrules used (symbols_after last xs)) same

@@ -9,7 +9,7 @@ use Rattle.std.proofs.lemmas.List.Folds.{find-append}
 use Rattle.std.proofs.lemmas.Slice.Eq.{bytes_eq-Decides}
 use Rattle.lrpar_grammar_bison.specs.declared.words.Word.{Word}
 use Rattle.lrpar_grammar_bison.specs.Words.{PlacedWord, placed}
-use Rattle.lrpar_grammar_bison_rules.specs.Rules.{PlacedAlias}
+use Rattle.lrpar_grammar_bison_rules.specs.Rules.{FileAlias}
 use Rattle.lrpar_grammar_bison_parts.specs.Symbols.{MapsAliases, token_with}
 
 -- what the first element with a property gives, with one more element
@@ -23,9 +23,9 @@ first_more {X} f p before x = ap (option_map f) (find-append p before (x ∷ [])
     either (Some y) b = refl
 
 -- the token that has a text, if one more does
-token_more : (before : List PlacedAlias) (x : PlacedAlias) (text : List ℕ)
+token_more : (before : List FileAlias) (x : FileAlias) (text : List ℕ)
     → token_with (before ++ x ∷ []) text ≡ option_or (token_with before text) (cond (bytes_eq x.text.name text) (Some x.token) None)
-token_more before x text = first_more (λ (y : PlacedAlias). y.token) (λ (y : PlacedAlias). bytes_eq y.text.name text) before x
+token_more before x text = first_more (λ (y : FileAlias). y.token) (λ (y : FileAlias). bytes_eq y.text.name text) before x
 
 -- a text that is there already stands for the token that it stood for
 had : (old : Option PlacedWord) (b : Bool) (new : PlacedWord) → (b ≡ true → is_some old ≡ true) → old ≡ option_or old (cond b (Some new) None)
@@ -39,7 +39,7 @@ found_some None = refl
 found_some (Some w) = refl
 
 -- the texts that a map has, with one that it has already
-pub alias_had : (m : BTreeMap (Bor (List ℕ)) Word) (before : List PlacedAlias) (x : PlacedAlias)
+pub alias_had : (m : BTreeMap (Bor (List ℕ)) Word) (before : List FileAlias) (x : FileAlias)
     → MapsAliases m before → is_some (get_by (λ k. slice_cmp nat_cmp x.text.name k.now) m) ≡ true → MapsAliases m (before ++ x ∷ [])
 alias_had m before x maps has q =
     let present : is_some (token_with before x.text.name) ≡ true = ap is_some (sym (maps x.text.name)) ∙ found_some (get_by (λ k. slice_cmp nat_cmp x.text.name k.now) m) ∙ has in
@@ -61,7 +61,7 @@ at_text true token old = refl
 at_text false token old = refl
 
 -- the texts that a map has, with a new one
-pub alias_more : (m n : BTreeMap (Bor (List ℕ)) Word) (before : List PlacedAlias) (x : PlacedAlias) (token : Word) → placed token ≡ x.token
+pub alias_more : (m n : BTreeMap (Bor (List ℕ)) Word) (before : List FileAlias) (x : FileAlias) (token : Word) → placed token ≡ x.token
     → MapsAliases m before → is_some (get_by (λ k. slice_cmp nat_cmp x.text.name k.now) m) ≡ false
     → ((q : List ℕ) → get_by (λ k. slice_cmp nat_cmp q k.now) n ≡ update bytes_eq (λ ds. get_by (λ k. slice_cmp nat_cmp ds k.now) m) x.text.name (Some token) q)
     → MapsAliases n (before ++ x ∷ [])

@@ -11,7 +11,7 @@ use Rattle.lrpar_table_precedence.specs.Precedence.{PrecedenceLists}
 use Rattle.lrpar_grammar_bison_rules.specs.declared.rules.RulesFault.TheVariants.{Memory as RulesMemory}
 use Rattle.lrpar_grammar_bison_rules.specs.declared.word_order.ItemKind.{ItemKind}
 use Rattle.lrpar_grammar_bison_rules.specs.declared.word_order.ItemKind.TheVariants.{Empty}
-use Rattle.lrpar_grammar_bison_rules.specs.Rules.{AreRulesOfText, IsRulesFault, PlacedAlternative, PlacedItem, Rules}
+use Rattle.lrpar_grammar_bison_rules.specs.Rules.{AreRulesOfText, IsRulesFault, FileAlternative, FileItem, Rules}
 use Rattle.lrpar_grammar_bison_parts.specs.declared.faults.BisonFault.{BisonFault}
 use Rattle.lrpar_grammar_bison_parts.specs.declared.faults.BisonFault.TheVariants.{Grammar, Memory, NotEmpty, RepeatedPrec, RepeatedPrecedence, Rules as RulesVariant}
 use Rattle.lrpar_grammar_bison_parts.specs.declared.grammar.BisonGrammar.{BisonGrammar}
@@ -42,16 +42,16 @@ file_precedences r =
     }
 
 -- the second `%prec` among parts, if one is before them or not
-abbrev pub second_after : Bool → List PlacedItem → Option Extent
+abbrev pub second_after : Bool → List FileItem → Option Extent
 second_after has [] = None
 second_after has (x ∷ xs) = if is_prec x.kind then (if has then Some x.word.span else second_after true xs) else second_after has xs
 
 -- the second `%prec` among the parts of an alternative
-abbrev pub second_prec : List PlacedItem → Option Extent
+abbrev pub second_prec : List FileItem → Option Extent
 second_prec items = second_after false items
 
 -- the first `%prec` in an alternative that has one before
-abbrev pub repeated_prec : List PlacedAlternative → Option Extent
+abbrev pub repeated_prec : List FileAlternative → Option Extent
 repeated_prec [] = None
 repeated_prec (x ∷ xs) = option_or (second_prec x.items) (repeated_prec xs)
 
@@ -61,31 +61,31 @@ is_empty_sign Empty = true
 is_empty_sign _ = false
 
 -- an alternative with these parts has a symbol
-abbrev pub has_symbol : List PlacedItem → Bool
-has_symbol items = list_any (λ (x : PlacedItem). is_symbol x.kind) items
+abbrev pub has_symbol : List FileItem → Bool
+has_symbol items = list_any (λ (x : FileItem). is_symbol x.kind) items
 
 -- the first `%empty` among the parts of an alternative
-abbrev pub empty_in : List PlacedItem → Option Extent
-empty_in items = option_map (λ (x : PlacedItem). x.word.span) (find (λ (x : PlacedItem). is_empty_sign x.kind) items)
+abbrev pub empty_in : List FileItem → Option Extent
+empty_in items = option_map (λ (x : FileItem). x.word.span) (find (λ (x : FileItem). is_empty_sign x.kind) items)
 
 -- the first `%empty` in an alternative that has symbols
-abbrev pub false_empty : List PlacedAlternative → Option Extent
+abbrev pub false_empty : List FileAlternative → Option Extent
 false_empty [] = None
 false_empty (x ∷ xs) = option_or (if has_symbol x.items then empty_in x.items else None) (false_empty xs)
 
 -- no alternative has a second `%prec`, or a `%empty` beside symbols
-pub record HasSoundAlternatives (alternatives : List PlacedAlternative) : Type 0 where
+pub record HasSoundAlternatives (alternatives : List FileAlternative) : Type 0 where
   pub precs : repeated_prec alternatives ≡ None
   pub empties : false_empty alternatives ≡ None
 
 -- a second `%prec` is at this place; or there is none, and a `%empty` beside symbols is at this place
-abbrev pub HasAlternativeFault : List PlacedAlternative → BisonFault → Type 0
+abbrev pub HasAlternativeFault : List FileAlternative → BisonFault → Type 0
 HasAlternativeFault alternatives (RepeatedPrec span) = repeated_prec alternatives ≡ Some span
 HasAlternativeFault alternatives (NotEmpty span) = (repeated_prec alternatives ≡ None) × (false_empty alternatives ≡ Some span)
 HasAlternativeFault alternatives _ = ⊥
 
 -- this is the fault of the alternatives, if they have one
-abbrev pub IsAlternativeFault : List PlacedAlternative → Option BisonFault → Type 0
+abbrev pub IsAlternativeFault : List FileAlternative → Option BisonFault → Type 0
 IsAlternativeFault alternatives found = MatchOption found (HasSoundAlternatives alternatives) (HasAlternativeFault alternatives)
 
 -- these are the parts of the grammar of a file and the precedences that it declares, if its alternatives are sound

@@ -16,20 +16,20 @@ use Rattle.lrpar_grammar_bison_rules.specs.declared.rules.Alternative.{Alternati
 use Rattle.lrpar_grammar_bison_rules.specs.declared.rules.FileRules.{FileRules}
 use Rattle.lrpar_grammar_bison_rules.specs.declared.word_order.ItemKind.{ItemKind}
 use Rattle.lrpar_grammar_bison_rules.specs.declared.word_order.ItemKind.TheVariants.{Symbol, Prec}
-use Rattle.lrpar_grammar_bison_rules.specs.Rules.{PlacedAlias, PlacedAlternative, PlacedItem, PlacedRank, Rules, alias_of, alternative_of, rules_in}
+use Rattle.lrpar_grammar_bison_rules.specs.Rules.{FileAlias, FileAlternative, FileItem, FileRank, Rules, alias_of, alternative_of, rules_in}
 use Rattle.lrpar_grammar_bison_parts.specs.Midrules.{actions_in, actions_of, filled, midrules_from, symbols_in}
 use Rattle.lrpar_grammar_bison_parts.specs.Symbols.{MapsAliases, symbol_word, text_word, token_with}
 
--- the same texts and tokens, each in the place of the other
-abbrev pub turned : PlacedAlias → PlacedAlias
+-- the text in the place of the token, and the token in that of the text
+abbrev pub turned : FileAlias → FileAlias
 turned x = record { token = x.text; text = x.token }
 
 -- the tokens that have a text, each once
-abbrev pub named_tokens : List PlacedAlias → List PlacedTextWord
-named_tokens aliases = first_of_each (map (λ (x : PlacedAlias). text_word x.token) aliases)
+abbrev pub named_tokens : List FileAlias → List PlacedTextWord
+named_tokens aliases = first_of_each (map (λ (x : FileAlias). text_word x.token) aliases)
 
 -- the text of a token: the first of several
-abbrev pub text_of : List PlacedAlias → PlacedTextWord → PlacedTextWord
+abbrev pub text_of : List FileAlias → PlacedTextWord → PlacedTextWord
 text_of aliases w = option_map_or text_word (token_with (map turned aliases) w.name) w
 
 -- a part of that kind with that name declares a token: the symbol of a `%prec`, or `error`
@@ -39,25 +39,25 @@ declares Symbol name = bytes_eq name (codes "error")
 declares _ name = false
 
 -- the tokens that parts of an alternative declare
-abbrev pub declared_among : List PlacedItem → List PlacedWord
-declared_among items = map (λ (i : PlacedItem). i.word) (filter (λ (i : PlacedItem). declares i.kind i.word.name) items)
+abbrev pub declared_among : List FileItem → List PlacedWord
+declared_among items = map (λ (i : FileItem). i.word) (filter (λ (i : FileItem). declares i.kind i.word.name) items)
 
 -- the tokens that an alternative declares
-abbrev pub declared_in : PlacedAlternative → List PlacedWord
+abbrev pub declared_in : FileAlternative → List PlacedWord
 declared_in x = declared_among x.items
 
 -- the tokens of a file: those of `%token`, those with a precedence, those of `%prec`, and `error`
 abbrev pub declared_words : Rules → List PlacedTextWord
 declared_words r =
     map text_word r.tokens
-    ++ (map (symbol_word r.aliases) (map (λ (x : PlacedRank). x.word) r.ranked) ++ map (symbol_word r.aliases) (flat_map declared_in r.alternatives))
+    ++ (map (symbol_word r.aliases) (map (λ (x : FileRank). x.word) r.ranked) ++ map (symbol_word r.aliases) (flat_map declared_in r.alternatives))
 
 -- the alternative of a rule that stands for an action
 abbrev pub midrule_alternative : PlacedTextWord → TextAlternative
 midrule_alternative m = record { rule = m; symbols = []; end = m }
 
 -- an alternative, with these rules for its actions
-abbrev pub text_alternative : List PlacedAlias → List PlacedTextWord → PlacedAlternative → TextAlternative
+abbrev pub text_alternative : List FileAlias → List PlacedTextWord → FileAlternative → TextAlternative
 text_alternative aliases midrules x = record {
   rule = text_word x.rule;
   symbols = filled aliases midrules (symbols_in x.items);
@@ -65,7 +65,7 @@ text_alternative aliases midrules x = record {
 }
 
 -- The alternatives, with these rules for the actions among symbols. The rules for the actions of an alternative come before it.
-abbrev pub text_alternatives : List PlacedAlias → List PlacedTextWord → List PlacedAlternative → List TextAlternative
+abbrev pub text_alternatives : List FileAlias → List PlacedTextWord → List FileAlternative → List TextAlternative
 text_alternatives aliases midrules [] = []
 text_alternatives aliases midrules (x ∷ xs) =
     let count = length (actions_in x.items) in
@@ -103,7 +103,7 @@ AreTurned aliases others = map alias_of others.items ≡ map turned (map alias_o
 -- the words were appended as symbols
 abbrev pub AppendsSymbols : {A : Type 0} → BTreeMap (Bor (List ℕ)) Word → Vec TextWord A → Vec TextWord A → List PlacedWord → Type 0
 AppendsSymbols found old new words =
-    (aliases : List PlacedAlias) → MapsAliases found aliases → map text_placed new.items ≡ map text_placed old.items ++ map (symbol_word aliases) words
+    (aliases : List FileAlias) → MapsAliases found aliases → map text_placed new.items ≡ map text_placed old.items ++ map (symbol_word aliases) words
 
 -- these are the tokens that have a text, each once
 abbrev pub AreEpps : List Alias → List PlacedTextWord → Type 0
@@ -112,7 +112,7 @@ AreEpps aliases names = names ≡ named_tokens (map alias_of aliases)
 -- if the map has some tokens in the place of texts, this is the text of the token: the first of several
 abbrev pub IsTextOf : BTreeMap (Bor (List ℕ)) Word → TextWord → TextWord → Type 0
 IsTextOf found token result =
-    (others : List PlacedAlias) → MapsAliases found others → text_placed result ≡ option_map_or text_word (token_with others token.name.now) (text_placed token)
+    (others : List FileAlias) → MapsAliases found others → text_placed result ≡ option_map_or text_word (token_with others token.name.now) (text_placed token)
 
 -- these are the texts of the tokens
 abbrev pub AreEppTexts : {A : Type 0} → List Alias → List TextWord → Vec TextWord A → Type 0
@@ -130,11 +130,11 @@ AppendsMidrules old new midrules =
 -- if the map has some texts, this is the alternative with these rules for its actions
 abbrev pub IsTextAlternative : BTreeMap (Bor (List ℕ)) Word → Alternative → List TextWord → TextRule → Type 0
 IsTextAlternative found alternative midrules result =
-    (aliases : List PlacedAlias) → MapsAliases found aliases
+    (aliases : List FileAlias) → MapsAliases found aliases
     → text_alternative_of result ≡ text_alternative aliases (map text_placed midrules) (alternative_of alternative)
 
 -- if the map has some texts, these are the alternatives with these rules for their actions
 abbrev pub AreTextAlternatives : {A : Type 0} → BTreeMap (Bor (List ℕ)) Word → List Alternative → List TextWord → Vec TextRule A → Type 0
 AreTextAlternatives found alternatives midrules result =
-    (aliases : List PlacedAlias) → MapsAliases found aliases
+    (aliases : List FileAlias) → MapsAliases found aliases
     → map text_alternative_of result.items ≡ text_alternatives aliases (map text_placed midrules) (map alternative_of alternatives)

@@ -23,7 +23,7 @@ use Rattle.lrpar_grammar_bison_rules.specs.declared.rules.Item.{Item}
 use Rattle.lrpar_grammar_bison_rules.specs.declared.rules.RankedWord.{RankedWord}
 use Rattle.lrpar_grammar_bison_rules.specs.declared.word_order.ItemKind.{ItemKind}
 use Rattle.lrpar_grammar_bison_rules.specs.declared.word_order.ItemKind.TheVariants.{Prec}
-use Rattle.lrpar_grammar_bison_rules.specs.Rules.{PlacedAlias, PlacedAlternative, PlacedItem, PlacedRank, alternative_of, item_of, rank_of}
+use Rattle.lrpar_grammar_bison_rules.specs.Rules.{FileAlias, FileAlternative, FileItem, FileRank, alternative_of, item_of, rank_of}
 use Rattle.lrpar_grammar_bison_parts.specs.declared.faults.BisonFault.{BisonFault}
 use Rattle.lrpar_grammar_bison_parts.specs.declared.faults.BisonFault.TheVariants.{Memory, RepeatedPrecedence}
 use Rattle.lrpar_grammar_bison_parts.specs.declared.precedences.Rank.{Rank}
@@ -37,8 +37,8 @@ pub record NamedRank : Type 0 where
   pub precedence : Precedence
 
 -- the tokens of a file with their precedences
-abbrev pub named_ranks : List PlacedAlias → List PlacedRank → List NamedRank
-named_ranks aliases ranked = map (λ (x : PlacedRank). record { word = symbol_word aliases x.word; precedence = x.precedence }) ranked
+abbrev pub named_ranks : List FileAlias → List FileRank → List NamedRank
+named_ranks aliases ranked = map (λ (x : FileRank). record { word = symbol_word aliases x.word; precedence = x.precedence }) ranked
 
 -- the precedence of the token with that name, if it has one
 abbrev pub rank_with : List NamedRank → List ℕ → Option Precedence
@@ -63,16 +63,16 @@ is_prec Prec = true
 is_prec _ = false
 
 -- the symbol of the first `%prec` among the parts of an alternative
-abbrev pub prec_in : List PlacedItem → Option PlacedWord
-prec_in items = option_map (λ (x : PlacedItem). x.word) (find (λ (x : PlacedItem). is_prec x.kind) items)
+abbrev pub prec_in : List FileItem → Option PlacedWord
+prec_in items = option_map (λ (x : FileItem). x.word) (find (λ (x : FileItem). is_prec x.kind) items)
 
 -- the symbols of the `%prec`s of an alternative and of the rules that stand for its actions, which come before it and have none
-abbrev pub prec_words_in : List PlacedAlias → List PlacedItem → List (Option PlacedTextWord)
+abbrev pub prec_words_in : List FileAlias → List FileItem → List (Option PlacedTextWord)
 prec_words_in aliases items = replicate (length (actions_in items)) None ++ option_map (symbol_word aliases) (prec_in items) ∷ []
 
--- the same of all alternatives
-abbrev pub prec_words : List PlacedAlias → List PlacedAlternative → List (Option PlacedTextWord)
-prec_words aliases alternatives = flat_map (λ (x : PlacedAlternative). prec_words_in aliases x.items) alternatives
+-- the symbols of the `%prec`s of all productions
+abbrev pub prec_words : List FileAlias → List FileAlternative → List (Option PlacedTextWord)
+prec_words aliases alternatives = flat_map (λ (x : FileAlternative). prec_words_in aliases x.items) alternatives
 
 -- the precedence of the last token among symbols, if that has one; `slots`: the precedences of tokens by their numbers
 abbrev pub slot_after : List (Option Precedence) → Option Precedence → List GrammarSymbol → Option Precedence
@@ -112,7 +112,7 @@ named_rank_of x = record { word = text_placed x.word; precedence = x.precedence 
 -- if the map has some texts, these are the tokens with a precedence
 abbrev pub AreRanks : {A : Type 0} → BTreeMap (Bor (List ℕ)) Word → List RankedWord → Vec Rank A → Type 0
 AreRanks found ranked ranks =
-    (aliases : List PlacedAlias) → MapsAliases found aliases → map named_rank_of ranks.items ≡ named_ranks aliases (map rank_of ranked)
+    (aliases : List FileAlias) → MapsAliases found aliases → map named_rank_of ranks.items ≡ named_ranks aliases (map rank_of ranked)
 
 -- the map has these precedences by the names of tokens
 abbrev pub MapsRanks : BTreeMap (Bor (List ℕ)) Precedence → List NamedRank → Type 0
@@ -143,19 +143,19 @@ AreTokenSlots found tokens slots = (ranks : List NamedRank) → MapsRanks found 
 -- if the map has some texts, the symbols of `%prec`s of an alternative and of the rules for its actions were appended
 abbrev pub AppendsPrecWords : {A : Type 0} → BTreeMap (Bor (List ℕ)) Word → List Item → Vec (Option TextWord) A → Vec (Option TextWord) A → Type 0
 AppendsPrecWords found items old new =
-    (aliases : List PlacedAlias) → MapsAliases found aliases
+    (aliases : List FileAlias) → MapsAliases found aliases
     → map (option_map text_placed) new.items ≡ map (option_map text_placed) old.items ++ prec_words_in aliases (map item_of items)
 
 -- if the map has some texts, these are the symbols of `%prec`s of the productions
 abbrev pub ArePrecWords : {A : Type 0} → BTreeMap (Bor (List ℕ)) Word → List Alternative → Vec (Option TextWord) A → Type 0
 ArePrecWords found alternatives words =
-    (aliases : List PlacedAlias) → MapsAliases found aliases
+    (aliases : List FileAlias) → MapsAliases found aliases
     → map (option_map text_placed) words.items ≡ prec_words aliases (map alternative_of alternatives)
 
 -- if the map has some texts, this is the symbol of the first `%prec` of an alternative with these parts
 abbrev pub HasPrecWord : BTreeMap (Bor (List ℕ)) Word → List Item → Option TextWord → Type 0
 HasPrecWord found items result =
-    (aliases : List PlacedAlias) → MapsAliases found aliases
+    (aliases : List FileAlias) → MapsAliases found aliases
     → option_map text_placed result ≡ option_map (symbol_word aliases) (prec_in (map item_of items))
 
 -- what precedences are found by, with these tokens

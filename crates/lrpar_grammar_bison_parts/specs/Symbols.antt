@@ -15,7 +15,7 @@ use Rattle.lrpar_grammar_bison.specs.declared.words.WordKind.{WordKind}
 use Rattle.lrpar_grammar_bison.specs.declared.words.WordKind.TheVariants.{Character, Text}
 use Rattle.lrpar_grammar_bison.specs.Words.{PlacedWord, placed}
 use Rattle.lrpar_grammar_bison_rules.specs.declared.rules.Alias.{Alias}
-use Rattle.lrpar_grammar_bison_rules.specs.Rules.{PlacedAlias, alias_of}
+use Rattle.lrpar_grammar_bison_rules.specs.Rules.{FileAlias, alias_of}
 
 -- the kind of a word in a grammar text: a literal is quoted
 abbrev pub text_kind : WordKind → TextKind
@@ -28,19 +28,19 @@ abbrev pub text_word : PlacedWord → PlacedTextWord
 text_word w = record { kind = text_kind w.kind; name = w.name; span = w.span }
 
 -- the token that has this text, if one does: the first of such
-abbrev pub token_with : List PlacedAlias → List ℕ → Option PlacedWord
-token_with aliases text = option_map (λ (x : PlacedAlias). x.token) (find (λ (x : PlacedAlias). bytes_eq x.text.name text) aliases)
+abbrev pub token_with : List FileAlias → List ℕ → Option PlacedWord
+token_with aliases text = option_map (λ (x : FileAlias). x.token) (find (λ (x : FileAlias). bytes_eq x.text.name text) aliases)
 
 -- the token that a word stands for, if it is the text of one; else the word
-abbrev pub target : List PlacedAlias → PlacedWord → PlacedWord
+abbrev pub target : List FileAlias → PlacedWord → PlacedWord
 target aliases w = option_map_or (λ (token : PlacedWord). token) (token_with aliases w.name) w
 
 -- a symbol of a rule in a grammar text: the token that it stands for, at its place
-abbrev pub symbol_word : List PlacedAlias → PlacedWord → PlacedTextWord
+abbrev pub symbol_word : List FileAlias → PlacedWord → PlacedTextWord
 symbol_word aliases w = record { kind = text_kind (target aliases w).kind; name = (target aliases w).name; span = w.span }
 
 -- the map gives for each text the token that has it
-abbrev pub MapsAliases : BTreeMap (Bor (List ℕ)) Word → List PlacedAlias → Type 0
+abbrev pub MapsAliases : BTreeMap (Bor (List ℕ)) Word → List FileAlias → Type 0
 MapsAliases found aliases = (q : List ℕ) → option_map placed (get_by (λ k. slice_cmp nat_cmp q k.now) found) ≡ token_with aliases q
 
 -- the map has these texts
@@ -49,8 +49,8 @@ HasAliases aliases found = MapsAliases found (map alias_of aliases)
 
 -- if the map has some texts, this is the word that another one stands for
 abbrev pub HasTarget : BTreeMap (Bor (List ℕ)) Word → Word → Word → Type 0
-HasTarget found word result = (aliases : List PlacedAlias) → MapsAliases found aliases → placed result ≡ target aliases (placed word)
+HasTarget found word result = (aliases : List FileAlias) → MapsAliases found aliases → placed result ≡ target aliases (placed word)
 
 -- if the map has some texts, this is the word as a symbol
 abbrev pub IsSymbolWord : BTreeMap (Bor (List ℕ)) Word → Word → TextWord → Type 0
-IsSymbolWord found word result = (aliases : List PlacedAlias) → MapsAliases found aliases → text_placed result ≡ symbol_word aliases (placed word)
+IsSymbolWord found word result = (aliases : List FileAlias) → MapsAliases found aliases → text_placed result ≡ symbol_word aliases (placed word)

@@ -1,4 +1,4 @@
-//! The grammars of `.y` files as bison reads them.
+//! The grammars of `.y` files as bison reads them: their parts and precedences.
 #![tactic(auto)]
 
 pub mod faults;

@@ -14,12 +14,12 @@ use Rattle.lrpar_grammar_bison_rules.specs.declared.word_order.Expected.TheVaria
 use Rattle.lrpar_grammar_bison_rules.specs.declared.word_order.Role.{Role}
 use Rattle.lrpar_grammar_bison_rules.specs.declared.word_order.Role.TheVariants.{Nothing, Start, Token, Alias, Level, LevelName, Expected as ExpectedRole, ExpectedRr, Glr, DefaultPrec, Defined, Item}
 use Rattle.lrpar_grammar_bison_rules.specs.declared.word_order.Step.{Step}
-use Rattle.lrpar_grammar_bison_rules.specs.Rules.{AreOfDefinedRules, AreRulesOfText, HaveOrderedItems, PlacedAlternative, PlacedItem, Rules, RulesRead, end_word, ended, finished, last_of, no_rules, read_on, rules_read, with_closed, with_role, with_step}
+use Rattle.lrpar_grammar_bison_rules.specs.Rules.{AreOfDefinedRules, AreRulesOfText, HaveOrderedItems, FileAlternative, FileItem, Rules, RulesRead, end_word, ended, finished, last_of, no_rules, read_on, rules_read, with_closed, with_role, with_step}
 use Rattle.lrpar_grammar_bison_rules.specs.Signs.{sign_of}
 use Rattle.lrpar_grammar_bison_rules.specs.WordOrder.{after, is_in_alternative}
 
 -- each part ends at or before the start of the next
-abbrev AreItemsInOrder : List PlacedItem → Type 0
+abbrev AreItemsInOrder : List FileItem → Type 0
 AreItemsInOrder items = AllPairs (λ a b. a.word.span.end ≤ b.word.span.start) items
 
 -- The parts so far end at or before the place and are in order, as are those of the alternatives that have ended. Each of these is of a
@@ -33,23 +33,23 @@ record AreSoundTo (place : ℕ) (r : Rules) : Type 0 where
 -- no words
 none_sound : AreSoundTo 0 no_rules
 none_sound = record {
-  defined = All-nil (λ (x : PlacedAlternative). Contains no_rules.defined x.rule);
-  before = All-nil (λ (x : PlacedItem). x.word.span.end ≤ 0);
+  defined = All-nil (λ (x : FileAlternative). Contains no_rules.defined x.rule);
+  before = All-nil (λ (x : FileItem). x.word.span.end ≤ 0);
   apart = λ i j d before within. absurd (omega arith);
-  ended = All-nil (λ (x : PlacedAlternative). AreItemsInOrder x.items);
+  ended = All-nil (λ (x : FileAlternative). AreItemsInOrder x.items);
 }
 
 -- what ends before a place ends before a later one
 later_sound : (place later : ℕ) (r : Rules) → place ≤ later → AreSoundTo place r → AreSoundTo later r
 later_sound place later r le sound = record {
   defined = sound.defined;
-  before = All-weaker (λ (x : PlacedItem). x.word.span.end ≤ place) (λ (x : PlacedItem). x.word.span.end ≤ later) (λ x ends. omega arith) r.items sound.before;
+  before = All-weaker (λ (x : FileItem). x.word.span.end ≤ place) (λ (x : FileItem). x.word.span.end ≤ later) (λ x ends. omega arith) r.items sound.before;
   apart = sound.apart;
   ended = sound.ended;
 }
 
 -- what holds of the alternative that a word ends, if there is one
-of_ended : (P : PlacedAlternative → Type 0) (r : Rules) (w : PlacedWord) (last : Option PlacedWord)
+of_ended : (P : FileAlternative → Type 0) (r : Rules) (w : PlacedWord) (last : Option PlacedWord)
     → ((rule : PlacedWord) → last ≡ Some rule → P (record { rule = rule; items = r.items; end = w }))
     → All P (option_to_list (option_map (λ rule. record { rule = rule; items = r.items; end = w }) last))
 of_ended P r w None holds = All-nil P
@@ -58,13 +58,13 @@ of_ended P r w (Some rule) holds = All-cons P (record { rule = rule; items = r.i
 -- an alternative ends
 closed_sound : (place : ℕ) (r : Rules) (w : PlacedWord) → AreSoundTo place r → AreSoundTo place (with_closed r w)
 closed_sound place r w sound =
-    let P : PlacedAlternative → Type 0 = λ x. Contains r.defined x.rule in
-    let Q : PlacedAlternative → Type 0 = λ x. AreItemsInOrder x.items in
+    let P : FileAlternative → Type 0 = λ x. Contains r.defined x.rule in
+    let Q : FileAlternative → Type 0 = λ x. AreItemsInOrder x.items in
     let k = length r.defined - 1 in
     record {
       defined = All-append P r.alternatives (ended r w) sound.defined
           (of_ended P r w (last_of r.defined) (λ rule is. (k, slice_get_within r.defined k rule is, get_or_from_slice_get r.defined k rule rule is)));
-      before = All-nil (λ (x : PlacedItem). x.word.span.end ≤ place);
+      before = All-nil (λ (x : FileItem). x.word.span.end ≤ place);
       apart = λ i j d before within. absurd (omega arith);
       ended = All-append Q r.alternatives (ended r w) sound.ended (of_ended Q r w (last_of r.defined) (λ rule is. sound.apart));
     }
@@ -86,7 +86,7 @@ role_sound place later r (DefaultPrec has) w from to le sound = let h = later_so
 role_sound place later r Defined w from to le sound =
     let h = later_sound place later r le sound in
     record {
-      defined = All-weaker (λ (x : PlacedAlternative). Contains r.defined x.rule) (λ (x : PlacedAlternative). Contains (r.defined ++ w ∷ []) x.rule)
+      defined = All-weaker (λ (x : FileAlternative). Contains r.defined x.rule) (λ (x : FileAlternative). Contains (r.defined ++ w ∷ []) x.rule)
           (λ x known. Contains-append_left r.defined (w ∷ []) x.rule known) r.alternatives h.defined;
       before = h.before;
       apart = h.apart;
@@ -96,8 +96,8 @@ role_sound place later r (Item kind) w from to le sound =
     let h = later_sound place later r le sound in
     record {
       defined = h.defined;
-      before = All-push (λ (x : PlacedItem). x.word.span.end ≤ later) r.items (record { kind = kind; word = w }) h.before to;
-      apart = all_pairs_push (λ (a b : PlacedItem). a.word.span.end ≤ b.word.span.start) r.items (record { kind = kind; word = w }) sound.apart
+      before = All-push (λ (x : FileItem). x.word.span.end ≤ later) r.items (record { kind = kind; word = w }) h.before to;
+      apart = all_pairs_push (λ (a b : FileItem). a.word.span.end ≤ b.word.span.start) r.items (record { kind = kind; word = w }) sound.apart
           (λ k d within. let ends : (get_or r.items k d).word.span.end ≤ place = sound.before k d within in omega arith);
       ended = h.ended;
     }

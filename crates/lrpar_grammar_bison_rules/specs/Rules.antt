@@ -26,23 +26,23 @@ use Rattle.lrpar_grammar_bison_rules.specs.Signs.{sign_of}
 use Rattle.lrpar_grammar_bison_rules.specs.WordOrder.{after, is_in_alternative, may_end}
 
 -- a part of an alternative
-pub record PlacedItem : Type 0 where
+pub record FileItem : Type 0 where
   pub kind : ItemKind
   pub word : PlacedWord
 
 -- an alternative of the last rule defined so far: its parts, and the word that ends it
-pub record PlacedAlternative : Type 0 where
+pub record FileAlternative : Type 0 where
   pub rule : PlacedWord
-  pub items : List PlacedItem
+  pub items : List FileItem
   pub end : PlacedWord
 
 -- a token and its text
-pub record PlacedAlias : Type 0 where
+pub record FileAlias : Type 0 where
   pub token : PlacedWord
   pub text : PlacedWord
 
 -- a token with a precedence
-pub record PlacedRank : Type 0 where
+pub record FileRank : Type 0 where
   pub word : PlacedWord
   pub precedence : Precedence
 
@@ -52,31 +52,31 @@ pub record PlacedRank : Type 0 where
 pub record Rules : Type 0 where
   pub starts : List PlacedWord
   pub tokens : List PlacedWord
-  pub aliases : List PlacedAlias
+  pub aliases : List FileAlias
   pub levels : List AssocKind
-  pub ranked : List PlacedRank
+  pub ranked : List FileRank
   pub expected : List PlacedWord
   pub expected_rr : List PlacedWord
   pub is_glr : Bool
   pub has_default_prec : Bool
   pub defined : List PlacedWord
-  pub alternatives : List PlacedAlternative
-  pub items : List PlacedItem
+  pub alternatives : List FileAlternative
+  pub items : List FileItem
 
 -- a part as plain data
-abbrev pub item_of : Item → PlacedItem
+abbrev pub item_of : Item → FileItem
 item_of x = record { kind = x.kind; word = placed x.word }
 
 -- an alternative as plain data
-abbrev pub alternative_of : Alternative → PlacedAlternative
+abbrev pub alternative_of : Alternative → FileAlternative
 alternative_of x = record { rule = placed x.rule; items = map item_of x.items.items; end = placed x.end }
 
 -- a token and its text as plain data
-abbrev pub alias_of : Alias → PlacedAlias
+abbrev pub alias_of : Alias → FileAlias
 alias_of x = record { token = placed x.token; text = placed x.text }
 
 -- a token with a precedence as plain data
-abbrev pub rank_of : RankedWord → PlacedRank
+abbrev pub rank_of : RankedWord → FileRank
 rank_of x = record { word = placed x.word; precedence = x.precedence }
 
 -- declarations and rules as plain data
@@ -118,7 +118,7 @@ abbrev pub last_of : {A : Type 0} → List A → Option A
 last_of xs = slice_get xs (length xs - 1)
 
 -- the alternative that a word ends
-abbrev pub ended : Rules → PlacedWord → List PlacedAlternative
+abbrev pub ended : Rules → PlacedWord → List FileAlternative
 ended r w = option_to_list (option_map (λ rule. record { rule = rule; items = r.items; end = w }) (last_of r.defined))
 
 -- with the alternative that a word ends
@@ -126,11 +126,11 @@ abbrev pub with_closed : Rules → PlacedWord → Rules
 with_closed r w = record r { alternatives = r.alternatives ++ ended r w; items = [] }
 
 -- the text of the last token
-abbrev pub alias_by : Rules → PlacedWord → List PlacedAlias
+abbrev pub alias_by : Rules → PlacedWord → List FileAlias
 alias_by r w = option_to_list (option_map (λ token. record { token = token; text = w }) (last_of r.tokens))
 
 -- a token of the last level
-abbrev pub rank_by : Rules → PlacedWord → List PlacedRank
+abbrev pub rank_by : Rules → PlacedWord → List FileRank
 rank_by r w = option_to_list (option_map (λ kind. record { word = w; precedence = record { level = length r.levels - 1; kind = kind } }) (last_of r.levels))
 
 -- with one more word, which has that role
@@ -172,7 +172,7 @@ rules_read words = read_on Declaration no_rules words
 abbrev pub end_word : ℕ → PlacedWord
 end_word len = record { kind = Semicolon; name = []; span = record { start = len; end = len } }
 
--- the same rules, with the last alternative ended by the end of a text of that length, if it isn't yet
+-- the rules that are read, with the last alternative ended by the end of a text of that length, if it isn't yet
 abbrev pub finished : ℕ → RulesRead → Rules
 finished len x = if is_in_alternative x.next then with_closed x.rules (end_word len) else x.rules
 

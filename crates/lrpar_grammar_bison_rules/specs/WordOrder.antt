@@ -23,7 +23,7 @@ use Rattle.lrpar_grammar_bison_rules.specs.declared.word_order.SymbolList.TheVar
 abbrev pub step_to : Role → Expected → Option Step
 step_to role next = Some (record { closes = false; role = role; next = next })
 
--- the same step, with an alternative ended before it
+-- a step, with an alternative ended before it
 abbrev pub closing : Option Step → Option Step
 closing step = option_map (λ (x : Step). record { closes = true; role = x.role; next = x.next }) step
 
@@ -152,7 +152,7 @@ abbrev pub symbols_type : Sign → Option (Role × Before)
 symbols_type (Other Tag) = Some (Nothing, AfterType)
 symbols_type _ = None
 
--- the same, unless a type is before it
+-- the type of the symbols that come next, unless a type is before it
 abbrev pub type_after : Before → Sign → Option (Role × Before)
 type_after AfterType sign = None
 type_after _ sign = symbols_type sign
@@ -162,7 +162,7 @@ abbrev pub symbol_number : Sign → Option (Role × Before)
 symbol_number (Other Number) = Some (Nothing, AfterNumber)
 symbol_number _ = None
 
--- the same, after a symbol
+-- the number of a symbol, after the symbol
 abbrev pub number_after : Before → Sign → Option (Role × Before)
 number_after AfterSymbol sign = symbol_number sign
 number_after _ sign = None
@@ -173,7 +173,7 @@ token_text (Other Text) role = Some (role, AfterAll)
 token_text (Other Translated) role = Some (role, AfterAll)
 token_text _ role = None
 
--- the same, after a symbol or its number
+-- the text of a token, after the token or its number
 abbrev pub alias_after : Before → Sign → Role → Option (Role × Before)
 alias_after AfterSymbol sign role = token_text sign role
 alias_after AfterNumber sign role = token_text sign role
@@ -216,7 +216,7 @@ next_rule (DirectiveIs d) = shared_directive Rules d
 next_rule (Other Sections) = step_to Nothing End
 next_rule _ = None
 
--- the same, one more alternative of the rule before, or one more `;`
+-- a rule, a declaration, the second `%%`, one more alternative of the rule before, or one more `;`
 abbrev pub rule_or_alternative : Sign → Option Step
 rule_or_alternative (Other Bar) = step_to Nothing Symbol
 rule_or_alternative (Other Semicolon) = step_to Nothing RuleOrAlternative

@@ -1,4 +1,4 @@
-//! `.y` files as bison reads them: their declarations and rules.
+//! The declarations and rules of `.y` files as bison reads them.
 #![tactic(auto)]
 
 pub mod directives;

@@ -83,13 +83,13 @@ pub enum Expected {
     DeclarationEnd,
     /// A rule, a declaration, or the second `%%`.
     Rule,
-    /// The same, one more alternative of the rule before, or one more `;`.
+    /// A rule, a declaration, the second `%%`, one more alternative of the rule before, or one more `;`.
     RuleOrAlternative,
     /// The `:` of a rule.
     RuleColon,
     /// A symbol, an action, or what ends an alternative.
     Symbol,
-    /// The same, or the label of the symbol or action before.
+    /// A symbol, an action, what ends an alternative, or the label of the symbol or action before.
     SymbolOrLabel,
     /// The action after a type.
     TypedAction,
@@ -533,7 +533,7 @@ fn next_rule(sign: Sign) -> Option<Step>
     }
 }
 
-// The same, one more alternative of the rule before, or one more `;`.
+// A rule, a declaration, the second `%%`, one more alternative of the rule before, or one more `;`.
 fn rule_or_alternative(sign: Sign) -> Option<Step>
     ensures { result ≡ rule_or_alternative sign }
 {
