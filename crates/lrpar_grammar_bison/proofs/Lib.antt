@@ -1,2 +1,4 @@
 pub mod WordsLemmas
 pub mod ListLemmas
+pub mod LengthLemmas
+pub mod OrderLemmas

@@ -1,1 +1,2 @@
 pub mod RulesLemmas
+pub mod OrderLemmas

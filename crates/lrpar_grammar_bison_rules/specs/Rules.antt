@@ -1,5 +1,6 @@
 -- The declarations and rules of a `.y` file, as lists of words in the order of the text.
-use Rattle.std.specs.Prelude.{◌≡◌, ◌-◌, Bool, true, false, ℕ, List, [], ◌∷◌, ◌++◌, length, map, slice_get, Option, Some, None, option_map, if◌then◌else◌, Vec}
+use Rattle.std.specs.Prelude.{◌≡◌, ◌≤◌, ◌-◌, Bool, true, false, ℕ, List, [], ◌∷◌, ◌++◌, All, Contains, length, map, slice_get, Option, Some, None, option_map, if◌then◌else◌, Vec}
+use Rattle.std.specs.List.{AllPairs}
 use Rattle.std.specs.Option.{option_map_or, option_to_list}
 use Rattle.lrpar_table_precedence.specs.declared.precedence.AssocKind.{AssocKind}
 use Rattle.lrpar_table_precedence.specs.declared.precedence.Precedence.{Precedence}
@@ -185,6 +186,14 @@ AreRulesOfWords len words r = IsWhole len (rules_read (map placed words)) r
 pub record AreRulesOfText (text : List ℕ) (r : Rules) : Type 0 where
   pub readable : (read text).stuck ≡ None
   pub whole : IsWhole (length text) (rules_read (read text).words) r
+
+-- each alternative is of a rule that is defined
+abbrev pub AreOfDefinedRules : Rules → Type 0
+AreOfDefinedRules r = All (λ x. Contains r.defined x.rule) r.alternatives
+
+-- the parts of each alternative are in the order of the text: each ends at or before the start of the next
+abbrev pub HaveOrderedItems : Rules → Type 0
+HaveOrderedItems r = All (λ x. AllPairs (λ a b. a.word.span.end ≤ b.word.span.start) x.items) r.alternatives
 
 -- a word that isn't allowed where it is, or an end that comes too early
 abbrev pub HasOrderFault : RulesRead → RulesFault → Type 0

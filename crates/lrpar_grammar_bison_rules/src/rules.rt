@@ -130,7 +130,7 @@ impl<T: Drop> From<AllocFailed<T>> for RulesFault {
 }
 
 impl<'a> FileRules<'a> {
-    ghost use Rattle.lrpar_grammar_bison_rules.specs.Rules.{AreRulesOfWords, IsOrderFault, no_rules, rules_in, with_closed, with_role, with_step};
+    ghost use Rattle.lrpar_grammar_bison_rules.specs.Rules.{AreOfDefinedRules, AreRulesOfWords, HaveOrderedItems, IsOrderFault, no_rules, rules_in, with_closed, with_role, with_step};
 
     /// The declarations and rules of a file.
     ///
@@ -138,6 +138,8 @@ impl<'a> FileRules<'a> {
     /// allowed where it is, or with `End` if the file ends too early; or with `Memory`. Takes time and memory linear in the text.
     pub fn read(alloc: Global, text: &'a str) -> Result<Self, RulesFault>
         ensures rules { IfOk result (λ r. AreRulesOfText text.now (rules_in r)) }
+        ensures defined { IfOk result (λ r. AreOfDefinedRules (rules_in r)) }
+        ensures order { IfOk result (λ r. HaveOrderedItems (rules_in r)) }
         ensures fault { IfErr result (IsRulesFault text.now) }
     {
         let words = words_of(alloc, text)?;
