@@ -1,10 +1,10 @@
 //! Reports of faults in `.y` files that are read as bison reads them.
 ghost use Rattle.std.specs.Prelude.{◌≡◌, IfOk};
-ghost use Rattle.lrpar_report.specs.FaultPlaces.{AreGrammarSpans};
-ghost use Rattle.lrpar_report_bison.specs.BisonPlaces.{AreBisonSpans, AreRulesSpans};
+ghost use Rattle.lrpar_report_bison.specs.BisonPlaces.{AreBisonSpans, AreNamesSpans, AreRulesSpans};
 ghost use Rattle.lrpar_report_lines.specs.Labels.{HasOneLabel, label_spans};
 ghost use Rattle.lrpar_report_lines.specs.declared.levels.Level.TheVariants.{Error};
 
+use crate::earlier::{repeated_level, token_is_rule};
 use crate::names::push_near_symbol;
 use crate::unclosed::unread_report;
 use crate::word_order::{early_end, unexpected_report};
@@ -42,10 +42,7 @@ pub fn bison_report(alloc: Global, text: &str, fault: &BisonFault) -> Result<Rep
                 label,
             )
         }
-        BisonFault::RepeatedPrecedence(span) => {
-            let label = "it is in a level of precedence already; leave this one out";
-            about_word(alloc, text, *span, "token ", " has two precedences", label)
-        }
+        BisonFault::RepeatedPrecedence(span) => repeated_level(alloc, text, *span),
         BisonFault::Grammar(fault) => names_report(alloc, text, fault),
         BisonFault::Memory => Err(AllocError),
     }
@@ -67,15 +64,11 @@ fn rules_report(alloc: Global, text: &str, fault: RulesFault) -> Result<Report, 
 // The report of a fault in what the declarations and rules say.
 fn names_report(alloc: Global, text: &str, fault: &GrammarFault) -> Result<Report, AllocError>
     ensures level { IfOk result (λ report. report.level ≡ Error) }
-    ensures spans { IfOk result (λ report. AreGrammarSpans text.now fault.now (label_spans report)) }
+    ensures spans { IfOk result (λ report. AreNamesSpans text.now fault.now (label_spans report)) }
 {
     match fault {
         GrammarFault::UnknownRule(span) => unknown_symbol(alloc, text, *span),
-        GrammarFault::TokenIsRule(span) => {
-            let label = "a name is a token if it is in %token, %left and the like, or %prec";
-            let what = " has the name of a token";
-            about_word(alloc, text, *span, "rule ", what, label)
-        }
+        GrammarFault::TokenIsRule(span) => token_is_rule(alloc, text, *span),
         fault => grammar_report(alloc, text, fault),
     }
 }

@@ -2,6 +2,7 @@
 #![tactic(auto)]
 
 mod directives;
+mod earlier;
 mod expected;
 mod faults;
 mod names;

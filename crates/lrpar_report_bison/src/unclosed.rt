@@ -1,5 +1,5 @@
 //! Reports of places at which no word begins: what isn't closed, and bytes with which nothing begins.
-ghost use Rattle.std.specs.Prelude.{◌≡◌, IfOk};
+ghost use Rattle.std.specs.Prelude.{◌≡◌, ◌<◌, ◌+◌, ◌^◌, IfOk};
 ghost use Rattle.lrpar_report.specs.FaultPlaces.{IsOne};
 ghost use Rattle.lrpar_report_bison.specs.BisonPlaces.{IsOpening, opening_len};
 ghost use Rattle.lrpar_report_lines.specs.Labels.{HasOneLabel, label_spans};
