@@ -1,5 +1,5 @@
 #!/usr/bin/env python3
-"""Looks whether docs/COMMANDS.md has the usage line and the table of options that the help of `nimbleparse` has: commands.py [--write]
+"""Looks whether docs/COMMANDS.md has the usage lines and the table of options that the help of `nimbleparse` has: commands.py [--write]
 
 The help is that of the case which CASE names. The gate compares it with what the program prints, and the program makes it of the options
 that it reads. Prints what differs, and the status is then 1. With --write it writes the page."""
@@ -25,6 +25,11 @@ def help_text():
     return "\n".join(line[3:] for line in case.partition("\n\n")[0].splitlines() if line.startswith("  |"))
 
 
+def usage_lines(text):
+    """The usage lines of a help text, each of which a paragraph of the page begins with."""
+    return text.partition("Usage: ")[2].partition("\n\n")[0].split("\n       ")
+
+
 def rows_of(option, lines):
     """The rows of an option: what is said of it, and then of each word that it takes."""
     values = [match.groups() for match in map(VALUE.match, lines) if match]
@@ -47,8 +52,8 @@ def table(text):
 def main():
     text = help_text()
     page = PAGE.read_text()
-    usage = re.search(r"^Usage: (.*)$", text, re.M).group(1)
-    written = re.sub(r"^`\./nimbleparse [^`]*`", lambda _: f"`./{usage}`", page, flags=re.M)
+    usages = iter(usage_lines(text))
+    written = re.sub(r"^`\./nimbleparse [^`]*`", lambda match: f"`./{next(usages, '')}`", page, flags=re.M)
     written = re.sub(re.escape(HEAD) + r"(?:\|.*\n)*", lambda _: HEAD + "".join(table(text)), written)
     if "--write" in sys.argv[1:]:
         PAGE.write_text(written)

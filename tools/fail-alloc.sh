@@ -192,6 +192,7 @@ printf '%s\n' '%x SUM' '%%' "\\( <SUM>;" "<SUM>n 'N'" "<SUM>\\+ '+'" "<SUM>\\) <
 printf '(n+n+n)' >"$work/sum"
 printf '%s' "%left 'N' %% E: 'N' %prec 'M';" >"$work/unknown.y"
 printf '%s\n' '%%' 'n "M"' >"$work/unknown.l"
+printf '%s' "%token M %left '+' %expect 0 %% E: E '+' E | 'N';" >"$work/unused.y"
 printf '%s\n' '2 + + 3' '' '(2 + 3) * 4' >"$work/input"
 
 refuse_each_call 0 'E
@@ -275,6 +276,14 @@ refuse_each_call_of_nimbleparse 2 '' "$work/unknown.l:2:4: error: the grammar ha
 2| n \"M\"
       ^ did you mean 'N'?
 " -q "$work/unknown.l" "$work/brackets.y"
+refuse_each_call_of_nimbleparse 1 "rules 2, productions 3, tokens 4, states 5, least cap 1, conflicts resolved by precedences 1
+shift/reduce conflicts 0, reduce/reduce conflicts 0, as expected
+" "$work/unused.y:1:8: warning: token 'M' isn't used
+1| %token M %left '+' %expect 0 %% E: E '+' E | 'N';
+          ^ no rule that is reached from the start rule has it
+" "$work/unused.y"
+refuse_each_call_of_nimbleparse 2 '' "nimbleparse: --shifts needs a lexer: a single path is that of a grammar
+" --shifts 2 "$work/unused.y"
 
 refuse_calls_in_both_ways "$most_calls" "$most_calls" "$here/fail-alloc.cases"
 if [[ -e $here/fail-alloc-from.cases ]]; then

@@ -114,6 +114,8 @@ NIMBLEPARSE_COMMANDS = [
     (["brackets.lex", "wrong.y", "whole"], ""),
     (["wrong.lex", "brackets.y", "whole"], ""),
     (["brackets.lex", "brackets.y", "missing"], ""),
+    (["-d", "-v", "conflicts.y"], ""),
+    (["wrong.y"], ""),
     (["-h"], ""),
     (["nothing"], ""),
 ]

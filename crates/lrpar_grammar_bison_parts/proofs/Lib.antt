@@ -1,4 +1,7 @@
+pub mod GrammarLemmas
 pub mod MidruleLemmas
 pub mod NameLemmas
+pub mod OutlineLemmas
+pub mod PrecedenceLemmas
 pub mod SymbolLemmas
 pub mod UnquotedLemmas

@@ -1,8 +1,8 @@
 -- Actions among the symbols of an alternative, one part after another.
-use Rattle.std.proofs.Common.{◌≡◌, ◌<◌, ◌≤◌, ◌+◌, ◌++◌, [], ◌∷◌, ℕ, List, Bool, true, false, cond, map, drop, get_or, length, length-append, length-drop, append_assoc, string_bytes, Option, None, Some, option_map, refl, ap, sym, subst, ◌∙◌, arith}
+use Rattle.std.proofs.Common.{◌≡◌, ◌<◌, ◌≤◌, ◌+◌, ◌++◌, [], ◌∷◌, ℕ, List, Bool, true, false, cond, map, drop, get_or, length, length-append, length-drop, append_assoc, Option, None, Some, option_map, refl, ap, sym, subst, ◌∙◌, arith}
 use Rattle.std.specs.List.{filter}
 use Rattle.std.specs.Option.{option_to_list}
-use Rattle.std.proofs.lemmas.List.{drop_more, get_or-map, length-map, map-append, take_more}
+use Rattle.std.proofs.lemmas.List.{drop_more, length-map, map-append}
 use Rattle.std.proofs.lemmas.List.Elements.{filter-append}
 use Rattle.lrpar_grammar_words.specs.declared.words.Word.{Word as TextWord}
 use Rattle.lrpar_grammar_words.specs.declared.words.WordKind.TheVariants.{Name as TextName}
@@ -72,7 +72,7 @@ words_append xs ys =
     ap (map (λ (x : PlacedItem). x.word)) (filter-append (λ (x : PlacedItem). is_action x.kind) xs ys)
     ∙ map-append (λ (x : PlacedItem). x.word) (filter (λ (x : PlacedItem). is_action x.kind) xs) (filter (λ (x : PlacedItem). is_action x.kind) ys)
 
--- a symbol is no action
+-- no part is both a symbol and an action: the symbol that a part is, if it is one, has no action
 no_words : (kind : ItemKind) (w : PlacedWord) → action_words (symbol_at (record { kind = kind; word = w })) ≡ []
 no_words Symbol w = refl
 no_words Action w = refl
@@ -87,7 +87,7 @@ actions_end last x xs met =
     ∙ ap (λ ws. action_words (option_to_list last) ++ ws)
     (words_append (symbol_at x) (symbols_after (action_at x) xs) ∙ ap (λ ws. ws ++ actions_after (action_at x) xs) (no_words x.kind x.word))
 
--- the last action, by its word
+-- the action that a part is, if it is one, by its word
 is_last : (kind : ItemKind) (w : Word) → action_at (item_of (record { kind = kind; word = w })) ≡ last_action (action_word (record { kind = kind; word = w }))
 is_last Symbol w = refl
 is_last Action w = refl
@@ -151,7 +151,7 @@ counted_end is_open x xs met =
     one false = refl
 
 -- a symbol comes first
-filled_first : (aliases : List PlacedAlias) (midrules : List PlacedTextWord) (x : PlacedItem) (xs : List PlacedItem) → is_action x.kind ≡ false
+pub filled_first : (aliases : List PlacedAlias) (midrules : List PlacedTextWord) (x : PlacedItem) (xs : List PlacedItem) → is_action x.kind ≡ false
     → filled aliases midrules (x ∷ xs) ≡ symbol_word aliases x.word ∷ filled aliases midrules xs
 filled_first aliases [] x xs unmet = refl
 filled_first aliases (m ∷ ms) x xs unmet = ap (λ b. cond b (m ∷ filled aliases ms xs) (symbol_word aliases x.word ∷ filled aliases (m ∷ ms) xs)) unmet

@@ -1,4 +1,7 @@
 pub mod Symbols
 pub mod Midrules
+pub mod Outline
+pub mod Precedences
 pub mod Unquoted
 pub mod Faults
+pub mod Files

@@ -1,5 +1,5 @@
 -- Actions among the symbols of an alternative: each is a rule without symbols, as in bison.
-use Rattle.std.specs.Prelude.{◌≡◌, ◌+◌, ◌∷◌, ◌++◌, [], Bool, true, false, ℕ, zero, suc, List, Option, None, Some, codes, filter, length, map, Vec, if◌then◌else◌}
+use Rattle.std.specs.Prelude.{◌≡◌, ◌+◌, ◌∷◌, ◌++◌, [], Bool, true, false, ℕ, zero, suc, List, Option, None, Some, codes, filter, map, Vec, if◌then◌else◌}
 use Rattle.std.specs.BTreeMap.{BTreeMap}
 use Rattle.std.specs.Borrow.{Bor}
 use Rattle.std.specs.Fmt.{decimal}

@@ -1,5 +1,5 @@
 -- Names of tokens without the quotes of literals.
-use Rattle.std.specs.Prelude.{◌≡◌, ◌-◌, ◌==◌, ◌&&◌, ◌||◌, Bool, false, ℕ, List, [], ◌∷◌, length, map, nat_lt, slice_index, slice_range, Vec, if◌then◌else◌}
+use Rattle.std.specs.Prelude.{◌≡◌, ◌-◌, ◌==◌, ◌&&◌, ◌||◌, Bool, ℕ, List, length, map, nat_lt, slice_index, slice_range, Vec, if◌then◌else◌}
 use Rattle.lrpar_grammar_reader.specs.declared.parts.TokenPart.{TokenPart}
 use Rattle.lrpar_grammar_reader.specs.Grammar.{TokenName}
 use Rattle.lrpar_grammar_reader.specs.Parts.{token_name_of}

@@ -108,8 +108,8 @@ pub fn filled<'a>(
     Ok(symbols)
 }
 
-// Whether the part is a symbol.
-fn is_symbol(kind: ItemKind) -> bool
+/// Whether the part is a symbol.
+pub fn is_symbol(kind: ItemKind) -> bool
     ensures { result ≡ is_symbol kind }
 {
     matches!(kind, ItemKind::Symbol)

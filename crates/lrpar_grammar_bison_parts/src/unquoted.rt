@@ -27,8 +27,8 @@ fn unquoted_token(alloc: Global, token: &TokenPart) -> Result<TokenPart, AllocEr
     })
 }
 
-// The text without its quotes, if it has them.
-fn unquoted(text: &str) -> &str
+/// The text without its quotes, if it has them.
+pub fn unquoted(text: &str) -> &str
     ensures { result.now ≡ unquoted text.now }
 {
     if is_in_quotes(text.as_bytes()) {

@@ -12,7 +12,7 @@ use Rattle.lrpar_grammar_bison.proofs.OrderLemmas.{AreInOrder, LiesBetween, othe
 use Rattle.lrpar_grammar_bison_rules.specs.declared.word_order.Expected.{Expected}
 use Rattle.lrpar_grammar_bison_rules.specs.declared.word_order.Expected.TheVariants.{Declaration}
 use Rattle.lrpar_grammar_bison_rules.specs.declared.word_order.Role.{Role}
-use Rattle.lrpar_grammar_bison_rules.specs.declared.word_order.Role.TheVariants.{Nothing, Start, Token, Alias, Level, LevelName, Expected as ExpectedRole, ExpectedRr, DefaultPrec, Defined, Item}
+use Rattle.lrpar_grammar_bison_rules.specs.declared.word_order.Role.TheVariants.{Nothing, Start, Token, Alias, Level, LevelName, Expected as ExpectedRole, ExpectedRr, Glr, DefaultPrec, Defined, Item}
 use Rattle.lrpar_grammar_bison_rules.specs.declared.word_order.Step.{Step}
 use Rattle.lrpar_grammar_bison_rules.specs.Rules.{AreOfDefinedRules, AreRulesOfText, HaveOrderedItems, PlacedAlternative, PlacedItem, Rules, RulesRead, end_word, ended, finished, last_of, no_rules, read_on, rules_read, with_closed, with_role, with_step}
 use Rattle.lrpar_grammar_bison_rules.specs.Signs.{sign_of}
@@ -81,6 +81,7 @@ role_sound place later r (Level kind) w from to le sound = let h = later_sound p
 role_sound place later r LevelName w from to le sound = let h = later_sound place later r le sound in record { defined = h.defined; before = h.before; apart = h.apart; ended = h.ended }
 role_sound place later r ExpectedRole w from to le sound = let h = later_sound place later r le sound in record { defined = h.defined; before = h.before; apart = h.apart; ended = h.ended }
 role_sound place later r ExpectedRr w from to le sound = let h = later_sound place later r le sound in record { defined = h.defined; before = h.before; apart = h.apart; ended = h.ended }
+role_sound place later r Glr w from to le sound = let h = later_sound place later r le sound in record { defined = h.defined; before = h.before; apart = h.apart; ended = h.ended }
 role_sound place later r (DefaultPrec has) w from to le sound = let h = later_sound place later r le sound in record { defined = h.defined; before = h.before; apart = h.apart; ended = h.ended }
 role_sound place later r Defined w from to le sound =
     let h = later_sound place later r le sound in

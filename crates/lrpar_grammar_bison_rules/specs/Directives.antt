@@ -3,7 +3,7 @@ use Rattle.std.specs.Prelude.{ℕ, Bool, true, false, ◌||◌, List, Option, So
 use Rattle.std.specs.Option.{option_or}
 use Rattle.lrpar_table_precedence.specs.declared.precedence.AssocKind.TheVariants.{Left, Right, Nonassoc, Undeclared}
 use Rattle.lrpar_grammar_bison_rules.specs.declared.directives.Directive.{Directive}
-use Rattle.lrpar_grammar_bison_rules.specs.declared.directives.Directive.TheVariants.{Start, Token, Nonterminal, Types, Level, Properties, NamedCode, Code, Params, Define, Text, Prefix, Header, Flag, DefaultPrec, Expect, ExpectRr, Prec, Empty, Dprec, Merge}
+use Rattle.lrpar_grammar_bison_rules.specs.declared.directives.Directive.TheVariants.{Start, Token, Nonterminal, Types, Level, Properties, NamedCode, Code, Params, Define, Text, Prefix, Header, Flag, Glr, DefaultPrec, Expect, ExpectRr, Prec, Empty, Dprec, Merge}
 
 -- a directive before symbols
 abbrev pub symbols_directive : List ℕ → Option Directive
@@ -37,11 +37,11 @@ text_directive name =
 -- the directive says nothing of the grammar, and stands alone
 abbrev pub is_flag : List ℕ → Bool
 is_flag name =
-    bytes_eq name (codes "locations") || (bytes_eq name (codes "debug") || (bytes_eq name (codes "verbose") || (bytes_eq name (codes "yacc")
-    || (bytes_eq name (codes "no-lines") || (bytes_eq name (codes "no_lines") || (bytes_eq name (codes "token-table") || (bytes_eq name (codes "token_table")
-    || (bytes_eq name (codes "pure-parser") || (bytes_eq name (codes "pure_parser") || (bytes_eq name (codes "error-verbose") || (bytes_eq name (codes "error_verbose")
-    || (bytes_eq name (codes "fixed-output-files") || (bytes_eq name (codes "fixed_output_files") || (bytes_eq name (codes "glr-parser")
-    || bytes_eq name (codes "nondeterministic-parser")))))))))))))))
+    bytes_eq name (codes "locations") || (bytes_eq name (codes "debug") || (bytes_eq name (codes "verbose")
+    || (bytes_eq name (codes "yacc") || (bytes_eq name (codes "no-lines") || (bytes_eq name (codes "no_lines")
+    || (bytes_eq name (codes "token-table") || (bytes_eq name (codes "token_table") || (bytes_eq name (codes "pure-parser")
+    || (bytes_eq name (codes "pure_parser") || (bytes_eq name (codes "error-verbose") || (bytes_eq name (codes "error_verbose")
+    || (bytes_eq name (codes "fixed-output-files") || (bytes_eq name (codes "fixed_output_files"))))))))))))))
 
 -- a directive before a number or a type, or one that stands alone
 abbrev pub other_directive : List ℕ → Option Directive
@@ -53,7 +53,8 @@ other_directive name =
     else (if bytes_eq name (codes "expect-rr") || bytes_eq name (codes "expect_rr") then Some ExpectRr
     else (if bytes_eq name (codes "default-prec") || bytes_eq name (codes "default_prec") then Some (DefaultPrec true)
     else (if bytes_eq name (codes "no-default-prec") || bytes_eq name (codes "no_default_prec") then Some (DefaultPrec false)
-    else (if is_flag name then Some Flag else None)))))))
+    else (if bytes_eq name (codes "glr-parser") || bytes_eq name (codes "nondeterministic-parser") then Some Glr
+    else (if is_flag name then Some Flag else None))))))))
 
 -- the directive with that name
 abbrev pub directive_named : List ℕ → Option Directive

@@ -20,7 +20,7 @@ use Rattle.lrpar_grammar_bison_rules.specs.declared.word_order.Expected.{Expecte
 use Rattle.lrpar_grammar_bison_rules.specs.declared.word_order.Expected.TheVariants.{Declaration}
 use Rattle.lrpar_grammar_bison_rules.specs.declared.word_order.ItemKind.{ItemKind}
 use Rattle.lrpar_grammar_bison_rules.specs.declared.word_order.Role.{Role}
-use Rattle.lrpar_grammar_bison_rules.specs.declared.word_order.Role.TheVariants.{Nothing, Start, Token, Alias as AliasRole, Level, LevelName, Expected as ExpectedRole, ExpectedRr, DefaultPrec, Defined, Item as ItemRole}
+use Rattle.lrpar_grammar_bison_rules.specs.declared.word_order.Role.TheVariants.{Nothing, Start, Token, Alias as AliasRole, Level, LevelName, Expected as ExpectedRole, ExpectedRr, Glr, DefaultPrec, Defined, Item as ItemRole}
 use Rattle.lrpar_grammar_bison_rules.specs.declared.word_order.Step.{Step}
 use Rattle.lrpar_grammar_bison_rules.specs.Signs.{sign_of}
 use Rattle.lrpar_grammar_bison_rules.specs.WordOrder.{after, is_in_alternative, may_end}
@@ -47,8 +47,8 @@ pub record PlacedRank : Type 0 where
   pub precedence : Precedence
 
 -- The start rules; the tokens that are declared, and the texts of some; the levels of precedence, and their tokens; the numbers of
--- conflicts that are expected; whether a production has the precedence of its last token; the rules that are defined; the alternatives
--- that have ended, and the parts after the last of them.
+-- conflicts that are expected; whether the parser follows each way out of a conflict; whether a production has the precedence of its
+-- last token; the rules that are defined; the alternatives that have ended, and the parts after the last of them.
 pub record Rules : Type 0 where
   pub starts : List PlacedWord
   pub tokens : List PlacedWord
@@ -57,6 +57,7 @@ pub record Rules : Type 0 where
   pub ranked : List PlacedRank
   pub expected : List PlacedWord
   pub expected_rr : List PlacedWord
+  pub is_glr : Bool
   pub has_default_prec : Bool
   pub defined : List PlacedWord
   pub alternatives : List PlacedAlternative
@@ -88,6 +89,7 @@ rules_in x = record {
   ranked = map rank_of x.ranked.items;
   expected = map placed x.expected.items;
   expected_rr = map placed x.expected_rr.items;
+  is_glr = x.is_glr;
   has_default_prec = x.has_default_prec;
   defined = map placed x.defined.items;
   alternatives = map alternative_of x.alternatives.items;
@@ -104,6 +106,7 @@ no_rules = record {
   ranked = [];
   expected = [];
   expected_rr = [];
+  is_glr = false;
   has_default_prec = true;
   defined = [];
   alternatives = [];
@@ -140,6 +143,7 @@ with_role r (Level kind) w = record r { levels = r.levels ++ kind ∷ [] }
 with_role r LevelName w = record r { ranked = r.ranked ++ rank_by r w }
 with_role r ExpectedRole w = record r { expected = r.expected ++ w ∷ [] }
 with_role r ExpectedRr w = record r { expected_rr = r.expected_rr ++ w ∷ [] }
+with_role r Glr w = record r { is_glr = true }
 with_role r (DefaultPrec has) w = record r { has_default_prec = has }
 with_role r Defined w = record r { defined = r.defined ++ w ∷ [] }
 with_role r (ItemRole kind) w = record r { items = r.items ++ record { kind = kind; word = w } ∷ [] }

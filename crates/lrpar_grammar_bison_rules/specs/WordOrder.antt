@@ -3,7 +3,7 @@ use Rattle.std.specs.Prelude.{Bool, true, false, Option, Some, None, option_map}
 use Rattle.std.specs.Option.{option_map_or, option_or}
 use Rattle.lrpar_grammar_bison.specs.declared.words.WordKind.TheVariants.{Name, Character, Text, Translated, Number, Tag, Code, Prologue, Label, Colon, Bar, Semicolon, Equals, Sections}
 use Rattle.lrpar_grammar_bison_rules.specs.declared.directives.Directive.{Directive}
-use Rattle.lrpar_grammar_bison_rules.specs.declared.directives.Directive.TheVariants.{Start as StartSign, Token as TokenSign, Nonterminal as NonterminalSign, Types as TypesSign, Level as LevelSign, Properties as PropertiesSign, NamedCode as NamedCodeSign, Code as CodeSign, Params as ParamsSign, Define as DefineSign, Text as TextSign, Prefix as PrefixSign, Header as HeaderSign, Flag as FlagSign, DefaultPrec as DefaultPrecSign, Expect as ExpectSign, ExpectRr as ExpectRrSign, Prec as PrecSign, Empty as EmptySign, Dprec as DprecSign, Merge as MergeSign}
+use Rattle.lrpar_grammar_bison_rules.specs.declared.directives.Directive.TheVariants.{Start as StartSign, Token as TokenSign, Nonterminal as NonterminalSign, Types as TypesSign, Level as LevelSign, Properties as PropertiesSign, NamedCode as NamedCodeSign, Code as CodeSign, Params as ParamsSign, Define as DefineSign, Text as TextSign, Prefix as PrefixSign, Header as HeaderSign, Flag as FlagSign, Glr as GlrSign, DefaultPrec as DefaultPrecSign, Expect as ExpectSign, ExpectRr as ExpectRrSign, Prec as PrecSign, Empty as EmptySign, Dprec as DprecSign, Merge as MergeSign}
 use Rattle.lrpar_grammar_bison_rules.specs.declared.signs.Sign.{Sign}
 use Rattle.lrpar_grammar_bison_rules.specs.declared.signs.Sign.TheVariants.{Directive as DirectiveIs, RuleName, Other}
 use Rattle.lrpar_grammar_bison_rules.specs.declared.word_order.Before.{Before}
@@ -12,7 +12,7 @@ use Rattle.lrpar_grammar_bison_rules.specs.declared.word_order.Expected.{Expecte
 use Rattle.lrpar_grammar_bison_rules.specs.declared.word_order.Expected.TheVariants.{Declaration, List as InList, PropertiesCode, NameOrCode, Code as CodeNext, FirstParam, MoreParams, DefineName, DefineValue, TextOrEquals, PlainText, OptionalText, ExpectNumber, ExpectRrNumber, DeclarationEnd, Rule, RuleOrAlternative, RuleColon, Symbol, SymbolOrLabel, TypedAction, PrecName, Number as NumberNext, MergeType, End}
 use Rattle.lrpar_grammar_bison_rules.specs.declared.word_order.ItemKind.TheVariants.{Symbol as SymbolItem, Action, Prec, Empty}
 use Rattle.lrpar_grammar_bison_rules.specs.declared.word_order.Role.{Role}
-use Rattle.lrpar_grammar_bison_rules.specs.declared.word_order.Role.TheVariants.{Nothing, Start, Token, Alias, Level, LevelName, Expected as ExpectedRole, ExpectedRr, DefaultPrec, Defined, Item}
+use Rattle.lrpar_grammar_bison_rules.specs.declared.word_order.Role.TheVariants.{Nothing, Start, Token, Alias, Level, LevelName, Expected as ExpectedRole, ExpectedRr, Glr, DefaultPrec, Defined, Item}
 use Rattle.lrpar_grammar_bison_rules.specs.declared.word_order.Section.{Section}
 use Rattle.lrpar_grammar_bison_rules.specs.declared.word_order.Section.TheVariants.{Declarations, Rules}
 use Rattle.lrpar_grammar_bison_rules.specs.declared.word_order.Step.{Step}
@@ -106,6 +106,7 @@ declaration_directive TextSign = step_to Nothing PlainText
 declaration_directive PrefixSign = step_to Nothing TextOrEquals
 declaration_directive HeaderSign = step_to Nothing OptionalText
 declaration_directive FlagSign = step_to Nothing Declaration
+declaration_directive GlrSign = step_to Glr Declaration
 declaration_directive ExpectSign = step_to Nothing ExpectNumber
 declaration_directive ExpectRrSign = step_to Nothing ExpectRrNumber
 declaration_directive d = shared_directive Declarations d

@@ -35,6 +35,8 @@ pub enum Directive {
     Header,
     /// Nothing: `%locations` and its like.
     Flag,
+    /// Nothing. The parser follows each way out of a conflict: `%glr-parser`.
+    Glr,
     /// Nothing. A production has the precedence of its last token: `%default-prec`; or has none without `%prec`: `%no-default-prec`.
     DefaultPrec(bool),
     /// A number of conflicts between a shift and a reduction: `%expect`.
@@ -117,6 +119,7 @@ fn other_directive(name: &str) -> Option<Directive>
         "expect-rr" | "expect_rr" => Some(Directive::ExpectRr),
         "default-prec" | "default_prec" => Some(Directive::DefaultPrec(true)),
         "no-default-prec" | "no_default_prec" => Some(Directive::DefaultPrec(false)),
+        "glr-parser" | "nondeterministic-parser" => Some(Directive::Glr),
         _ if is_flag(name) => Some(Directive::Flag),
         _ => None,
     }
@@ -142,7 +145,5 @@ fn is_flag(name: &str) -> bool
             | "error_verbose"
             | "fixed-output-files"
             | "fixed_output_files"
-            | "glr-parser"
-            | "nondeterministic-parser"
     )
 }

@@ -61,6 +61,8 @@ pub struct FileRules<'a> {
     pub expected: Vec<Word<'a>>,
     /// The numbers of conflicts between reductions that are expected.
     pub expected_rr: Vec<Word<'a>>,
+    /// Whether the parser follows each way out of a conflict.
+    pub is_glr: bool,
     /// Whether a production without `%prec` has the precedence of its last token.
     pub has_default_prec: bool,
     /// The rules that are defined.
@@ -82,6 +84,7 @@ impl<'a> Drop for FileRules<'a> {
             ranked,
             expected,
             expected_rr,
+            is_glr: _,
             has_default_prec: _,
             defined,
             alternatives,
@@ -181,6 +184,7 @@ impl<'a> FileRules<'a> {
             ranked: Vec::new(alloc),
             expected: Vec::new(alloc),
             expected_rr: Vec::new(alloc),
+            is_glr: false,
             has_default_prec: true,
             defined: Vec::new(alloc),
             alternatives: Vec::new(alloc),
@@ -212,6 +216,10 @@ impl<'a> FileRules<'a> {
             Role::LevelName => self.add_ranked(word),
             Role::Expected => push(&mut self.expected, word),
             Role::ExpectedRr => push(&mut self.expected_rr, word),
+            Role::Glr => {
+                self.is_glr = true;
+                Ok(())
+            }
             Role::DefaultPrec(has) => {
                 self.has_default_prec = has;
                 Ok(())

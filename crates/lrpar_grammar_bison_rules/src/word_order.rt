@@ -122,6 +122,8 @@ pub enum Role {
     Expected,
     /// The number of conflicts between reductions that are expected.
     ExpectedRr,
+    /// It says that the parser follows each way out of a conflict.
+    Glr,
     /// It says whether a production has the precedence of its last token.
     DefaultPrec(bool),
     /// A rule that is defined.
@@ -250,6 +252,7 @@ fn declaration_directive(directive: Directive) -> Option<Step>
         Directive::Prefix => step_to(Role::Nothing, Expected::TextOrEquals),
         Directive::Header => step_to(Role::Nothing, Expected::OptionalText),
         Directive::Flag => step_to(Role::Nothing, Expected::Declaration),
+        Directive::Glr => step_to(Role::Glr, Expected::Declaration),
         Directive::Expect => step_to(Role::Nothing, Expected::ExpectNumber),
         Directive::ExpectRr => step_to(Role::Nothing, Expected::ExpectRrNumber),
         _ => shared_directive(Section::Declarations, directive),

@@ -1,7 +1,7 @@
 -- Trees of an operator grammar, by their form; and what holds along their spines. The right spine of a tree is its root, its root's last
 -- child, and so on; the left spine goes by first children. If a tree respects the precedences, and its root against a token reduces, so
 -- does each node of its right spine; and if a production against its root's operator shifts, so it does against each one of its left spine.
-use Rattle.std.proofs.Common.{◌≡◌, ◌<◌, ◌∙◌, inl, inr, refl, sym, ap, subst, arith, ℕ, List, [], ◌∷◌, length, None, Option, Some, slice_get}
+use Rattle.std.proofs.Common.{◌≡◌, ◌≢◌, ◌<◌, ◌∙◌, inl, inr, refl, sym, ap, subst, arith, ℕ, List, [], ◌∷◌, length, None, Option, Some, slice_get}
 use Rattle.std.proofs.lemmas.Bool.{cases_lt}
 use Rattle.lrpar_grammar.specs.Grammar.{Grammar, GrammarSymbol, IsWellFormed, Nonterminal, Terminal, prods_len, rule_of, start_prod, symbols_of}
 use Rattle.lrpar_grammar.specs.Tree.{Branch, Cons, Fits, Forest, ForestFits, Leaf, Nil, Tree}
@@ -12,18 +12,20 @@ use Rattle.lrpar_table_precedence.specs.declared.precedence.Resolution.TheVarian
 use Rattle.lrpar_table_build.specs.KeptApart.{BeginsWithItsRule, EndsInItsRule, ReducesOrFails, ShiftsOrFails}
 use Rattle.lrpar_parse_precedences.specs.OperatorGrammars.{IsAtom, IsBrackets, IsInfix, IsOperatorGrammar, IsOperatorProd, IsRespectful}
 use Rattle.lrpar_parse_precedences.specs.PrecedenceTrees.{IsNodeOf}
-use Rattle.lrpar_parse_precedences.proofs.LevelLemmas.{reduces_too, shifts_too}
+use Rattle.lrpar_parse_precedences.proofs.LevelLemmas.{decides_some, reduces_too, shifts_too}
 
 -- what isn't a shift or an error is a reduction, and what isn't a reduction or an error is a shift
-reduce_left : (r : Resolution) → ¬ (ShiftsOrFails (Some r)) → r ≡ Reduce
-reduce_left Shift says = absurd (says tt)
-reduce_left Reduce says = refl
-reduce_left Error says = absurd (says tt)
+reduce_left : (r : Option Resolution) → r ≢ None → ¬ (ShiftsOrFails r) → r ≡ Some Reduce
+reduce_left None some says = absurd (some refl)
+reduce_left (Some Shift) some says = absurd (says tt)
+reduce_left (Some Reduce) some says = refl
+reduce_left (Some Error) some says = absurd (says tt)
 
-shift_left : (r : Resolution) → ¬ (ReducesOrFails (Some r)) → r ≡ Shift
-shift_left Shift says = refl
-shift_left Reduce says = absurd (says tt)
-shift_left Error says = absurd (says tt)
+shift_left : (r : Option Resolution) → r ≢ None → ¬ (ReducesOrFails r) → r ≡ Some Shift
+shift_left None some says = absurd (some refl)
+shift_left (Some Shift) some says = refl
+shift_left (Some Reduce) some says = absurd (says tt)
+shift_left (Some Error) some says = absurd (says tt)
 
 -- an infix production: its operator, and the precedence of both
 pub record IsInfixOf (g : Grammar) (precedences : PrecedenceLists) (q b : ℕ) : Type 0 where
@@ -84,7 +86,7 @@ module _ (g : Grammar) (precedences : PrecedenceLists) (well : IsWellFormed g) (
 
   -- what an infix production against an operator says
   decides : (p b q t : ℕ) (p_is : IsInfixOf g precedences p b) (q_is : IsInfixOf g precedences q t)
-      → resolution_of precedences p t ≡ Some (against p_is.precedence q_is.precedence)
+      → resolution_of precedences p t ≡ against p_is.precedence q_is.precedence
   decides p b q t p_is q_is =
       ap (λ (o : Option Precedence). decided o (token_precedence precedences t)) p_is.of_prod
       ∙ ap (λ (o : Option Precedence). decided (Some p_is.precedence) o) q_is.of_token
@@ -212,9 +214,10 @@ module _ (g : Grammar) (precedences : PrecedenceLists) (well : IsWellFormed g) (
         let n_is = infix_of n a node_begins in
         let q_is = infix_of q b begins in
         let is = decides n a q b n_is q_is in
-        let not_first : ¬ (ShiftsOrFails (Some (against n_is.precedence q_is.precedence))) = λ says.
+        let not_first : ¬ (ShiftsOrFails (against n_is.precedence q_is.precedence)) = λ says.
         (free.first n q b (ends_infix n a node_begins) begins (subst ShiftsOrFails (sym is) says)).0 refl node in
-        is ∙ ap (λ (r : Resolution). Some r) (reduce_left (against n_is.precedence q_is.precedence) not_first)
+        let some = decides_some n_is.precedence q_is.precedence (operators.declared b q_is.precedence q_is.of_token) in
+        is ∙ reduce_left (against n_is.precedence q_is.precedence) some not_first
 
     pub right_root : (q b : ℕ) (x : X) (left right : Tree X) → BeginsWithItsRule g q g.start b → IsRespectful g precedences (Branch q (Cons left (Cons (Leaf x) (Cons right Nil))))
         → RootShifts q right
@@ -222,15 +225,15 @@ module _ (g : Grammar) (precedences : PrecedenceLists) (well : IsWellFormed g) (
         let n_is = infix_of n a node_begins in
         let q_is = infix_of q b begins in
         let is = decides q b n a q_is n_is in
-        let not_last : ¬ (ReducesOrFails (Some (against q_is.precedence n_is.precedence))) = λ says.
+        let not_last : ¬ (ReducesOrFails (against q_is.precedence n_is.precedence)) = λ says.
         (free.last q n a (ends_infix q b begins) node_begins (subst ReducesOrFails (sym is) says)).0 refl node in
-        is ∙ ap (λ (r : Resolution). Some r) (shift_left (against q_is.precedence n_is.precedence) not_last)
+        let some = decides_some q_is.precedence n_is.precedence (operators.declared a n_is.precedence n_is.of_token) in
+        is ∙ shift_left (against q_is.precedence n_is.precedence) some not_last
 
     -- what is decided
     decided_is : (p b q t : ℕ) (p_is : IsInfixOf g precedences p b) (q_is : IsInfixOf g precedences q t) (r : Resolution)
-        → resolution_of precedences p t ≡ Some r → against p_is.precedence q_is.precedence ≡ r
-    decided_is p b q t p_is q_is r is =
-        let same : ◌≡◌ {A = Option Resolution} (Some (against p_is.precedence q_is.precedence)) (Some r) = sym (decides p b q t p_is q_is) ∙ is in cc
+        → resolution_of precedences p t ≡ Some r → against p_is.precedence q_is.precedence ≡ Some r
+    decided_is p b q t p_is q_is r is = sym (decides p b q t p_is q_is) ∙ is
 
     pub right_spine : (tree : Tree X) → IsOperatorTree tree → IsRespectful g precedences tree → (t : ℕ) → RootReduces t tree → RightReduces t tree
     right_spine _ (AtomTree q a x low is here) free t root = (root, tt)
@@ -245,8 +248,7 @@ module _ (g : Grammar) (precedences : PrecedenceLists) (well : IsWellFormed g) (
           let shifts = decided_is q b n a q_is n_is Shift (right_root q b x left right begins free n a node node_begins) in
           let reduces = decided_is q b other t q_is t_is Reduce (root q b other refl begins op) in
           decides n a other t n_is t_is
-          ∙ ap (λ (r : Resolution). Some r)
-          (reduces_too q_is.precedence n_is.precedence t_is.precedence (operators.leveled a t n_is.precedence t_is.precedence n_is.of_token t_is.of_token) shifts reduces)),
+          ∙ reduces_too q_is.precedence n_is.precedence t_is.precedence (operators.leveled a t n_is.precedence t_is.precedence n_is.of_token t_is.of_token) shifts reduces),
     )
 
     pub left_spine : (tree : Tree X) → IsOperatorTree tree → IsRespectful g precedences tree → (p c : ℕ) → BeginsWithItsRule g p g.start c → RootShifts p tree → LeftShifts p tree
@@ -262,7 +264,7 @@ module _ (g : Grammar) (precedences : PrecedenceLists) (well : IsWellFormed g) (
           let shifts = decided_is p c q b p_is q_is Shift (root q b refl begins) in
           let reduces = decided_is n a q b n_is q_is Reduce (left_root q b x left right begins free n a q node node_begins begins) in
           decides p c n a p_is n_is
-          ∙ ap (λ (r : Resolution). Some r) (shifts_too p_is.precedence n_is.precedence q_is.precedence shifts reduces)),
+          ∙ shifts_too p_is.precedence n_is.precedence q_is.precedence shifts reduces),
     )
 
     -- at a token that is no operator, nothing is asked of the right spine

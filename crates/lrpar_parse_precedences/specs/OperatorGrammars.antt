@@ -1,9 +1,10 @@
 -- Operator grammars: one rule, whose productions are atoms, brackets and infix operators. Each text that has a tree which respects the
 -- precedences is taken, with that tree, and it has no other such tree.
-use Rattle.std.specs.Prelude.{◌≡◌, ◌<◌, ℕ, [], ◌∷◌, Some, slice_get}
+use Rattle.std.specs.Prelude.{◌≡◌, ◌≢◌, ◌<◌, ℕ, [], ◌∷◌, Some, slice_get}
 use Rattle.lrpar_grammar.specs.Grammar.{Grammar, IsWellFormed, Nonterminal, Terminal, rule_of, start_prod, symbols_of}
 use Rattle.lrpar_grammar.specs.Tree.{Tree, Fits, leaves, productions}
 use Rattle.lrpar_table_precedence.specs.Precedence.{PrecedenceLists, prod_precedence, resolution_of, token_precedence}
+use Rattle.lrpar_table_precedence.specs.declared.precedence.AssocKind.TheVariants.{Undeclared}
 use Rattle.lrpar_table_precedence.specs.declared.precedence.Precedence.{Precedence}
 use Rattle.lrpar_table_rows.specs.Graph.{Graph}
 use Rattle.lrpar_table_rows.specs.Table.{IsClosed, Table}
@@ -20,14 +21,15 @@ pub data IsOperatorProd (g : Grammar) (precedences : PrecedenceLists) (p : ℕ) 
   IsInfix : (b : ℕ) (x : Precedence) → symbols_of g p ≡ Nonterminal g.start ∷ Terminal b ∷ Nonterminal g.start ∷ []
       → prod_precedence precedences p ≡ Some x → token_precedence precedences b ≡ Some x → IsOperatorProd g precedences p
 
--- The listed productions are of the start rule, and each is one of these; a token is in one place of one production at most; and tokens
--- of one level associate alike, as those of levels do.
+-- The listed productions are of the start rule, and each is one of these; a token is in one place of one production at most; tokens of one
+-- level associate alike, as those of levels do; and each level says how its tokens associate.
 pub record IsOperatorGrammar (g : Grammar) (precedences : PrecedenceLists) : Type 0 where
   pub one_rule : (p : ℕ) → p < start_prod g → rule_of g p ≡ g.start
   pub prods : (p : ℕ) → p < start_prod g → IsOperatorProd g precedences p
   pub apart : (p q k j a : ℕ) → slice_get (symbols_of g p) k ≡ Some (Terminal a) → slice_get (symbols_of g q) j ≡ Some (Terminal a) → (p ≡ q) × (k ≡ j)
   pub leveled : (a b : ℕ) (x y : Precedence) → token_precedence precedences a ≡ Some x → token_precedence precedences b ≡ Some y → x.level ≡ y.level
       → x.kind ≡ y.kind
+  pub declared : (a : ℕ) (x : Precedence) → token_precedence precedences a ≡ Some x → x.kind ≢ Undeclared
 
 -- the tree respects what each production against each operator says of first and last children
 pub record IsRespectful {X : Type 0} (g : Grammar) (precedences : PrecedenceLists) (tree : Tree X) : Type 0 where

@@ -34,12 +34,26 @@ pub(crate) const GRAMMAR: &str = "grammar";
 
 pub(crate) const INPUT: &str = "input";
 
-const ABOUT: &str = "Reads the rules of a lexer and a grammar, and parses each input";
+/// The options about lexers and inputs, each with the word that it is given by.
+pub(crate) const INPUT_OPTIONS: [(&str, &str); 4] = [
+    (REPAIRS, "-r"),
+    (LIMIT, "--limit"),
+    (SHIFTS, "--shifts"),
+    (FORMAT, "--format"),
+];
+
+const ABOUT: &str =
+    "Reads the rules of a lexer and a grammar, and parses each input; or looks at a grammar alone";
+
+const USAGE: &str = "\
+nimbleparse [OPTIONS] <LEXER> <GRAMMAR> [INPUT]...
+       nimbleparse [OPTIONS] <GRAMMAR>";
 
 const AFTER_HELP: &str = "\
 All words after -- are paths.
 
-Status 0: each input has a tree and no error; 1: an input has errors; 2: there is no result.";
+Status 0: each input has a tree and no error; 1: an input has errors; 2: there is no result.
+Of a grammar alone, 0: nothing is warned of; 1: something is; 2: there is no table.";
 
 const LONG_HELP_OF_STATES: &str = "\
 Print the states of the table: the kernel items of each with their lookaheads, and the states to
@@ -209,6 +223,7 @@ pub(crate) fn command_line<'a>(
 ) -> Result<Command<'a>, AllocError> {
     let command = Command::new(alloc, "nimbleparse")
         .about(ABOUT)
+        .override_usage(USAGE)
         .after_help(AFTER_HELP)
         .no_binary_name(true)
         .args_override_self(true);
@@ -219,20 +234,18 @@ pub(crate) fn command_line<'a>(
     add_format(alloc, command, values)
 }
 
-// Adds the paths.
+// Adds the paths. A single one is found under the name of the lexer, though it is that of a grammar.
 fn add_paths<'a>(alloc: Global, command: Command<'a>) -> Result<Command<'a>, AllocError> {
     command
         .arg(
             Arg::new(alloc, LEXER)
                 .value_name("LEXER")
-                .help("The rules of a lexer; with a line %%, a .l file of lrlex")
-                .required(true),
+                .help("The rules of a lexer; with a line %%, a .l file of lrlex"),
         )?
         .arg(
             Arg::new(alloc, GRAMMAR)
                 .value_name("GRAMMAR")
-                .help("A grammar text, or a .y file of yacc or of grmtools")
-                .required(true),
+                .help("A grammar text, or a .y file of yacc or of grmtools"),
         )?
         .arg(
             Arg::new(alloc, INPUT)

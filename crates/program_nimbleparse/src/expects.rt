@@ -9,13 +9,13 @@ use std::alloc::{AllocError, Global};
 
 /// How many conflicts of each kind a table has.
 #[derive(Clone, Copy)]
-struct Counts {
-    shift_reduce: usize,
-    reduce_reduce: usize,
+pub(crate) struct Counts {
+    pub(crate) shift_reduce: usize,
+    pub(crate) reduce_reduce: usize,
 }
 
-// The conflicts of a table.
-fn counts_of(stable: &StateTable<u32>) -> Counts {
+/// The conflicts of a table.
+pub(crate) fn counts_of(stable: &StateTable<u32>) -> Counts {
     match stable.conflicts() {
         Some(conflicts) => Counts {
             shift_reduce: conflicts.sr_len(),
@@ -25,6 +25,14 @@ fn counts_of(stable: &StateTable<u32>) -> Counts {
             shift_reduce: 0,
             reduce_reduce: 0,
         },
+    }
+}
+
+/// Whether a file says how many conflicts it expects.
+pub(crate) fn expects_conflicts(declarations: Option<&Declarations<'_>>) -> bool {
+    match declarations {
+        Some(declared) => !declared.expected.is_empty() || !declared.expected_rr.is_empty(),
+        None => false,
     }
 }
 

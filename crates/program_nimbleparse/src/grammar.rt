@@ -2,15 +2,17 @@
 ghost use Rattle.lrpar_table_rows.specs.Safe.{IsSafe};
 
 use crate::conflicts::push_conflicts;
-use crate::expects::{expect, has_expected};
+use crate::expects::{expect, expects_conflicts, has_expected};
 use crate::kind::GrammarKind;
+use crate::program::Terminal;
 use crate::show::{fault_of_report, push_reports, write_messages};
 use crate::source::{Source, source_of};
 use crate::states::push_states;
+use crate::useless::useless_reports;
 use lrpar_grammar::grammar::YaccGrammar;
 use lrpar_grammar::span::TIdx;
 use lrpar_grammar_yacc::declarations::Declarations;
-use lrpar_report::{Report, Reporter, build_report, chain_report, rule_warnings_but};
+use lrpar_report::{Report, Reporter, build_report, chain_report};
 use lrpar_table::build::BuildFault;
 use lrpar_table::check::{CheckFault, ParserData, Refused};
 use lrpar_table::table::{StateGraph, StateTable};
@@ -34,17 +36,42 @@ pub struct Asked {
     pub is_quiet: bool,
     /// Whether the states of the table are printed.
     pub shows_states: bool,
+    /// Whether more is said of the table.
+    pub is_verbose: bool,
     /// Whether its item sets are merged.
     pub minimiser: Minimiser,
+    /// Whether the grammar is looked at alone. Then tokens that are of no use are warned of, too, and its states are what was asked for, so
+    /// they go to standard output.
+    pub is_looked_at: bool,
 }
 
-/// The checked table of a grammar, and what its file says of repairs and precedences.
+/// A grammar file, and what is asked of it.
+#[derive(Clone, Copy)]
+pub(crate) struct GrammarFile<'a> {
+    pub(crate) path: &'a str,
+    pub(crate) text: &'a str,
+    pub(crate) asked: Asked,
+    pub(crate) terminal: Terminal,
+}
+
+impl<'a> GrammarFile<'a> {
+    /// What messages about the file need.
+    pub(crate) fn reporter(self, alloc: Global) -> Result<Reporter<'a>, AllocError> {
+        Reporter::new(alloc, self.text, self.path, self.terminal.look)
+    }
+}
+
+/// The checked table of a grammar, and what is known of its file.
 pub struct GrammarTable {
     pub data: ParserData<u32>,
     /// The tokens that repairs are to avoid.
     pub avoided: Vec<TIdx<u32>>,
     /// Whether the file declares precedences.
     pub has_precedences: bool,
+    /// Whether the file says how many conflicts it expects.
+    pub expects_conflicts: bool,
+    /// Whether something is warned of, or would be if the program weren't to be quiet.
+    pub has_warnings: bool,
 }
 
 // Hand-written, so that code that drops one needs the proof of one call only.
@@ -54,15 +81,31 @@ impl Drop for GrammarTable {
             data,
             avoided,
             has_precedences: _,
+            expects_conflicts: _,
+            has_warnings: _,
         } = self;
         drop(data);
         drop(avoided);
     }
 }
 
-/// The checked table of a grammar file. Warns of rules that are of no use, and of conflicts, unless the program is to be quiet. A table
-/// with another number of conflicts than the file expects is refused.
-pub fn make_table<O: Write, E: Write>(
+/// The checked table of a grammar file. A line says that it is built, if the terminal is to show that.
+pub(crate) fn make_table<O: Write, E: Write>(
+    alloc: Global,
+    file: GrammarFile<'_>,
+    out: &mut O,
+    err: &mut E,
+) -> Result<GrammarTable, Fault> {
+    if file.terminal.shows_progress && !file.asked.is_quiet {
+        write_messages(out, err, "nimbleparse: building the table ..\n")?;
+    }
+    let reporter = file.reporter(alloc)?;
+    build_table(alloc, &reporter, file.text, file.asked, out, err)
+}
+
+// The checked table of a grammar file. Warns of what is of no use, and of conflicts, unless the program is to be quiet. A table with another
+// number of conflicts than the file expects is refused.
+fn build_table<O: Write, E: Write>(
     alloc: Global,
     reporter: &Reporter<'_>,
     text: &str,
@@ -77,11 +120,17 @@ pub fn make_table<O: Write, E: Write>(
     };
     let avoided = avoided_tokens(alloc, &grammar, declared)?;
     let has_precedences = matches!(declared, Some(declared) if !declared.levels.is_empty());
-    let data = build_data(alloc, reporter, grammar, declared, asked, out, err)?;
+    let useless = useless_reports(alloc, &grammar, declared, asked.is_looked_at)?;
+    let data = build_data(
+        alloc, reporter, grammar, declared, &useless, asked, out, err,
+    )?;
+    let has_warnings = !useless.is_empty() || !has_expected(declared, data.stable());
     Ok(GrammarTable {
         data,
         avoided,
         has_precedences,
+        expects_conflicts: expects_conflicts(declared),
+        has_warnings,
     })
 }
 
@@ -102,12 +151,22 @@ fn avoided_tokens(
     Ok(tokens)
 }
 
+// A table that was built, the grammar and the precedences by which it was, and its item sets.
+#[derive(Clone, Copy)]
+struct Built<'a> {
+    grm: &'a YaccGrammar<u32>,
+    precedences: &'a Precedences,
+    sgraph: &'a StateGraph<u32>,
+    stable: &'a StateTable<u32>,
+}
+
 // The checked table of a grammar whose conflicts are resolved by the precedences that its file declares, if it declares any.
 fn build_data<O: Write, E: Write>(
     alloc: Global,
     reporter: &Reporter<'_>,
     grm: YaccGrammar<u32>,
     declared: Option<&Declarations<'_>>,
+    useless: &[Report],
     asked: Asked,
     out: &mut O,
     err: &mut E,
@@ -119,10 +178,13 @@ fn build_data<O: Write, E: Write>(
         .max_states(MAX_STATES);
     match options.state_table(alloc, &grm) {
         Ok((sgraph, stable)) => {
-            if !asked.is_quiet {
-                let notes = notes_of(alloc, reporter, &grm, declared, &precedences, &stable)?;
-                write_notes(asked, notes, &grm, &sgraph, &stable, out, err)?;
-            }
+            let built = Built {
+                grm: &grm,
+                precedences: &precedences,
+                sgraph: &sgraph,
+                stable: &stable,
+            };
+            write_notes(alloc, reporter, built, declared, useless, asked, out, err)?;
             expect(alloc, reporter, declared, &stable)?;
             check_chains(alloc, reporter, grm, sgraph, stable)
         }
@@ -142,58 +204,67 @@ fn precedences_of(
     }
 }
 
-// Warnings of rules that are of no use, and of conflicts, unless these are what the file expects.
+// Writes warnings of what is of no use and of conflicts, and the states of the table if they are asked for; or nothing, if the program is to
+// be quiet.
+fn write_notes<O: Write, E: Write>(
+    alloc: Global,
+    reporter: &Reporter<'_>,
+    built: Built<'_>,
+    declared: Option<&Declarations<'_>>,
+    useless: &[Report],
+    asked: Asked,
+    out: &mut O,
+    err: &mut E,
+) -> Result<(), Fault> {
+    if asked.is_quiet {
+        return Ok(());
+    }
+    let notes = notes_of(alloc, reporter, built, declared, useless)?;
+    write_messages(out, err, notes.as_str())?;
+    if asked.shows_states {
+        write_states(alloc, built, asked, out, err)?;
+    }
+    Ok(())
+}
+
+// Warnings of what is of no use, and of conflicts, unless these are what the file expects.
 fn notes_of(
     alloc: Global,
     reporter: &Reporter<'_>,
-    grm: &YaccGrammar<u32>,
+    built: Built<'_>,
     declared: Option<&Declarations<'_>>,
-    precedences: &Precedences,
-    stable: &StateTable<u32>,
+    useless: &[Report],
 ) -> Result<String, AllocError> {
+    let Built {
+        grm,
+        precedences,
+        stable,
+        ..
+    } = built;
     let mut notes = String::new(alloc);
-    push_reports(
-        &mut notes,
-        alloc,
-        reporter,
-        &unused_rules(alloc, grm, declared)?,
-    )?;
+    push_reports(&mut notes, alloc, reporter, useless)?;
     if !has_expected(declared, stable) {
         push_conflicts(&mut notes, alloc, reporter, grm, precedences, stable)?;
     }
     Ok(notes)
 }
 
-// Warnings of rules that are of no use, but for those that the file says are unused.
-fn unused_rules(
+// Writes the states of the table: to standard output if the grammar is looked at, and to standard error otherwise.
+fn write_states<O: Write, E: Write>(
     alloc: Global,
-    grm: &YaccGrammar<u32>,
-    declared: Option<&Declarations<'_>>,
-) -> Result<Vec<Report>, AllocError> {
-    let mut names = Vec::new(alloc);
-    if let Some(declared) = declared {
-        for word in &declared.unused {
-            names.push(word.name)?;
-        }
-    }
-    rule_warnings_but(alloc, grm, &names)
-}
-
-// Writes the notes, and the states of the table if they are asked for.
-fn write_notes<O: Write, E: Write>(
+    built: Built<'_>,
     asked: Asked,
-    notes: String,
-    grm: &YaccGrammar<u32>,
-    sgraph: &StateGraph<u32>,
-    stable: &StateTable<u32>,
     out: &mut O,
     err: &mut E,
 ) -> Result<(), Fault> {
-    let mut text = notes;
-    if asked.shows_states {
-        push_states(&mut text, grm, sgraph, stable)?;
+    let mut text = String::new(alloc);
+    push_states(&mut text, built.grm, built.sgraph, built.stable)?;
+    if asked.is_looked_at {
+        out.write_all(text.as_bytes())?;
+        Ok(())
+    } else {
+        write_messages(out, err, text.as_str())
     }
-    write_messages(out, err, text.as_str())
 }
 
 // Checks the chains of reductions of a table, and returns it.

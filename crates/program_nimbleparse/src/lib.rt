@@ -10,14 +10,17 @@ pub mod grammar;
 mod header;
 mod inputs;
 pub mod kind;
+mod look;
 mod options;
 pub mod parse;
 pub mod plan;
 mod program;
 pub mod rules;
 pub mod show;
+mod sizes;
 mod source;
 mod states;
+mod useless;
 
 pub use lrpar_report::Look;
 pub use program::{Terminal, run, run_of_process};

@@ -1,10 +1,10 @@
 //! What the words after the program's name ask for.
 use crate::command::{
-    FORMAT, FORMATS, GRAMMAR, INPUT, KIND, KINDS, LEXER, LIMIT, MINIMISER, MINIMISERS,
-    PossibleValues, QUIET, REPAIRS, SEARCHES, SHIFTS, STATES, Search, VERBOSE, command_line,
-    meaning_of,
+    FORMAT, FORMATS, GRAMMAR, INPUT, INPUT_OPTIONS, KIND, KINDS, LEXER, LIMIT, MINIMISER,
+    MINIMISERS, PossibleValues, QUIET, REPAIRS, SEARCHES, SHIFTS, STATES, Search, VERBOSE,
+    command_line, meaning_of,
 };
-use crate::kind::GrammarKind;
+use crate::grammar::Asked;
 use crate::plan::{Format, Recovery};
 use clap::error::ErrorKind;
 use clap::parser::ValueSource;
@@ -13,28 +13,32 @@ use lrpar_table_options::Minimiser;
 use program_files::fault::{Fault, Misuse};
 use std::alloc::{AllocError, Global};
 
+/// What is wrong with words without a path.
+const NO_PATH: &str = "the following required arguments were not provided: <GRAMMAR>";
+
 /// What the words ask for.
 #[derive(Drop)]
 pub(crate) enum Request<'a> {
     /// This help text.
     Help(String),
+    /// A look at a grammar alone.
+    LookAt(GrammarOptions<'a>),
     /// A parse of inputs.
     Parse(Options<'a>),
+}
+
+/// Which grammar is to be looked at, and how.
+#[derive(Clone, Copy)]
+pub(crate) struct GrammarOptions<'a> {
+    pub(crate) grammar: &'a str,
+    pub(crate) asked: Asked,
 }
 
 /// How inputs are to be parsed.
 #[derive(Drop)]
 pub(crate) struct Options<'a> {
-    /// Whether errors alone are printed.
-    pub(crate) is_quiet: bool,
-    /// Whether the states of the table are printed.
-    pub(crate) shows_states: bool,
-    /// Whether more is said of the table.
-    pub(crate) is_verbose: bool,
-    /// The kind of the grammar file, if the words name it.
-    pub(crate) kind: Option<GrammarKind>,
-    /// Whether item sets are merged.
-    pub(crate) minimiser: Minimiser,
+    /// What is asked of the grammar.
+    pub(crate) asked: Asked,
     pub(crate) recovery: Recovery,
     /// How many lexemes have to follow a repair.
     pub(crate) shifts: Option<usize>,
@@ -54,7 +58,7 @@ pub(crate) fn request_of<'a>(
 ) -> Result<Request<'a>, Fault> {
     let command = command_line(alloc, values)?;
     match command.try_get_matches_from(args) {
-        Ok(matches) => Ok(Request::Parse(options_of(alloc, &matches)?)),
+        Ok(matches) => request_by(alloc, &matches),
         Err(error) => match error.kind() {
             ErrorKind::OutOfMemory => Err(Fault::Memory),
             ErrorKind::DisplayHelp => Ok(Request::Help(format!(in alloc; "{error}")?)),
@@ -63,23 +67,67 @@ pub(crate) fn request_of<'a>(
     }
 }
 
-// The options that were found in the words. What has a default or has to be there is found.
-fn options_of<'a>(alloc: Global, matches: &ArgMatches<'a>) -> Result<Options<'a>, Fault> {
+// What the words ask for in which this was found. What has a default is found. A single path is that of a grammar.
+fn request_by<'a>(alloc: Global, matches: &ArgMatches<'a>) -> Result<Request<'a>, Fault> {
+    let Some(first) = matches.get_str(LEXER) else {
+        return Err(Fault::Words(String::from_str(alloc, NO_PATH)?));
+    };
+    match matches.get_str(GRAMMAR) {
+        Some(grammar) => Ok(Request::Parse(options_of(alloc, matches, first, grammar)?)),
+        None => Ok(Request::LookAt(grammar_options(alloc, matches, first)?)),
+    }
+}
+
+// How the grammar at this path is to be looked at. An option about lexers or inputs is refused.
+fn grammar_options<'a>(
+    alloc: Global,
+    matches: &ArgMatches<'a>,
+    grammar: &'a str,
+) -> Result<GrammarOptions<'a>, Fault> {
+    match INPUT_OPTIONS.iter().find(|(id, _)| is_given(matches, id)) {
+        Some((_, word)) => {
+            let text = format!(in alloc;
+                "{word} needs a lexer: a single path is that of a grammar"
+            )?;
+            Err(Fault::Words(text))
+        }
+        None => Ok(GrammarOptions {
+            grammar,
+            asked: asked_of(matches, true),
+        }),
+    }
+}
+
+// How inputs are to be parsed by the lexer and the grammar at these paths.
+fn options_of<'a>(
+    alloc: Global,
+    matches: &ArgMatches<'a>,
+    lexer: &'a str,
+    grammar: &'a str,
+) -> Result<Options<'a>, Fault> {
     let recovery = recovery_of(matches)?;
     let inputs = inputs_of(alloc, matches)?;
     Ok(Options {
-        is_quiet: matches.get_flag(QUIET),
-        shows_states: matches.get_flag(STATES),
-        is_verbose: matches.get_flag(VERBOSE),
-        kind: meaning_of(matches, KIND, &KINDS),
-        minimiser: meaning_of(matches, MINIMISER, &MINIMISERS).unwrap_or(Minimiser::Pager),
+        asked: asked_of(matches, false),
         recovery,
         shifts: matches.get_one::<usize>(SHIFTS),
         format: meaning_of(matches, FORMAT, &FORMATS).unwrap_or(Format::Brackets),
-        lexer: matches.get_str(LEXER).unwrap_or(""),
-        grammar: matches.get_str(GRAMMAR).unwrap_or(""),
+        lexer,
+        grammar,
         inputs,
     })
+}
+
+// What is asked of a grammar that is only looked at, or not.
+fn asked_of(matches: &ArgMatches<'_>, is_looked_at: bool) -> Asked {
+    Asked {
+        kind: meaning_of(matches, KIND, &KINDS),
+        is_quiet: matches.get_flag(QUIET),
+        shows_states: matches.get_flag(STATES),
+        is_verbose: matches.get_flag(VERBOSE),
+        minimiser: meaning_of(matches, MINIMISER, &MINIMISERS).unwrap_or(Minimiser::Pager),
+        is_looked_at,
+    }
 }
 
 // The paths of the inputs.

@@ -4,13 +4,15 @@ ghost use Rattle.std.specs.Prelude.{◌≤◌};
 
 use crate::command::PossibleValues;
 use crate::fault_line::FaultLine;
-use crate::grammar::{Asked, GrammarTable, make_table};
+use crate::grammar::{GrammarFile, GrammarTable, make_table};
 use crate::inputs::{STANDARD_INPUT, file_text, input_text};
-use crate::options::{Options, Request, request_of};
+use crate::look::look_at;
+use crate::options::{GrammarOptions, Options, Request, request_of};
 use crate::parse::parse;
 use crate::plan::{Plan, Recovery};
 use crate::rules::{LexerRules, lexer_rules};
 use crate::show::{with_label_text, write_messages};
+use crate::sizes::{push_sizes, push_table};
 use lrpar_grammar::grammar::YaccGrammar;
 use lrpar_grammar::span::TIdx;
 use lrpar_lexer::{Token, TokenTypes};
@@ -61,12 +63,13 @@ pub fn run_of_process(rt: &HostRuntime) -> u8
     }
 }
 
-/// Runs the program and returns its exit status: 0 if each input has a tree and no error, 1 if one has errors, 2 if there is no answer.
-/// `args` are the words after the program's name, and `rt` reads the files that they name.
+/// Runs the program and returns its exit status: 0 if each input has a tree and no error, 1 if one has errors, 2 if there is no answer. Of
+/// a grammar alone it is 0 if nothing is warned of, and 1 otherwise. `args` are the words after the program's name, and `rt` reads the
+/// files that they name.
 ///
 /// Trees are written to `out`, and messages to `err`: errors, and unless the words ask for errors alone, warnings and a note of how large
-/// the grammar and its table are. A failure of `err` is ignored. `out` is buffered: it is flushed before something is written to `err`,
-/// and at the end.
+/// the grammar and its table are. Of a grammar alone it is `out` that gets how large they are. A failure of `err` is ignored. `out` is
+/// buffered: it is flushed before something is written to `err`, and at the end.
 pub fn run<R: Files, I: Read + Drop, O: Write + Drop, E: Write + Drop>(
     rt: &R,
     alloc: Global,
@@ -135,6 +138,7 @@ fn run_words<R: Files, I: Read + Drop, O: Write, E: Write>(
     let values = PossibleValues::new();
     match request_of(alloc, args, &values)? {
         Request::Help(text) => print_help(text.as_str(), out),
+        Request::LookAt(options) => look_at_file(rt, alloc, options, terminal, out, err),
         Request::Parse(options) => run_files(rt, alloc, &options, terminal, input, out, err),
     }
 }
@@ -143,6 +147,25 @@ fn run_words<R: Files, I: Read + Drop, O: Write, E: Write>(
 fn print_help<O: Write>(text: &str, out: &mut O) -> Result<Status, Fault> {
     out.write_all(text.as_bytes())?;
     Ok(Status::Success)
+}
+
+// Reads the grammar that the options name, and looks at it.
+fn look_at_file<R: Files, O: Write, E: Write>(
+    rt: &R,
+    alloc: Global,
+    options: GrammarOptions<'_>,
+    terminal: Terminal,
+    out: &mut O,
+    err: &mut E,
+) -> Result<Status, Fault> {
+    let text = file_text(rt, alloc, options.grammar)?;
+    let file = GrammarFile {
+        path: options.grammar,
+        text: text.as_str(),
+        asked: options.asked,
+        terminal,
+    };
+    look_at(alloc, file, out, err)
 }
 
 // Reads the files that the options name, and does what these ask for.
@@ -159,8 +182,12 @@ fn run_files<R: Files, I: Read + Drop, O: Write, E: Write>(
     let lexer = file_text(rt, alloc, options.lexer)?;
     let work = Work {
         options,
-        terminal,
-        grammar: grammar.as_str(),
+        grammar: GrammarFile {
+            path: options.grammar,
+            text: grammar.as_str(),
+            asked: options.asked,
+            terminal,
+        },
         lexer: lexer.as_str(),
     };
     run_work(rt, alloc, work, input, out, err)
@@ -170,43 +197,22 @@ fn run_files<R: Files, I: Read + Drop, O: Write, E: Write>(
 #[derive(Clone, Copy)]
 struct Work<'a> {
     options: &'a Options<'a>,
-    terminal: Terminal,
-    grammar: &'a str,
+    grammar: GrammarFile<'a>,
     lexer: &'a str,
 }
 
 impl<'a> Work<'a> {
-    // What messages about the grammar's text need.
-    fn grammar_reporter(self, alloc: Global) -> Result<Reporter<'a>, AllocError> {
-        Reporter::new(
-            alloc,
-            self.grammar,
-            self.options.grammar,
-            self.terminal.look,
-        )
-    }
-
-    // What is asked of the grammar's file.
-    fn asked(self) -> Asked {
-        Asked {
-            kind: self.options.kind,
-            is_quiet: self.options.is_quiet,
-            shows_states: self.options.shows_states,
-            minimiser: self.options.minimiser,
-        }
-    }
-
     // How inputs are parsed and trees are printed.
     fn plan(self, data: &'a ParserData<u32>, rules: &'a LexerRules) -> Plan<'a> {
         Plan {
             data,
-            has_merged_states: self.options.minimiser == Minimiser::Pager,
+            has_merged_states: self.grammar.asked.minimiser == Minimiser::Pager,
             rules,
             recovery: self.options.recovery,
             format: self.options.format,
-            is_quiet: self.options.is_quiet,
+            is_quiet: self.grammar.asked.is_quiet,
             shows_paths: self.options.inputs.len() > 1,
-            look: self.terminal.look,
+            look: self.grammar.terminal.look,
         }
     }
 }
@@ -220,25 +226,10 @@ fn run_work<R: Files, I: Read + Drop, O: Write, E: Write>(
     out: &mut O,
     err: &mut E,
 ) -> Result<Status, Fault> {
-    let table = make_grammar_table(alloc, work, out, err)?;
+    let table = make_table(alloc, work.grammar, out, err)?;
     let rules = rules_of_lexer(alloc, work, &table.data)?;
     warn(alloc, work, &table, &rules, out, err)?;
     parse_inputs(rt, alloc, work, &table, &rules, input, out, err)
-}
-
-// The checked table of the grammar.
-fn make_grammar_table<O: Write, E: Write>(
-    alloc: Global,
-    work: Work<'_>,
-    out: &mut O,
-    err: &mut E,
-) -> Result<GrammarTable, Fault> {
-    let asked = work.asked();
-    if work.terminal.shows_progress && !asked.is_quiet {
-        write_messages(out, err, "nimbleparse: building the table ..\n")?;
-    }
-    let reporter = work.grammar_reporter(alloc)?;
-    make_table(alloc, &reporter, work.grammar, asked, out, err)
 }
 
 // The rules of the lexer.
@@ -248,7 +239,7 @@ fn rules_of_lexer(
     data: &ParserData<u32>,
 ) -> Result<LexerRules, Fault> {
     let path = work.options.lexer;
-    let reporter = Reporter::new(alloc, work.lexer, path, work.terminal.look)?;
+    let reporter = Reporter::new(alloc, work.lexer, path, work.grammar.terminal.look)?;
     lexer_rules(alloc, &reporter, data.grm(), work.lexer)
 }
 
@@ -261,32 +252,27 @@ fn warn<O: Write, E: Write>(
     out: &mut O,
     err: &mut E,
 ) -> Result<(), Fault> {
-    if work.options.is_quiet {
+    if work.grammar.asked.is_quiet {
         return Ok(());
     }
     let text = warnings(alloc, work, table, rules)?;
     write_messages(out, err, text.as_str())
 }
 
-// The text of the warnings and of the note.
+// The text of the warnings and of the notes.
 fn warnings(
     alloc: Global,
     work: Work<'_>,
     table: &GrammarTable,
     rules: &LexerRules,
 ) -> Result<String, AllocError> {
-    let reporter = work.grammar_reporter(alloc)?;
+    let reporter = work.grammar.reporter(alloc)?;
     let mut text = String::new(alloc);
     push_token_warnings(&mut text, alloc, &reporter, table.data.grm(), rules)?;
-    push_sizes(&mut text, alloc, &reporter, table)?;
-    if work.options.is_verbose {
-        push_table(
-            &mut text,
-            alloc,
-            &reporter,
-            &table.data,
-            work.options.minimiser,
-        )?;
+    push_sizes_note(&mut text, alloc, &reporter, table)?;
+    let asked = work.grammar.asked;
+    if asked.is_verbose {
+        push_table_note(&mut text, alloc, &reporter, &table.data, asked.minimiser)?;
     }
     Ok(text)
 }
@@ -306,45 +292,28 @@ fn push_token_warnings(
     Ok(())
 }
 
-// Adds a note of how large the grammar and its table are, of the least cap, and of how many conflicts precedences resolved, if the file
-// declares any.
-fn push_sizes(
+// Adds a note of how large the grammar and its table are.
+fn push_sizes_note(
     out: &mut String,
     alloc: Global,
     reporter: &Reporter<'_>,
     table: &GrammarTable,
 ) -> Result<(), AllocError> {
-    let data = &table.data;
-    let states = data.stable().states_len();
-    let rules = data.grm().rules_len();
-    let prods = data.grm().prods_len();
-    let tokens = data.grm().tokens_len();
-    let cap = data.least_cap();
-    let mut text = format!(in alloc;
-        "rules {rules}, productions {prods}, tokens {tokens}, states {states}, least cap {cap}"
-    )?;
-    if table.has_precedences {
-        let resolved = data.stable().resolved().len();
-        write!(text, ", conflicts resolved by precedences {resolved}")?;
-    }
+    let mut text = String::new(alloc);
+    push_sizes(&mut text, table)?;
     reporter.push(out, alloc, &Report::new(alloc, Level::Note, text.as_str())?)
 }
 
-// Adds a note of the table: how many states it has, whether they are merged, and how many actions and gotos they have.
-fn push_table(
+// Adds a note of more about the table.
+fn push_table_note(
     out: &mut String,
     alloc: Global,
     reporter: &Reporter<'_>,
     data: &ParserData<u32>,
     minimiser: Minimiser,
 ) -> Result<(), AllocError> {
-    let states = data.stable().states_len();
-    let entries = data.stable().entries();
-    let how = match minimiser {
-        Minimiser::Canonical => "canonical",
-        Minimiser::Pager => "merged where lookaheads allow it",
-    };
-    let text = format!(in alloc; "states {states}, {how}, with {entries} actions and gotos")?;
+    let mut text = String::new(alloc);
+    push_table(&mut text, data, minimiser)?;
     reporter.push(out, alloc, &Report::new(alloc, Level::Note, text.as_str())?)
 }
 
@@ -403,7 +372,7 @@ fn make_completion<'a, O: Write, E: Write>(
         Ok(completion) => Ok(Some(completion)),
         Err(NoCompletion::Memory) => Err(Fault::Memory),
         Err(refusal) => {
-            if !work.options.is_quiet {
+            if !work.grammar.asked.is_quiet {
                 let text = no_completion(alloc, work, data, refusal)?;
                 write_messages(out, err, text.as_str())?;
             }
@@ -434,7 +403,7 @@ fn no_completion(
         }
     }
     let mut text = String::new(alloc);
-    let reporter = work.grammar_reporter(alloc)?;
+    let reporter = work.grammar.reporter(alloc)?;
     reporter.push(
         &mut text,
         alloc,

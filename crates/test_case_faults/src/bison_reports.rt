@@ -1,7 +1,6 @@
 //! Reports of faults in `.y` files that are read as bison reads them.
 use lrpar_grammar_bison_parts::faults::BisonFault;
 use lrpar_grammar_bison_parts::grammar::BisonGrammar;
-use lrpar_grammar_bison_rules::rules::FileRules;
 use lrpar_report::{Look, Reporter};
 use lrpar_report_bison::bison_report;
 use std::alloc::Global;
@@ -26,15 +25,7 @@ pub fn outcome(out: &mut Printed, alloc: Global, case: Case<'_, '_>) -> Result<(
 
 // Why the file has no grammar in the smallest storage type, if it has none.
 fn fault_of(alloc: Global, text: &str) -> Option<BisonFault> {
-    match FileRules::read(alloc, text) {
-        Ok(rules) => grammar_fault(alloc, &rules),
-        Err(fault) => Some(BisonFault::from(fault)),
-    }
-}
-
-// Why the declarations and rules make no grammar, if they make none.
-fn grammar_fault(alloc: Global, rules: &FileRules<'_>) -> Option<BisonFault> {
-    match BisonGrammar::<u8>::of_rules(alloc, rules) {
+    match BisonGrammar::<u8>::read(alloc, text) {
         Ok(grammar) => {
             let BisonGrammar { parts, precedences } = grammar;
             drop(parts);

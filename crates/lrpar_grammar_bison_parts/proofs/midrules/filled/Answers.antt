@@ -1,8 +1,7 @@
-use Rattle.std.proofs.Common.{ap, sym, ◌∙◌, ◌≡◌, ◌≤◌, ◌+◌, ◌++◌, ◌∷◌, List, drop, get_or, length, map, arith}
+use Rattle.std.proofs.Common.{ap, sym, ◌∙◌, ◌≡◌, ◌≤◌, ◌+◌, ◌++◌, ◌∷◌, drop, get_or, length, map, arith}
 use Rattle.lrpar_grammar_words.specs.Words.{placed as text_placed}
-use Rattle.lrpar_grammar_bison_rules.specs.Rules.{PlacedAlias, item_of}
+use Rattle.lrpar_grammar_bison_rules.specs.Rules.{item_of}
 use Rattle.lrpar_grammar_bison_parts.specs.Midrules.{filled, is_action, symbol_at, symbols_after, symbols_in}
-use Rattle.lrpar_grammar_bison_parts.specs.Symbols.{MapsAliases}
 use Rattle.lrpar_grammar_bison_parts.proofs.MidruleLemmas.{action_words, actions_after, any_action, counted_end, filled_begin, filled_end, filled_from, filled_other, filled_skip, filled_symbol, next_item, no_item, one_if, symbols_skip}
 use Rattle.lrpar_grammar_bison_parts.proofs.midrules.filled.Goals as goal
 use Rattle.lrpar_grammar_bison_parts.proofs.midrules.filled.Goals.{then-ends_action, then-is_open+in_ok-push, else-is_open, else-ends_action, then-is_symbol+in_ok-push-2, else-is_symbol}

@@ -1,4 +1,4 @@
-use Rattle.std.proofs.Common.{ap, sym, subst, ◌∙◌, ◌≡◌, ◌++◌, ◌+◌, ◌∷◌, drop, get_or, map}
+use Rattle.std.proofs.Common.{ap, sym, ◌∙◌, ◌≡◌, ◌++◌, ◌+◌, ◌∷◌, drop, get_or, map}
 use Rattle.lrpar_grammar_bison.specs.Words.{placed}
 use Rattle.lrpar_grammar_bison_rules.specs.Rules.{item_of}
 use Rattle.lrpar_grammar_bison_parts.specs.Midrules.{actions_in}

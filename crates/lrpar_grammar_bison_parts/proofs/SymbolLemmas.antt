@@ -1,0 +1,75 @@
+-- Texts that stand for tokens, one after another.
+use Rattle.std.proofs.Common.{◌≡◌, [], ◌∷◌, ◌++◌, ℕ, List, Bool, true, false, cond, bytes_eq, nat_cmp, Bor, Option, Some, None, option_map, refl, ap, sym, subst, ◌∙◌}
+use Rattle.std.specs.BTreeMap.{BTreeMap, get_by}
+use Rattle.std.specs.Cmp.Lexicographic.{slice_cmp}
+use Rattle.std.specs.List.{find}
+use Rattle.std.specs.Map.{update}
+use Rattle.std.specs.Option.{is_some, option_or}
+use Rattle.std.proofs.lemmas.List.Folds.{find-append}
+use Rattle.std.proofs.lemmas.Slice.Eq.{bytes_eq-Decides}
+use Rattle.lrpar_grammar_bison.specs.declared.words.Word.{Word}
+use Rattle.lrpar_grammar_bison.specs.Words.{PlacedWord, placed}
+use Rattle.lrpar_grammar_bison_rules.specs.Rules.{PlacedAlias}
+use Rattle.lrpar_grammar_bison_parts.specs.Symbols.{MapsAliases, token_with}
+
+-- what the first element with a property gives, with one more element
+pub first_more : {X Y : Type 0} (f : X → Y) (p : X → Bool) (before : List X) (x : X)
+    → option_map f (find p (before ++ x ∷ [])) ≡ option_or (option_map f (find p before)) (cond (p x) (Some (f x)) None)
+first_more {X} f p before x = ap (option_map f) (find-append p before (x ∷ [])) ∙ either (find p before) (p x)
+  where
+    either : (found : Option X) (b : Bool) → option_map f (option_or found (cond b (Some x) None)) ≡ option_or (option_map f found) (cond b (Some (f x)) None)
+    either None true = refl
+    either None false = refl
+    either (Some y) b = refl
+
+-- the token that has a text, if one more does
+token_more : (before : List PlacedAlias) (x : PlacedAlias) (text : List ℕ)
+    → token_with (before ++ x ∷ []) text ≡ option_or (token_with before text) (cond (bytes_eq x.text.name text) (Some x.token) None)
+token_more before x text = first_more (λ (y : PlacedAlias). y.token) (λ (y : PlacedAlias). bytes_eq y.text.name text) before x
+
+-- a text that is there already stands for the token that it stood for
+had : (old : Option PlacedWord) (b : Bool) (new : PlacedWord) → (b ≡ true → is_some old ≡ true) → old ≡ option_or old (cond b (Some new) None)
+had (Some w) b new has = refl
+had None true new has = absurd (let no = has refl in cc)
+had None false new has = refl
+
+-- the value that a look-up finds, as plain data
+found_some : (found : Option Word) → is_some (option_map placed found) ≡ is_some found
+found_some None = refl
+found_some (Some w) = refl
+
+-- the texts that a map has, with one that it has already
+pub alias_had : (m : BTreeMap (Bor (List ℕ)) Word) (before : List PlacedAlias) (x : PlacedAlias)
+    → MapsAliases m before → is_some (get_by (λ k. slice_cmp nat_cmp x.text.name k.now) m) ≡ true → MapsAliases m (before ++ x ∷ [])
+alias_had m before x maps has q =
+    let present : is_some (token_with before x.text.name) ≡ true = ap is_some (sym (maps x.text.name)) ∙ found_some (get_by (λ k. slice_cmp nat_cmp x.text.name k.now) m) ∙ has in
+    maps q
+    ∙ had (token_with before q) (bytes_eq x.text.name q) x.token
+    (λ same. subst (λ s. is_some (token_with before s) ≡ true) ((bytes_eq-Decides x.text.name q).0 same) present)
+    ∙ sym (token_more before x q)
+
+-- a new text stands for the new value
+pub put : {X : Type 0} (old : Option X) (b : Bool) (new : X) → (b ≡ true → is_some old ≡ false) → cond b (Some new) old ≡ option_or old (cond b (Some new) None)
+put (Some w) true new has = absurd (let no = has refl in cc)
+put (Some w) false new has = refl
+put None true new has = refl
+put None false new has = refl
+
+-- the value at a text, as plain data
+at_text : (b : Bool) (token : Word) (old : Option Word) → option_map placed (cond b (Some token) old) ≡ cond b (Some (placed token)) (option_map placed old)
+at_text true token old = refl
+at_text false token old = refl
+
+-- the texts that a map has, with a new one
+pub alias_more : (m n : BTreeMap (Bor (List ℕ)) Word) (before : List PlacedAlias) (x : PlacedAlias) (token : Word) → placed token ≡ x.token
+    → MapsAliases m before → is_some (get_by (λ k. slice_cmp nat_cmp x.text.name k.now) m) ≡ false
+    → ((q : List ℕ) → get_by (λ k. slice_cmp nat_cmp q k.now) n ≡ update bytes_eq (λ ds. get_by (λ k. slice_cmp nat_cmp ds k.now) m) x.text.name (Some token) q)
+    → MapsAliases n (before ++ x ∷ [])
+alias_more m n before x token is maps new puts q =
+    let absent : is_some (token_with before x.text.name) ≡ false = ap is_some (sym (maps x.text.name)) ∙ found_some (get_by (λ k. slice_cmp nat_cmp x.text.name k.now) m) ∙ new in
+    ap (option_map placed) (puts q) ∙ at_text (bytes_eq x.text.name q) token (get_by (λ k. slice_cmp nat_cmp q k.now) m)
+    ∙ ap (λ w. cond (bytes_eq x.text.name q) (Some w) (option_map placed (get_by (λ k. slice_cmp nat_cmp q k.now) m))) is
+    ∙ ap (cond (bytes_eq x.text.name q) (Some x.token)) (maps q)
+    ∙ put (token_with before q) (bytes_eq x.text.name q) x.token
+    (λ same. subst (λ s. is_some (token_with before s) ≡ false) ((bytes_eq-Decides x.text.name q).0 same) absent)
+    ∙ sym (token_more before x q)

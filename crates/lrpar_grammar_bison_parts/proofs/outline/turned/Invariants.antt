@@ -1,0 +1,8 @@
+use Rattle.std.proofs.Common.{◌≡◌, map, take}
+use Rattle.lrpar_grammar_bison_rules.specs.Rules.{alias_of}
+use Rattle.lrpar_grammar_bison_parts.specs.Outline.{turned}
+use Rattle.lrpar_grammar_bison_parts.proofs.outline.turned.Given as goal
+
+-- the aliases so far
+abbrev pub invariant-loop-alias : goal.invariant-loop-alias
+invariant-loop-alias l = map alias_of l.others.items ≡ map turned (map alias_of (take l.alias-index l.aliases))
