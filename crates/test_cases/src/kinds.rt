@@ -2,7 +2,7 @@
 use crate::{commands, streams};
 use std::alloc::Global;
 use std::rt::Files;
-use test_case_faults::faults;
+use test_case_faults::{bison_reports, faults};
 use test_case_grammars::{bison, examples, grammars, parts, reports, spelled, underlines, yacc};
 use test_case_lexers::lrlex;
 use test_case_lines::cases::Case;
@@ -34,6 +34,7 @@ pub(crate) fn inputs_of(kind: &str) -> &'static [&'static str] {
         "underlines" => underlines::INPUTS,
         "report" => reports::INPUTS,
         "fault" => faults::INPUTS,
+        "bison_report" => bison_reports::INPUTS,
         "examples" => examples::INPUTS,
         _ => &[],
     }
@@ -73,6 +74,7 @@ pub(crate) fn outcome<R: Files>(
         "underlines" => underlines::outcome(out, alloc, case),
         "report" => reports::outcome(out, alloc, case),
         "fault" => faults::outcome(out, alloc, case),
+        "bison_report" => bison_reports::outcome(out, alloc, case),
         "examples" => examples::outcome(out, rt, alloc, case),
         _ => Err(Fault::Line(case.number, "a kind of case that isn't known")),
     }
