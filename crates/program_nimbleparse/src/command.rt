@@ -92,7 +92,12 @@ impl<T> Choice<T> {
 }
 
 /// The kinds of grammar files.
-pub(crate) const KINDS: [Choice<GrammarKind>; 3] = [
+pub(crate) const KINDS: [Choice<GrammarKind>; 4] = [
+    Choice {
+        name: "bison",
+        meaning: GrammarKind::Bison,
+        help: "A .y file of bison or yacc",
+    },
     Choice {
         name: "grmtools",
         meaning: GrammarKind::Yacc(YaccKind::Grmtools),
@@ -101,7 +106,7 @@ pub(crate) const KINDS: [Choice<GrammarKind>; 3] = [
     Choice {
         name: "original",
         meaning: GrammarKind::Yacc(YaccKind::Original),
-        help: "A .y file of yacc",
+        help: "A .y file of lrpar whose rules have no types",
     },
     Choice {
         name: "profile",

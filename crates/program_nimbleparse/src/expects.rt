@@ -1,7 +1,8 @@
 //! The numbers of conflicts that a file expects.
+use crate::declared::Declared;
 use crate::show::fault_of_report;
 use lrpar_grammar::span::Span;
-use lrpar_grammar_yacc::declarations::{Declarations, Number};
+use lrpar_grammar_yacc::declarations::Number;
 use lrpar_report::{Report, Reporter};
 use lrpar_table::table::StateTable;
 use program_files::fault::Fault;
@@ -29,50 +30,35 @@ pub(crate) fn counts_of(stable: &StateTable<u32>) -> Counts {
 }
 
 /// Whether a file says how many conflicts it expects.
-pub(crate) fn expects_conflicts(declarations: Option<&Declarations<'_>>) -> bool {
-    match declarations {
-        Some(declared) => !declared.expected.is_empty() || !declared.expected_rr.is_empty(),
-        None => false,
-    }
+pub(crate) fn expects_conflicts(declared: &Declared<'_>) -> bool {
+    declared.expected.is_some() || declared.expected_rr.is_some()
 }
 
 /// Whether the table has the conflicts that its file expects, and no others. A file that expects nothing expects none.
-pub(crate) fn has_expected(
-    declarations: Option<&Declarations<'_>>,
-    stable: &StateTable<u32>,
-) -> bool {
+pub(crate) fn has_expected(declared: &Declared<'_>, stable: &StateTable<u32>) -> bool {
     let counts = counts_of(stable);
-    let Some(declarations) = declarations else {
-        return counts.shift_reduce == 0 && counts.reduce_reduce == 0;
-    };
-    number_in(&declarations.expected) == counts.shift_reduce
-        && number_in(&declarations.expected_rr) == counts.reduce_reduce
+    number_in(declared.expected) == counts.shift_reduce
+        && number_in(declared.expected_rr) == counts.reduce_reduce
 }
 
-// The last of these numbers, or 0 if there is none.
-fn number_in(numbers: &[Number]) -> usize {
-    match numbers.last() {
+// The number, or 0 if there is none.
+fn number_in(number: Option<Number>) -> usize {
+    match number {
         Some(number) => number.number,
         None => 0,
     }
 }
 
-/// Refuses a table with another number of conflicts than its file expects. Of several numbers the last one counts. A file that expects
-/// conflicts of one kind alone expects none of the other kind; if it says nothing, any number of conflicts is right.
+/// Refuses a table with another number of conflicts than its file expects. A file that expects conflicts of one kind alone expects none of
+/// the other kind; if it says nothing, any number of conflicts is right.
 pub(crate) fn expect(
     alloc: Global,
     reporter: &Reporter<'_>,
-    declarations: Option<&Declarations<'_>>,
+    declared: &Declared<'_>,
     stable: &StateTable<u32>,
 ) -> Result<(), Fault> {
-    let Some(declarations) = declarations else {
-        return Ok(());
-    };
     let counts = counts_of(stable);
-    let (shifts, reductions) = (
-        declarations.expected.last(),
-        declarations.expected_rr.last(),
-    );
+    let (shifts, reductions) = (declared.expected, declared.expected_rr);
     expect_number(
         alloc,
         reporter,
@@ -96,8 +82,8 @@ fn expect_number(
     alloc: Global,
     reporter: &Reporter<'_>,
     kind: &str,
-    expected: Option<&Number>,
-    other: Option<&Number>,
+    expected: Option<Number>,
+    other: Option<Number>,
     count: usize,
 ) -> Result<(), Fault> {
     let (number, span, label) = match (expected, other) {

@@ -2,6 +2,7 @@
 ghost use Rattle.lrpar_table_rows.specs.Safe.{IsSafe};
 
 use crate::conflicts::push_conflicts;
+use crate::declared::Declared;
 use crate::expects::{expect, expects_conflicts, has_expected};
 use crate::kind::GrammarKind;
 use crate::program::Terminal;
@@ -11,14 +12,11 @@ use crate::states::push_states;
 use crate::useless::useless_reports;
 use lrpar_grammar::grammar::YaccGrammar;
 use lrpar_grammar::span::TIdx;
-use lrpar_grammar_yacc::declarations::Declarations;
-use lrpar_report::{Report, Reporter, build_report, chain_report};
+use lrpar_report::{Level, Report, Reporter, build_report, chain_report};
 use lrpar_table::build::BuildFault;
 use lrpar_table::check::{CheckFault, ParserData, Refused};
 use lrpar_table::table::{StateGraph, StateTable};
-use lrpar_table_levels::precedences_of_declarations;
 use lrpar_table_options::{Minimiser, TableOptions};
-use lrpar_table_precedence::precedences::Precedences;
 use program_files::fault::Fault;
 use program_files::tables::MAX_STATES;
 use std::alloc::{AllocError, Global};
@@ -113,49 +111,25 @@ fn build_table<O: Write, E: Write>(
     out: &mut O,
     err: &mut E,
 ) -> Result<GrammarTable, Fault> {
-    let Source { grammar, text } = source_of(alloc, reporter, text, asked.kind)?;
-    let declared = match &text {
-        Some(text) => Some(&text.declarations),
-        None => None,
-    };
-    let avoided = avoided_tokens(alloc, &grammar, declared)?;
-    let has_precedences = matches!(declared, Some(declared) if !declared.levels.is_empty());
-    let useless = useless_reports(alloc, &grammar, declared, asked.is_looked_at)?;
+    let Source { grammar, declared } = source_of(alloc, reporter, text, asked.kind)?;
+    let useless = useless_reports(alloc, &grammar, &declared, asked.is_looked_at)?;
     let data = build_data(
-        alloc, reporter, grammar, declared, &useless, asked, out, err,
+        alloc, reporter, grammar, &declared, &useless, asked, out, err,
     )?;
-    let has_warnings = !useless.is_empty() || !has_expected(declared, data.stable());
+    let has_warnings = !useless.is_empty() || !has_expected(&declared, data.stable());
     Ok(GrammarTable {
         data,
-        avoided,
-        has_precedences,
-        expects_conflicts: expects_conflicts(declared),
+        avoided: Vec::from_slice(alloc, &declared.avoided)?,
+        has_precedences: declared.has_precedences,
+        expects_conflicts: expects_conflicts(&declared),
         has_warnings,
     })
 }
 
-// The tokens that repairs are to avoid.
-fn avoided_tokens(
-    alloc: Global,
-    grm: &YaccGrammar<u32>,
-    declared: Option<&Declarations<'_>>,
-) -> Result<Vec<TIdx<u32>>, AllocError> {
-    let mut tokens = Vec::new(alloc);
-    if let Some(declared) = declared {
-        for word in &declared.avoided {
-            if let Some(token) = grm.token_idx(word.name) {
-                tokens.push(token)?;
-            }
-        }
-    }
-    Ok(tokens)
-}
-
-// A table that was built, the grammar and the precedences by which it was, and its item sets.
+// A table that was built, its grammar, and its item sets.
 #[derive(Clone, Copy)]
 struct Built<'a> {
     grm: &'a YaccGrammar<u32>,
-    precedences: &'a Precedences,
     sgraph: &'a StateGraph<u32>,
     stable: &'a StateTable<u32>,
 }
@@ -165,22 +139,20 @@ fn build_data<O: Write, E: Write>(
     alloc: Global,
     reporter: &Reporter<'_>,
     grm: YaccGrammar<u32>,
-    declared: Option<&Declarations<'_>>,
+    declared: &Declared<'_>,
     useless: &[Report],
     asked: Asked,
     out: &mut O,
     err: &mut E,
 ) -> Result<ParserData<u32>, Fault> {
-    let precedences = precedences_of(alloc, &grm, declared)?;
     let options = TableOptions::new()
-        .precedences(&precedences)
+        .precedences(&declared.precedences)
         .minimiser(asked.minimiser)
         .max_states(MAX_STATES);
     match options.state_table(alloc, &grm) {
         Ok((sgraph, stable)) => {
             let built = Built {
                 grm: &grm,
-                precedences: &precedences,
                 sgraph: &sgraph,
                 stable: &stable,
             };
@@ -192,25 +164,13 @@ fn build_data<O: Write, E: Write>(
     }
 }
 
-// The precedences that a file declares.
-fn precedences_of(
-    alloc: Global,
-    grm: &YaccGrammar<u32>,
-    declared: Option<&Declarations<'_>>,
-) -> Result<Precedences, AllocError> {
-    match declared {
-        Some(declared) => precedences_of_declarations(alloc, grm, declared),
-        None => Ok(Precedences::none(alloc)),
-    }
-}
-
 // Writes warnings of what is of no use and of conflicts, and the states of the table if they are asked for; or nothing, if the program is to
 // be quiet.
 fn write_notes<O: Write, E: Write>(
     alloc: Global,
     reporter: &Reporter<'_>,
     built: Built<'_>,
-    declared: Option<&Declarations<'_>>,
+    declared: &Declared<'_>,
     useless: &[Report],
     asked: Asked,
     out: &mut O,
@@ -232,21 +192,26 @@ fn notes_of(
     alloc: Global,
     reporter: &Reporter<'_>,
     built: Built<'_>,
-    declared: Option<&Declarations<'_>>,
+    declared: &Declared<'_>,
     useless: &[Report],
 ) -> Result<String, AllocError> {
-    let Built {
-        grm,
-        precedences,
-        stable,
-        ..
-    } = built;
+    let Built { grm, stable, .. } = built;
     let mut notes = String::new(alloc);
     push_reports(&mut notes, alloc, reporter, useless)?;
+    if declared.is_glr {
+        push_reports(&mut notes, alloc, reporter, &[glr_note(alloc)?])?;
+    }
     if !has_expected(declared, stable) {
+        let precedences = &declared.precedences;
         push_conflicts(&mut notes, alloc, reporter, grm, precedences, stable)?;
     }
     Ok(notes)
+}
+
+// The note of a file for a GLR parser.
+fn glr_note(alloc: Global) -> Result<Report, AllocError> {
+    let text = "an ambiguous text gets the tree that the resolution of conflicts picks, not all";
+    Report::new(alloc, Level::Note, text)
 }
 
 // Writes the states of the table: to standard output if the grammar is looked at, and to standard error otherwise.

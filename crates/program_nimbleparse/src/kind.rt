@@ -8,8 +8,36 @@ use lrpar_grammar_yacc::steps::{StepKind, step_at};
 pub enum GrammarKind {
     /// As a grammar text, which has nothing else than a grammar.
     Profile,
-    /// As a `.y` file of this kind.
+    /// As a `.y` file of lrpar, of this kind.
     Yacc(YaccKind),
+    /// As a `.y` file of bison or yacc.
+    Bison,
+}
+
+// What files of bison have, and grammar texts and files of lrpar don't.
+const BISON_SIGNS: [&str; 17] = [
+    "%{",
+    "%union",
+    "%type",
+    "%define",
+    "%code",
+    "%require",
+    "%precedence",
+    "%nterm",
+    "%param",
+    "%parse-param",
+    "%lex-param",
+    "%locations",
+    "%pure",
+    "%glr-parser",
+    "%destructor",
+    "%printer",
+    "%token <",
+];
+
+/// Whether the text has something that only files of bison have.
+pub(crate) fn looks_like_bison(text: &str) -> bool {
+    BISON_SIGNS.iter().any(|sign| text.contains(*sign))
 }
 
 // What a text has that a grammar text doesn't have, as far as it can be read.

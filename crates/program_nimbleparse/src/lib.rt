@@ -3,6 +3,7 @@
 
 mod command;
 mod conflicts;
+mod declared;
 mod errors;
 mod expects;
 mod fault_line;

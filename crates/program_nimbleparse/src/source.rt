@@ -1,21 +1,27 @@
 //! Grammar files: a grammar, and what its file declares beside it, or why there is none.
+ghost use Rattle.lrpar_grammar_bison_rules.specs.Rules.{AreOfDefinedRules, HaveOrderedItems, rules_in};
+
+use crate::declared::Declared;
 use crate::header::{Named, named_kind};
-use crate::kind::{GrammarKind, kind_by_look};
+use crate::kind::{GrammarKind, kind_by_look, looks_like_bison};
 use crate::show::fault_of_report;
 use lrpar_grammar::grammar::{GrammarFault, YaccGrammar};
 use lrpar_grammar::span::Span;
-use lrpar_grammar_yacc::faults::YaccText;
+use lrpar_grammar_bison_parts::faults::BisonFault;
+use lrpar_grammar_bison_parts::grammar::BisonGrammar;
+use lrpar_grammar_bison_rules::rules::FileRules;
 use lrpar_grammar_yacc::file::YaccFile;
 use lrpar_grammar_yacc::parts::YaccKind;
 use lrpar_report::{Report, Reporter, grammar_report, push_quoted, yacc_report};
+use lrpar_report_bison::bison_report;
 use program_files::fault::Fault;
 use std::alloc::{AllocError, Global};
 
-/// The grammar of a file; and if that is a `.y` file, its text, with what it declares beside the grammar.
+/// The grammar of a file, and what the file declares beside it.
 #[derive(Drop)]
 pub(crate) struct Source<'a> {
     pub(crate) grammar: YaccGrammar<u32>,
-    pub(crate) text: Option<YaccText<'a>>,
+    pub(crate) declared: Declared<'a>,
 }
 
 /// The grammar of a file of this kind. If no kind is named, it is the one that the file's header names; otherwise the file is a grammar text
@@ -48,8 +54,9 @@ fn by_kind<'a>(
 ) -> Result<Source<'a>, Fault> {
     match kind {
         GrammarKind::Yacc(kind) => by_yacc(alloc, reporter, text, kind),
+        GrammarKind::Bison => by_bison(alloc, reporter, text),
         GrammarKind::Profile => match YaccGrammar::new_with_storaget(alloc, text) {
-            Ok(grammar) => Ok(plain(grammar)),
+            Ok(grammar) => Ok(plain(alloc, grammar)),
             Err(fault) => Err(refused(alloc, reporter, text, &fault)),
         },
     }
@@ -58,20 +65,42 @@ fn by_kind<'a>(
 // The grammar of a file of the kind that it looks like.
 fn by_look<'a>(alloc: Global, reporter: &Reporter<'_>, text: &'a str) -> Result<Source<'a>, Fault> {
     match YaccGrammar::new_with_storaget(alloc, text) {
-        Ok(grammar) => Ok(plain(grammar)),
+        Ok(grammar) => Ok(plain(alloc, grammar)),
         Err(GrammarFault::Memory) => Err(Fault::Memory),
-        Err(fault) => match kind_by_look(text) {
-            Some(kind) => by_yacc(alloc, reporter, text, kind),
-            None => Err(refused(alloc, reporter, text, &fault)),
-        },
+        Err(fault) => {
+            let otherwise = match kind_by_look(text) {
+                Some(kind) => match by_yacc(alloc, reporter, text, kind) {
+                    Err(otherwise) => otherwise,
+                    found => return found,
+                },
+                None => refused(alloc, reporter, text, &fault),
+            };
+            by_bison_or(alloc, reporter, text, otherwise)
+        }
+    }
+}
+
+// The grammar of a file of bison; or this fault, if it is no such file and doesn't look like one.
+fn by_bison_or<'a>(
+    alloc: Global,
+    reporter: &Reporter<'_>,
+    text: &'a str,
+    otherwise: Fault,
+) -> Result<Source<'a>, Fault> {
+    match by_bison(alloc, reporter, text) {
+        Err(fault) if !looks_like_bison(text) => {
+            drop(fault);
+            Err(otherwise)
+        }
+        found => found,
     }
 }
 
 // A grammar whose file declares nothing beside it.
-fn plain<'a>(grammar: YaccGrammar<u32>) -> Source<'a> {
+fn plain<'a>(alloc: Global, grammar: YaccGrammar<u32>) -> Source<'a> {
     Source {
         grammar,
-        text: None,
+        declared: Declared::nothing(alloc),
     }
 }
 
@@ -80,7 +109,7 @@ fn refused(alloc: Global, reporter: &Reporter<'_>, text: &str, fault: &GrammarFa
     fault_of_report(alloc, reporter, grammar_report(alloc, text, fault))
 }
 
-// The grammar of a `.y` file of this kind.
+// The grammar of a `.y` file of lrpar, of this kind.
 fn by_yacc<'a>(
     alloc: Global,
     reporter: &Reporter<'_>,
@@ -90,16 +119,70 @@ fn by_yacc<'a>(
     match YaccFile::new_with_kind(alloc, kind, text) {
         Ok(file) => {
             let (grammar, text) = file.into_parts();
-            Ok(Source {
-                grammar,
-                text: Some(text),
-            })
+            let declared = Declared::of_declarations(alloc, &grammar, &text.declarations)?;
+            Ok(Source { grammar, declared })
         }
         Err(fault) => {
             let report = yacc_report(alloc, kind, text, &fault);
             Err(fault_of_report(alloc, reporter, report))
         }
     }
+}
+
+// The grammar of a `.y` file of bison.
+fn by_bison<'a>(
+    alloc: Global,
+    reporter: &Reporter<'_>,
+    text: &'a str,
+) -> Result<Source<'a>, Fault> {
+    match FileRules::read(alloc, text) {
+        Ok(rules) => by_rules(alloc, reporter, text, &rules),
+        Err(fault) => Err(refused_by_bison(alloc, reporter, text, &BisonFault::from(fault))),
+    }
+}
+
+// The grammar that the declarations and rules of a file of bison make.
+fn by_rules<'a>(
+    alloc: Global,
+    reporter: &Reporter<'_>,
+    text: &str,
+    rules: &FileRules<'a>,
+) -> Result<Source<'a>, Fault>
+    requires defined { AreOfDefinedRules (rules_in rules.now) }
+    requires order { HaveOrderedItems (rules_in rules.now) }
+{
+    match BisonGrammar::<u32>::of_rules(alloc, rules) {
+        Ok(BisonGrammar { parts, precedences }) => {
+            let grammar = match YaccGrammar::from_parts(alloc, parts) {
+                Ok(grammar) => grammar,
+                Err(fault) => return Err(refused(alloc, reporter, text, &fault)),
+            };
+            match Declared::of_rules(alloc, rules, precedences)? {
+                Ok(declared) => Ok(Source { grammar, declared }),
+                Err(word) => {
+                    let report = no_number(alloc, word.span());
+                    Err(fault_of_report(alloc, reporter, report))
+                }
+            }
+        }
+        Err(fault) => Err(refused_by_bison(alloc, reporter, text, &fault)),
+    }
+}
+
+// The fault of a `.y` file of bison.
+fn refused_by_bison(
+    alloc: Global,
+    reporter: &Reporter<'_>,
+    text: &str,
+    fault: &BisonFault,
+) -> Fault {
+    fault_of_report(alloc, reporter, bison_report(alloc, text, fault))
+}
+
+// The report of a number of conflicts that is none.
+fn no_number(alloc: Global, span: Span) -> Result<Report, AllocError> {
+    let label = "expected a decimal number that is no larger than a table can have";
+    Report::error(alloc, "not a number of conflicts")?.label(span, label)
 }
 
 // The report of a kind that isn't known.

@@ -1,7 +1,7 @@
 //! Warnings of rules and tokens that are of no use.
+use crate::declared::Declared;
 use lrpar_grammar::grammar::YaccGrammar;
 use lrpar_grammar::span::{PIdx, Span, Symbol, TIdx};
-use lrpar_grammar_yacc::declarations::Declarations;
 use lrpar_report::{Report, push_quoted, rule_warnings_but};
 use lrpar_table_sentences::reachable::Reachable;
 use std::alloc::{AllocError, Global};
@@ -11,56 +11,28 @@ use std::alloc::{AllocError, Global};
 pub(crate) fn useless_reports(
     alloc: Global,
     grm: &YaccGrammar<u32>,
-    declared: Option<&Declarations<'_>>,
+    declared: &Declared<'_>,
     is_looked_at: bool,
 ) -> Result<Vec<Report>, AllocError> {
-    let mut names = Vec::new(alloc);
-    if let Some(declared) = declared {
-        push_unused_names(&mut names, declared)?;
-    }
-    let mut reports = rule_warnings_but(alloc, grm, &names)?;
+    let mut reports = rule_warnings_but(alloc, grm, &declared.unused)?;
     if is_looked_at {
-        if let Some(declared) = declared {
-            push_prec_names(&mut names, declared)?;
-        }
-        push_unused_tokens(&mut reports, alloc, grm, &names)?;
+        push_unused_tokens(&mut reports, alloc, grm, declared)?;
     }
     Ok(reports)
 }
 
-// Adds the names that the file says are unused.
-fn push_unused_names<'a>(
-    names: &mut Vec<&'a str>,
-    declared: &Declarations<'a>,
-) -> Result<(), AllocError> {
-    for word in &declared.unused {
-        names.push(word.name)?;
-    }
-    Ok(())
-}
-
-// Adds the names that productions have their precedence from.
-fn push_prec_names<'a>(
-    names: &mut Vec<&'a str>,
-    declared: &Declarations<'a>,
-) -> Result<(), AllocError> {
-    for prec in &declared.precs {
-        names.push(prec.name.name)?;
-    }
-    Ok(())
-}
-
-// Adds a warning for each declared token that no reachable rule uses, but for those with one of these names.
+// Adds a warning for each declared token that no reachable rule uses, but for those that may be unused or that have a precedence for a
+// production.
 fn push_unused_tokens(
     reports: &mut Vec<Report>,
     alloc: Global,
     grm: &YaccGrammar<u32>,
-    names: &[&str],
+    declared: &Declared<'_>,
 ) -> Result<(), AllocError> {
     let marks = token_marks(alloc, grm)?;
     for token in grm.iter_tidxs() {
         if let Some(false) = marks.get(usize::from(token)) {
-            push_unused_token(reports, alloc, grm, token, names)?;
+            push_unused_token(reports, alloc, grm, token, declared)?;
         }
     }
     Ok(())
@@ -108,13 +80,13 @@ fn mark_token(marks: &mut [bool], token: TIdx<u32>) {
     }
 }
 
-// Adds the warning of a token that isn't used, unless it has one of these names.
+// Adds the warning of a token that isn't used, unless it may be unused or has a precedence for a production.
 fn push_unused_token(
     reports: &mut Vec<Report>,
     alloc: Global,
     grm: &YaccGrammar<u32>,
     token: TIdx<u32>,
-    names: &[&str],
+    declared: &Declared<'_>,
 ) -> Result<(), AllocError> {
     if usize::from(token) >= grm.tokens_len() {
         return Ok(());
@@ -122,7 +94,7 @@ fn push_unused_token(
     let (Some(name), Some(place)) = (grm.token_name(token), grm.token_span(token)) else {
         return Ok(());
     };
-    if names.iter().any(|other| *other == name) {
+    if is_among(name, &declared.unused) || is_among(name, &declared.prec_names) {
         return Ok(());
     }
     let mut message = String::from_str(alloc, "token ")?;
@@ -132,4 +104,9 @@ fn push_unused_token(
     let report = Report::warning(alloc, message.as_str())?.label(place, label)?;
     reports.push(report)?;
     Ok(())
+}
+
+// Whether the name is one of these.
+fn is_among(name: &str, names: &[&str]) -> bool {
+    names.iter().any(|other| *other == name)
 }
