@@ -115,8 +115,7 @@ impl<'a> Declared<'a> {
         rules: &FileRules<'a>,
         precedences: Precedences,
     ) -> Result<Result<Declared<'a>, Word<'a>>, AllocError> {
-        let mut declared =
-            Declared::with_precedences(alloc, precedences, !rules.levels.is_empty());
+        let mut declared = Declared::with_precedences(alloc, precedences, !rules.levels.is_empty());
         for alternative in &rules.alternatives {
             push_prec_names(&mut declared.prec_names, &alternative.items)?;
         }
