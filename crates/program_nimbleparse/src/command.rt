@@ -62,7 +62,7 @@ which its gotos and shifts lead. With -q it does nothing";
 const LONG_HELP_OF_KIND: &str = "\
 Read GRAMMAR as a file of this kind. Without the option it is of the kind that the yacckind of its
 %grmtools{..} says; else a grammar text, if it can be read as one; else of the kind grmtools, if a
-rule has a type, and original, if it has something else of .y files";
+rule has a type; else of the kind original or bison, the first that it can be read as";
 
 const LONG_HELP_OF_LIMIT: &str = "\
 Find no repairs at an error if more than N configurations, a stack and a place in the input each,
