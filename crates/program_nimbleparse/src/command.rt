@@ -175,7 +175,7 @@ pub(crate) const FORMATS: [Choice<Format>; 4] = [
 /// The words that options take, as their parser checks them and the help shows them.
 #[derive(Clone, Copy)]
 pub(crate) struct PossibleValues<'a> {
-    kinds: [PossibleValue<'a>; 3],
+    kinds: [PossibleValue<'a>; 4],
     minimisers: [PossibleValue<'a>; 2],
     searches: [PossibleValue<'a>; 3],
     formats: [PossibleValue<'a>; 4],
@@ -188,6 +188,7 @@ impl<'a> PossibleValues<'a> {
                 KINDS[0].to_possible_value(),
                 KINDS[1].to_possible_value(),
                 KINDS[2].to_possible_value(),
+                KINDS[3].to_possible_value(),
             ],
             minimisers: [
                 MINIMISERS[0].to_possible_value(),
