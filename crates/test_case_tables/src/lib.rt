@@ -1,4 +1,4 @@
-//! Cases of tables: building, checking, stacks, and tables by hand.
+//! Cases of tables: building, checking, stacks, tables by hand, and those of `.y` files.
 #![tactic(auto)]
 
 pub mod actions;
@@ -12,3 +12,4 @@ pub mod rows;
 pub mod stack;
 pub mod stacks;
 pub mod subject;
+pub mod yacc_files;

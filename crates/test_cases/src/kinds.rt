@@ -10,7 +10,7 @@ use test_case_lines::fault::Fault;
 use test_case_lines::printed::Printed;
 use test_case_parses::{chain, expected, parse, precedence};
 use test_case_tables::subject::Subject;
-use test_case_tables::{built, checks, refusals, rows, stacks};
+use test_case_tables::{built, checks, refusals, rows, stacks, yacc_files};
 
 /// The keys of the lines that say what is done in a case of this kind. All others say what has to come.
 pub(crate) fn inputs_of(kind: &str) -> &'static [&'static str] {
@@ -21,6 +21,7 @@ pub(crate) fn inputs_of(kind: &str) -> &'static [&'static str] {
         "text" | "cuts" => grammars::INPUTS,
         "yacc" | "yacc_cuts" => yacc::INPUTS,
         "bison" => bison::INPUTS,
+        "yacc-file" => yacc_files::INPUTS,
         "lrlex" | "lrlex_cuts" => lrlex::INPUTS,
         "parts" => parts::INPUTS,
         "spelled" => spelled::INPUTS,
@@ -57,6 +58,7 @@ pub(crate) fn outcome<R: Files>(
         "yacc" => yacc::outcome(out, alloc, case),
         "yacc_cuts" => yacc::outcome_of_cuts(out, alloc, case),
         "bison" => bison::outcome(out, alloc, case),
+        "yacc-file" => yacc_files::outcome(out, alloc, case),
         "lrlex" => lrlex::outcome(out, alloc, case),
         "lrlex_cuts" => lrlex::outcome_of_cuts(out, alloc, case),
         "parts" => parts::outcome(out, alloc, case),
