@@ -31,6 +31,8 @@ SHIFTS = re.compile(r"(\d+) shift/reduce conflict")
 REDUCTIONS = re.compile(r"(\d+) reduce/reduce conflict")
 SIZES = re.compile(r"\bstates (\d+),.*\nshift/reduce conflicts (\d+), reduce/reduce conflicts (\d+)")
 ERROR = re.compile(r"error: .*")
+# What there is no row of.
+AGREED = ("the same", "refused by both")
 # The options by which bison keeps states that no resolved conflict leads to.
 KEPT = ("-Wconflicts-sr", "-Wconflicts-rr", "-Flr.keep-unreachable-state")
 
@@ -65,6 +67,7 @@ def run(words, folder):
 
 
 def text_of(stream):
+    """What was written to the stream, as a text."""
     return stream.decode(errors="replace")
 
 
@@ -87,6 +90,7 @@ def states_in(folder):
 
 
 def number_in(pattern, text):
+    """The number that the pattern finds in the text, or 0."""
     found = pattern.search(text)
     return int(found.group(1)) if found else 0
 
@@ -145,11 +149,15 @@ def files_below(folder):
 
 
 def words_of(arguments):
+    """The words of the command."""
     words = argparse.ArgumentParser()
     words.add_argument("--program", default=os.environ.get("NIMBLEPARSE_PROGRAM", str(ROOT / "nimbleparse")))
     words.add_argument("--jobs", type=int, default=os.cpu_count())
     words.add_argument("folder", type=pathlib.Path)
-    return words.parse_args(arguments)
+    found = words.parse_args(arguments)
+    if not found.folder.is_dir():
+        words.error(f"no folder {found.folder}")
+    return found
 
 
 def main():
@@ -161,16 +169,16 @@ def main():
         sys.exit(2)
     folder = words.folder.resolve()
     files = files_below(folder)
-    counts = dict.fromkeys(("the same", "refused by both", "other numbers", "refused by nimbleparse alone", "refused by bison alone"), 0)
+    counts = dict.fromkeys((*AGREED, "other numbers", "refused by nimbleparse alone", "refused by bison alone"), 0)
     with concurrent.futures.ThreadPoolExecutor(words.jobs) as jobs:
         for file, answers in zip(files, jobs.map(lambda file: compare(os.path.abspath(program), file), files)):
             first, closer, second = answers
             kind = kind_of(first, second)
             counts[kind] += 1
-            if kind not in ("the same", "refused by both"):
+            if kind not in AGREED:
                 print(row(file.relative_to(folder), first, closer, second), flush=True)
     print(f"{len(files)} files, " + ", ".join(f"{count} {kind}" for kind, count in counts.items()))
-    sys.exit(1 if len(files) > counts["the same"] + counts["refused by both"] else 0)
+    sys.exit(0 if len(files) == sum(counts[kind] for kind in AGREED) else 1)
 
 
 main()
