@@ -19,12 +19,14 @@ WORD = re.compile(r"[^\s(){}\[\],.;:λ→×|]+")
 # The crates that users name beside `lrpar`: all their public functions are for users.
 ALSO_NAMED = {
     "lrpar_conflict_examples",
+    "lrpar_grammar_bison_parts",
     "lrpar_lexer",
     "lrpar_lexer_lrlex",
     "lrpar_parse_precedences",
     "lrpar_parse_prefixes",
     "lrpar_parse_trees",
     "lrpar_report",
+    "lrpar_report_bison",
     "lrpar_table_sentences",
 }
 
