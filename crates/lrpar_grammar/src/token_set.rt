@@ -87,7 +87,7 @@ impl TokenSet {
         // Without a branch, so that many tokens are tested at once.
         let mut covers = true;
         for token in 0..others.len() {
-            covers = covers && (bits[token] || !others[token]);
+            covers = covers & (bits[token] | !others[token]);
         }
         covers
     }
