@@ -10,7 +10,7 @@ use lrpar_grammar::span::Span;
 use lrpar_grammar_bison_parts::faults::BisonFault;
 use lrpar_grammar_bison_parts::grammar::BisonGrammar;
 use lrpar_grammar_bison_rules::rules::FileRules;
-use lrpar_grammar_yacc::file::YaccFile;
+use lrpar_grammar_yacc::file::{YaccFile, YaccFileFault};
 use lrpar_grammar_yacc::parts::YaccKind;
 use lrpar_report::{Report, Reporter, grammar_report, push_quoted, yacc_report};
 use lrpar_report_bison::bison_report;
@@ -67,15 +67,38 @@ fn by_look<'a>(alloc: Global, reporter: &Reporter<'_>, text: &'a str) -> Result<
     match YaccGrammar::new_with_storaget(alloc, text) {
         Ok(grammar) => Ok(plain(alloc, grammar)),
         Err(GrammarFault::Memory) => Err(Fault::Memory),
+        Err(fault) => match kind_by_look(text) {
+            Some(kind) => by_yacc_or_bison(alloc, reporter, text, kind),
+            None => {
+                let otherwise = refused(alloc, reporter, text, &fault);
+                by_bison_or(alloc, reporter, text, otherwise)
+            }
+        },
+    }
+}
+
+// The grammar of a `.y` file of lrpar, of this kind, or of one of bison. A name that has no precedence is a fault of lrpar's files alone, so
+// such a file is one of bison only if it looks like that.
+fn by_yacc_or_bison<'a>(
+    alloc: Global,
+    reporter: &Reporter<'_>,
+    text: &'a str,
+    kind: YaccKind,
+) -> Result<Source<'a>, Fault> {
+    match YaccFile::new_with_kind(alloc, kind, text) {
+        Ok(file) => of_yacc(alloc, file),
         Err(fault) => {
-            let otherwise = match kind_by_look(text) {
-                Some(kind) => match by_yacc(alloc, reporter, text, kind) {
-                    Err(otherwise) => otherwise,
-                    found => return found,
-                },
-                None => refused(alloc, reporter, text, &fault),
-            };
-            by_bison_or(alloc, reporter, text, otherwise)
+            let is_name = matches!(fault, YaccFileFault::UnknownToken(_));
+            let otherwise = fault_of_report(
+                alloc,
+                reporter,
+                yacc_report(alloc, kind, text, &fault),
+            );
+            if is_name && !looks_like_bison(text) {
+                Err(otherwise)
+            } else {
+                by_bison_or(alloc, reporter, text, otherwise)
+            }
         }
     }
 }
@@ -117,16 +140,19 @@ fn by_yacc<'a>(
     kind: YaccKind,
 ) -> Result<Source<'a>, Fault> {
     match YaccFile::new_with_kind(alloc, kind, text) {
-        Ok(file) => {
-            let (grammar, text) = file.into_parts();
-            let declared = Declared::of_declarations(alloc, &grammar, &text.declarations)?;
-            Ok(Source { grammar, declared })
-        }
+        Ok(file) => of_yacc(alloc, file),
         Err(fault) => {
             let report = yacc_report(alloc, kind, text, &fault);
             Err(fault_of_report(alloc, reporter, report))
         }
     }
+}
+
+// The grammar of a `.y` file of lrpar that was read.
+fn of_yacc<'a>(alloc: Global, file: YaccFile<'a, u32>) -> Result<Source<'a>, Fault> {
+    let (grammar, text) = file.into_parts();
+    let declared = Declared::of_declarations(alloc, &grammar, &text.declarations)?;
+    Ok(Source { grammar, declared })
 }
 
 // The grammar of a `.y` file of bison.
