@@ -58,21 +58,20 @@ pub(crate) fn expect(
     stable: &StateTable<u32>,
 ) -> Result<(), Fault> {
     let counts = counts_of(stable);
-    let (shifts, reductions) = (declared.expected, declared.expected_rr);
     expect_number(
         alloc,
         reporter,
         "shift/reduce",
-        shifts,
-        reductions,
+        declared.expected.as_ref(),
+        declared.expected_rr.as_ref(),
         counts.shift_reduce,
     )?;
     expect_number(
         alloc,
         reporter,
         "reduce/reduce",
-        reductions,
-        shifts,
+        declared.expected_rr.as_ref(),
+        declared.expected.as_ref(),
         counts.reduce_reduce,
     )
 }
@@ -82,8 +81,8 @@ fn expect_number(
     alloc: Global,
     reporter: &Reporter<'_>,
     kind: &str,
-    expected: Option<Number>,
-    other: Option<Number>,
+    expected: Option<&Number>,
+    other: Option<&Number>,
     count: usize,
 ) -> Result<(), Fault> {
     let (number, span, label) = match (expected, other) {

@@ -182,12 +182,8 @@ fn run_files<R: Files, I: Read + Drop, O: Write, E: Write>(
     let lexer = file_text(rt, alloc, options.lexer)?;
     let work = Work {
         options,
-        grammar: GrammarFile {
-            path: options.grammar,
-            text: grammar.as_str(),
-            asked: options.asked,
-            terminal,
-        },
+        terminal,
+        grammar: grammar.as_str(),
         lexer: lexer.as_str(),
     };
     run_work(rt, alloc, work, input, out, err)
@@ -197,22 +193,33 @@ fn run_files<R: Files, I: Read + Drop, O: Write, E: Write>(
 #[derive(Clone, Copy)]
 struct Work<'a> {
     options: &'a Options<'a>,
-    grammar: GrammarFile<'a>,
+    terminal: Terminal,
+    grammar: &'a str,
     lexer: &'a str,
 }
 
 impl<'a> Work<'a> {
+    // The grammar file, and what is asked of it.
+    fn grammar_file(self) -> GrammarFile<'a> {
+        GrammarFile {
+            path: self.options.grammar,
+            text: self.grammar,
+            asked: self.options.asked,
+            terminal: self.terminal,
+        }
+    }
+
     // How inputs are parsed and trees are printed.
     fn plan(self, data: &'a ParserData<u32>, rules: &'a LexerRules) -> Plan<'a> {
         Plan {
             data,
-            has_merged_states: self.grammar.asked.minimiser == Minimiser::Pager,
+            has_merged_states: self.options.asked.minimiser == Minimiser::Pager,
             rules,
             recovery: self.options.recovery,
             format: self.options.format,
-            is_quiet: self.grammar.asked.is_quiet,
+            is_quiet: self.options.asked.is_quiet,
             shows_paths: self.options.inputs.len() > 1,
-            look: self.grammar.terminal.look,
+            look: self.terminal.look,
         }
     }
 }
@@ -226,7 +233,7 @@ fn run_work<R: Files, I: Read + Drop, O: Write, E: Write>(
     out: &mut O,
     err: &mut E,
 ) -> Result<Status, Fault> {
-    let table = make_table(alloc, work.grammar, out, err)?;
+    let table = make_table(alloc, work.grammar_file(), out, err)?;
     let rules = rules_of_lexer(alloc, work, &table.data)?;
     warn(alloc, work, &table, &rules, out, err)?;
     parse_inputs(rt, alloc, work, &table, &rules, input, out, err)
@@ -239,7 +246,7 @@ fn rules_of_lexer(
     data: &ParserData<u32>,
 ) -> Result<LexerRules, Fault> {
     let path = work.options.lexer;
-    let reporter = Reporter::new(alloc, work.lexer, path, work.grammar.terminal.look)?;
+    let reporter = Reporter::new(alloc, work.lexer, path, work.terminal.look)?;
     lexer_rules(alloc, &reporter, data.grm(), work.lexer)
 }
 
@@ -252,7 +259,7 @@ fn warn<O: Write, E: Write>(
     out: &mut O,
     err: &mut E,
 ) -> Result<(), Fault> {
-    if work.grammar.asked.is_quiet {
+    if work.options.asked.is_quiet {
         return Ok(());
     }
     let text = warnings(alloc, work, table, rules)?;
@@ -266,11 +273,11 @@ fn warnings(
     table: &GrammarTable,
     rules: &LexerRules,
 ) -> Result<String, AllocError> {
-    let reporter = work.grammar.reporter(alloc)?;
+    let reporter = work.grammar_file().reporter(alloc)?;
     let mut text = String::new(alloc);
     push_token_warnings(&mut text, alloc, &reporter, table.data.grm(), rules)?;
     push_sizes_note(&mut text, alloc, &reporter, table)?;
-    let asked = work.grammar.asked;
+    let asked = work.options.asked;
     if asked.is_verbose {
         push_table_note(&mut text, alloc, &reporter, &table.data, asked.minimiser)?;
     }
@@ -372,7 +379,7 @@ fn make_completion<'a, O: Write, E: Write>(
         Ok(completion) => Ok(Some(completion)),
         Err(NoCompletion::Memory) => Err(Fault::Memory),
         Err(refusal) => {
-            if !work.grammar.asked.is_quiet {
+            if !work.options.asked.is_quiet {
                 let text = no_completion(alloc, work, data, refusal)?;
                 write_messages(out, err, text.as_str())?;
             }
@@ -403,7 +410,7 @@ fn no_completion(
         }
     }
     let mut text = String::new(alloc);
-    let reporter = work.grammar.reporter(alloc)?;
+    let reporter = work.grammar_file().reporter(alloc)?;
     reporter.push(
         &mut text,
         alloc,
