@@ -28,6 +28,8 @@ pub(crate) struct Declared<'a> {
     pub(crate) expected_rr: Option<Number>,
     /// Whether the parser is to follow each way out of a conflict.
     pub(crate) is_glr: bool,
+    /// The token that no lexer gives: `error` in a file of bison.
+    pub(crate) hidden: Option<TIdx<u32>>,
 }
 
 // Hand-written, so that code that drops one needs the proof of one call only.
@@ -42,6 +44,7 @@ impl<'a> Drop for Declared<'a> {
             expected: _,
             expected_rr: _,
             is_glr: _,
+            hidden: _,
         } = self;
         drop(precedences);
         drop(avoided);
@@ -71,6 +74,7 @@ impl<'a> Declared<'a> {
             expected: None,
             expected_rr: None,
             is_glr: false,
+            hidden: None,
         }
     }
 
@@ -112,6 +116,7 @@ impl<'a> Declared<'a> {
     /// What a `.y` file of bison declares, with its precedences. Fails with the last number of conflicts of a kind, if it is none.
     pub(crate) fn of_rules(
         alloc: Global,
+        grm: &YaccGrammar<u32>,
         rules: &FileRules<'a>,
         precedences: Precedences,
     ) -> Result<Result<Declared<'a>, Word<'a>>, AllocError> {
@@ -120,6 +125,7 @@ impl<'a> Declared<'a> {
             push_prec_names(&mut declared.prec_names, &alternative.items)?;
         }
         declared.is_glr = rules.is_glr;
+        declared.hidden = grm.token_idx("error");
         Ok(declared.with_numbers(rules))
     }
 

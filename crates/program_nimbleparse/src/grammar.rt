@@ -64,6 +64,8 @@ pub struct GrammarTable {
     pub data: ParserData<u32>,
     /// The tokens that repairs are to avoid.
     pub avoided: Vec<TIdx<u32>>,
+    /// The token that no lexer gives, no message names and no repair is to insert, if there is one.
+    pub hidden: Option<TIdx<u32>>,
     /// Whether the file declares precedences.
     pub has_precedences: bool,
     /// Whether the file says how many conflicts it expects.
@@ -78,6 +80,7 @@ impl Drop for GrammarTable {
         let GrammarTable {
             data,
             avoided,
+            hidden: _,
             has_precedences: _,
             expects_conflicts: _,
             has_warnings: _,
@@ -120,6 +123,7 @@ fn build_table<O: Write, E: Write>(
     Ok(GrammarTable {
         data,
         avoided: Vec::from_slice(alloc, &declared.avoided)?,
+        hidden: declared.hidden,
         has_precedences: declared.has_precedences,
         expects_conflicts: expects_conflicts(&declared),
         has_warnings,

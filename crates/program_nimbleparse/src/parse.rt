@@ -115,14 +115,31 @@ fn errors_text(
     let reporter = Reporter::new(alloc, input, path, plan.look)?;
     let mut text = String::new(alloc);
     for (place, error) in errors.iter().enumerate() {
+        let tokens = tokens_of(plan.data, plan.has_merged_states, expected, place, error);
+        let named = tokens_but(alloc, tokens, plan.hidden)?;
         let subject = Subject {
             grm: plan.data.grm(),
             input,
-            expected: tokens_of(plan.data, plan.has_merged_states, expected, place, error),
+            expected: &named,
         };
         push_error(&mut text, alloc, plan.recovery, &reporter, &subject, error)?;
     }
     Ok(text)
+}
+
+// The tokens but for that one, if there is one.
+fn tokens_but(
+    alloc: Global,
+    tokens: &[TIdx<u32>],
+    hidden: Option<TIdx<u32>>,
+) -> Result<Vec<TIdx<u32>>, AllocError> {
+    let mut others = Vec::with_capacity(alloc, tokens.len())?;
+    for token in tokens {
+        if Some(*token) != hidden {
+            others.push(*token)?;
+        }
+    }
+    Ok(others)
 }
 
 // The tokens that can be fed at the first error, if it is one of the parse.

@@ -1,5 +1,6 @@
 //! What inputs are parsed by, and how trees are printed.
 use crate::rules::LexerRules;
+use lrpar_grammar::span::TIdx;
 use lrpar_report::Look;
 use lrpar_table::check::ParserData;
 
@@ -39,6 +40,8 @@ pub struct Plan<'a> {
     pub data: &'a ParserData<u32>,
     /// Whether the states of its table are merged.
     pub has_merged_states: bool,
+    /// The token that no message names, if there is one.
+    pub hidden: Option<TIdx<u32>>,
     pub rules: &'a LexerRules,
     pub recovery: Recovery,
     pub format: Format,

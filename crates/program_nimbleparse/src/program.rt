@@ -210,9 +210,10 @@ impl<'a> Work<'a> {
     }
 
     // How inputs are parsed and trees are printed.
-    fn plan(self, data: &'a ParserData<u32>, rules: &'a LexerRules) -> Plan<'a> {
+    fn plan(self, table: &'a GrammarTable, rules: &'a LexerRules) -> Plan<'a> {
         Plan {
-            data,
+            data: &table.data,
+            hidden: table.hidden,
             has_merged_states: self.options.asked.minimiser == Minimiser::Pager,
             rules,
             recovery: self.options.recovery,
@@ -335,35 +336,50 @@ fn parse_inputs<R: Files, I: Read + Drop, O: Write, E: Write>(
     out: &mut O,
     err: &mut E,
 ) -> Result<Status, Fault> {
-    let GrammarTable { data, avoided, .. } = table;
-    let plan = work.plan(data, rules);
+    let data = &table.data;
+    let plan = work.plan(table, rules);
     let parser = RTParserBuilder::new(data);
     match plan.recovery {
         Recovery::Nothing => parse_by(rt, alloc, work, &plan, parser, input, out, err),
         Recovery::Cheapest { limit } => {
-            let parser = parser.recoverer(cheapest(alloc, limit, avoided)?);
+            let parser = parser.recoverer(cheapest(alloc, limit, table)?);
             parse_by(rt, alloc, work, &plan, parser, input, out, err)
         }
         Recovery::Complete { limit } => match make_completion(alloc, work, data, out, err)? {
             Some(completion) => {
-                let parser = parser.recoverer(cheapest(alloc, limit, avoided)?.or(completion));
+                let parser = parser.recoverer(cheapest(alloc, limit, table)?.or(completion));
                 parse_by(rt, alloc, work, &plan, parser, input, out, err)
             }
             None => {
-                let parser = parser.recoverer(cheapest(alloc, limit, avoided)?);
+                let parser = parser.recoverer(cheapest(alloc, limit, table)?);
                 parse_by(rt, alloc, work, &plan, parser, input, out, err)
             }
         },
     }
 }
 
-// What searches for the cheapest repairs with this limit, those last that insert one of these tokens.
-fn cheapest(alloc: Global, limit: usize, avoided: &[TIdx<u32>]) -> Result<CpctPlus, AllocError> {
-    let recoverer = CpctPlus::new(limit);
-    if avoided.is_empty() {
+// What searches for the cheapest repairs with this limit, those last that insert one of the tokens to be avoided.
+fn cheapest(alloc: Global, limit: usize, table: &GrammarTable) -> Result<CpctPlus, AllocError> {
+    let recoverer = match table.hidden {
+        Some(token) => with_dear_token(alloc, limit, token)?,
+        None => CpctPlus::new(limit),
+    };
+    if table.avoided.is_empty() {
         Ok(recoverer)
     } else {
-        recoverer.avoid_insert(alloc, avoided)
+        recoverer.avoid_insert(alloc, &table.avoided)
+    }
+}
+
+// What searches for the cheapest repairs with this limit, if it costs as much as can be to insert this token.
+fn with_dear_token(alloc: Global, limit: usize, token: TIdx<u32>) -> Result<CpctPlus, AllocError> {
+    let mut costs = vec![in alloc; 1u8; usize::from(token).saturating_add(1)]?;
+    if let Some(cost) = costs.get_mut(usize::from(token)) {
+        *cost = u8::MAX;
+    }
+    match CpctPlus::with_costs(limit, costs) {
+        Ok(recoverer) => Ok(recoverer),
+        Err(_) => Ok(CpctPlus::new(limit)),
     }
 }
 

@@ -183,7 +183,7 @@ fn by_rules<'a>(
                 Ok(grammar) => grammar,
                 Err(fault) => return Err(refused(alloc, reporter, text, &fault)),
             };
-            match Declared::of_rules(alloc, rules, precedences)? {
+            match Declared::of_rules(alloc, &grammar, rules, precedences)? {
                 Ok(declared) => Ok(Source { grammar, declared }),
                 Err(word) => {
                     let report = no_number(alloc, word.span());
