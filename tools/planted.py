@@ -43,7 +43,7 @@ PLACE = re.compile(r"(note: )?\S+:\d+:\d+:")
 # What rattle prints of a function with a goal that it doesn't prove and nobody answers.
 OPEN = re.compile(r"fn \S+: no proof: .*did not prove `")
 # An error in a proof file that names what the edit took away, or in what cites that proof.
-TAKEN_AWAY = re.compile(r"(note: )?(\./)?proofs/.*(has no field|is not in scope|has no `|was not admitted|, which was rejected,)")
+TAKEN_AWAY = re.compile(r"(note: )?(\./)?proofs/.*(has no field|is not in scope|has no `|was not admitted|, which was rejected,|rattle does not read)")
 # What the try of an edit comes to: it is refused; it is, by a reason that shows nothing of a contract; or it isn't, or can't be tried.
 REFUSED, UNSHOWN, FAILED = "refused", "unshown", "failed"
 UNREAD = re.compile(r"is not in scope|has no field|is no name|operand is missing|expected the end|cannot continue")

@@ -3,6 +3,7 @@ use Rattle.std.specs.Prelude.{◌≡◌, ◌∷◌, [], Bool, true, false, ℕ, 
 use Rattle.std.specs.List.{find, list_any}
 use Rattle.std.specs.Option.{option_or}
 use Rattle.lrpar_grammar_places.specs.Span.{Extent}
+use Rattle.lrpar_grammar_reader.specs.declared.parts.GrammarFault.TheVariants.{Memory as GrammarMemory}
 use Rattle.lrpar_grammar_reader.specs.declared.parts.GrammarParts.{GrammarParts}
 use Rattle.lrpar_grammar_reader.specs.Parts.{AreSound, Parts, parts_of}
 use Rattle.lrpar_grammar_reader.specs.Spells.{IsClean, spelled_parts}
@@ -99,6 +100,7 @@ pub record IsGrammarWith {S : Type 0} (index : S → ℕ) (limit : ℕ) (r : Rul
 -- a token that has a second precedence; or none has, and the declarations and rules have this fault
 abbrev pub IsPartsFault : ℕ → Rules → BisonFault → Type 0
 IsPartsFault limit r (RepeatedPrecedence span) = repeated_rank (file_ranks r) ≡ Some span
+IsPartsFault limit r (Grammar GrammarMemory) = ⊥
 IsPartsFault limit r (Grammar fault) = (repeated_rank (file_ranks r) ≡ None) × IsRefusedAs limit (file_outline r) fault
 IsPartsFault limit r Memory = Unit {0}
 IsPartsFault limit r _ = ⊥

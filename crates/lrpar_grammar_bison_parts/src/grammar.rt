@@ -26,7 +26,8 @@ use std::alloc::{AllocError, Global};
 /// parts, and `TableOptions::precedences` takes the precedences.
 ///
 /// An action that isn't the last of its alternative is a rule without symbols, named `$@1` and so on. A token that is used in the place of
-/// another one's text is that one. Literals are named without their quotes. `error` is a token if a rule uses it.
+/// another one's text is that one. Literals are named without their quotes, so two tokens may have one name. `error` is a token if a rule
+/// uses it.
 pub struct BisonGrammar<StorageT: StorageIndex> {
     /// The rules, tokens and productions. Productions are in the order of the file; those of rules for the actions of an alternative
     /// come right before it.
