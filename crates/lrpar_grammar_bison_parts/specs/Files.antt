@@ -1,5 +1,5 @@
 -- The grammar of a `.y` file as bison reads it, and why there is none.
-use Rattle.std.specs.Prelude.{◌≡◌, ◌∷◌, [], Bool, true, false, ℕ, List, Option, None, Some, MatchOption, map, option_map, if◌then◌else◌}
+use Rattle.std.specs.Prelude.{◌≡◌, ◌∷◌, ◌||◌, [], Bool, true, false, ℕ, List, Option, None, Some, MatchOption, length, map, nat_lt, option_map, if◌then◌else◌}
 use Rattle.std.specs.List.{find, list_any}
 use Rattle.std.specs.Option.{option_or}
 use Rattle.lrpar_grammar_places.specs.Span.{Extent}
@@ -16,7 +16,7 @@ use Rattle.lrpar_grammar_bison_rules.specs.Rules.{AreRulesOfText, IsRulesFault, 
 use Rattle.lrpar_grammar_bison_parts.specs.declared.faults.BisonFault.{BisonFault}
 use Rattle.lrpar_grammar_bison_parts.specs.declared.faults.BisonFault.TheVariants.{Grammar, Memory, NotEmpty, RepeatedPrec, RepeatedPrecedence, Rules as RulesVariant}
 use Rattle.lrpar_grammar_bison_parts.specs.declared.grammar.BisonGrammar.{BisonGrammar}
-use Rattle.lrpar_grammar_bison_parts.specs.Midrules.{is_symbol}
+use Rattle.lrpar_grammar_bison_parts.specs.Midrules.{actions_in, is_symbol}
 use Rattle.lrpar_grammar_bison_parts.specs.Outline.{file_outline}
 use Rattle.lrpar_grammar_bison_parts.specs.Precedences.{NamedRank, is_prec, named_ranks, prec_words, prod_slots, repeated_rank, token_slots}
 use Rattle.lrpar_grammar_bison_parts.specs.Unquoted.{unquoted_token}
@@ -61,9 +61,13 @@ abbrev pub is_empty_sign : ItemKind → Bool
 is_empty_sign Empty = true
 is_empty_sign _ = false
 
--- an alternative with these parts has a symbol
+-- a symbol is among the parts
 abbrev pub has_symbol : List FileItem → Bool
 has_symbol items = list_any (λ (x : FileItem). is_symbol x.kind) items
+
+-- an alternative with these parts has a symbol, or an action that stands for one
+abbrev pub is_filled : List FileItem → Bool
+is_filled items = has_symbol items || nat_lt 0 (length (actions_in items))
 
 -- the first `%empty` among the parts of an alternative
 abbrev pub empty_in : List FileItem → Option Extent
@@ -72,7 +76,7 @@ empty_in items = option_map (λ (x : FileItem). x.word.span) (find (λ (x : File
 -- the first `%empty` in an alternative that has symbols
 abbrev pub false_empty : List FileAlternative → Option Extent
 false_empty [] = None
-false_empty (x ∷ xs) = option_or (if has_symbol x.items then empty_in x.items else None) (false_empty xs)
+false_empty (x ∷ xs) = option_or (if is_filled x.items then empty_in x.items else None) (false_empty xs)
 
 -- no alternative has a second `%prec`, or a `%empty` beside symbols
 pub record HasSoundAlternatives (alternatives : List FileAlternative) : Type 0 where

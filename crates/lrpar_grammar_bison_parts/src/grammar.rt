@@ -2,11 +2,11 @@
 ghost use Rattle.std.specs.Prelude.{◌≡◌, IfErr, IfOk, map};
 ghost use Rattle.lrpar_grammar_bison_rules.specs.Rules.{AreOfDefinedRules, HaveOrderedItems, alternative_of, item_of, rules_in};
 ghost use Rattle.lrpar_grammar_words.specs.Words.{placed as text_placed};
-ghost use Rattle.lrpar_grammar_bison_parts.specs.Files.{HasUnquotedTokens, IsAlternativeFault, empty_in, false_empty, has_symbol, is_empty_sign, repeated_prec, second_prec};
+ghost use Rattle.lrpar_grammar_bison_parts.specs.Files.{HasUnquotedTokens, IsAlternativeFault, empty_in, false_empty, has_symbol, is_empty_sign, is_filled, repeated_prec, second_prec};
 ghost use Rattle.lrpar_grammar_bison_parts.specs.Outline.{midrules_of};
 
 use crate::faults::BisonFault;
-use crate::midrules::{is_symbol, midrule_actions, midrule_names, midrule_words};
+use crate::midrules::{action_count, is_symbol, midrule_actions, midrule_names, midrule_words};
 use crate::outline::outline_of_file;
 use crate::precedences::{
     TokenRanks, is_prec, prec_words, prod_slots, rank_list, rank_map, token_slots,
@@ -167,13 +167,20 @@ fn false_empty(alternatives: &[Alternative]) -> Option<Span>
     ensures { result ≡ false_empty (map alternative_of alternatives.now) }
 {
     for alternative in alternatives {
-        if has_symbol(&alternative.items)
+        if is_filled(&alternative.items)
             && let Some(span) = empty_in(&alternative.items)
         {
             return Some(span);
         }
     }
     None
+}
+
+// Whether the alternative has a symbol, or an action that stands for one.
+fn is_filled(items: &[Item]) -> bool
+    ensures { result ≡ is_filled (map item_of items.now) }
+{
+    has_symbol(items) || action_count(items) > 0
 }
 
 // Whether a part of the alternative is a symbol.
