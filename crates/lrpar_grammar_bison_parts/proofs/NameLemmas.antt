@@ -1,4 +1,4 @@
--- Rules that stand for actions, one after another.
+-- Rules for actions, one after another.
 use Rattle.std.proofs.Common.{◌≡◌, ◌<◌, ◌+◌, ◌++◌, [], ◌∷◌, ℕ, zero, suc, List, map, take, get_or, length, length-take-le, refl, ap, sym, ◌∙◌, arith, add-one}
 use Rattle.std.proofs.lemmas.List.{get_or-map, length-map, map-append, map_more}
 use Rattle.lrpar_grammar_words.specs.declared.words.WordKind.TheVariants.{Name}

@@ -1,4 +1,4 @@
--- Texts that stand for tokens, one after another.
+-- Texts of tokens, one after another.
 use Rattle.std.proofs.Common.{◌≡◌, [], ◌∷◌, ◌++◌, ℕ, List, Bool, true, false, cond, bytes_eq, nat_cmp, Bor, Option, Some, None, option_map, refl, ap, sym, subst, ◌∙◌}
 use Rattle.std.specs.BTreeMap.{BTreeMap, get_by}
 use Rattle.std.specs.Cmp.Lexicographic.{slice_cmp}
@@ -27,7 +27,7 @@ token_more : (before : List FileAlias) (x : FileAlias) (text : List ℕ)
     → token_with (before ++ x ∷ []) text ≡ option_or (token_with before text) (cond (bytes_eq x.text.name text) (Some x.token) None)
 token_more before x text = first_more (λ (y : FileAlias). y.token) (λ (y : FileAlias). bytes_eq y.text.name text) before x
 
--- a text that is there already stands for the token that it stood for
+-- a text that is there already has the token that it had
 had : (old : Option PlacedWord) (b : Bool) (new : PlacedWord) → (b ≡ true → is_some old ≡ true) → old ≡ option_or old (cond b (Some new) None)
 had (Some w) b new has = refl
 had None true new has = absurd (let no = has refl in cc)
@@ -48,7 +48,7 @@ alias_had m before x maps has q =
     (λ same. subst (λ s. is_some (token_with before s) ≡ true) ((bytes_eq-Decides x.text.name q).0 same) present)
     ∙ sym (token_more before x q)
 
--- a new text stands for the new value
+-- a new text has the new value
 pub put : {X : Type 0} (old : Option X) (b : Bool) (new : X) → (b ≡ true → is_some old ≡ false) → cond b (Some new) old ≡ option_or old (cond b (Some new) None)
 put (Some w) true new has = absurd (let no = has refl in cc)
 put (Some w) false new has = refl

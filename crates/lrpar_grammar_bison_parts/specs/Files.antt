@@ -65,7 +65,7 @@ is_empty_sign _ = false
 abbrev pub has_symbol : List FileItem → Bool
 has_symbol items = list_any (λ (x : FileItem). is_symbol x.kind) items
 
--- an alternative with these parts has a symbol, or an action that stands for one
+-- an alternative with these parts has a symbol, or an action in the place of one
 abbrev pub is_filled : List FileItem → Bool
 is_filled items = has_symbol items || nat_lt 0 (length (actions_in items))
 

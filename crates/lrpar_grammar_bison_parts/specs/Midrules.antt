@@ -63,7 +63,7 @@ actions_in items = map (λ (x : FileItem). x.word) (filter (λ (x : FileItem). i
 abbrev pub actions_of : List FileAlternative → List PlacedWord
 actions_of alternatives = flat_map (λ (x : FileAlternative). actions_in x.items) alternatives
 
--- the name of the rule that stands for the action of that number; bison counts them from 1
+-- the name of the rule for the action of that number; bison counts them from 1
 abbrev pub midrule_name : ℕ → List ℕ
 midrule_name number = codes "$@" ++ decimal number
 
@@ -72,7 +72,7 @@ abbrev pub midrule_names : ℕ → ℕ → List (List ℕ)
 midrule_names number zero = []
 midrule_names number (suc count) = midrule_name number ∷ midrule_names (number + 1) count
 
--- the rules that stand for some actions, the first of which has that number
+-- the rules for some actions, the first of which has that number
 abbrev pub midrules_from : ℕ → List PlacedWord → List PlacedTextWord
 midrules_from number [] = []
 midrules_from number (w ∷ ws) = record { kind = Name; name = midrule_name number; span = w.span } ∷ midrules_from (number + 1) ws

@@ -52,7 +52,7 @@ declared_words r =
     map text_word r.tokens
     ++ (map (symbol_word r.aliases) (map (λ (x : FileRank). x.word) r.ranked) ++ map (symbol_word r.aliases) (flat_map declared_in r.alternatives))
 
--- the alternative of a rule that stands for an action
+-- the alternative of a rule for an action
 abbrev pub midrule_alternative : PlacedTextWord → TextAlternative
 midrule_alternative m = record { rule = m; symbols = []; end = m }
 
@@ -84,7 +84,7 @@ outline_by midrules r = record {
   symbols = [];
 }
 
--- the rules that stand for the actions among the symbols of a file
+-- the rules for the actions among the symbols of a file
 abbrev pub midrules_of : Rules → List PlacedTextWord
 midrules_of r = midrules_from 1 (actions_of r.alternatives)
 

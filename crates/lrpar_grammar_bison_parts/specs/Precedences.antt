@@ -66,7 +66,7 @@ is_prec _ = false
 abbrev pub prec_in : List FileItem → Option PlacedWord
 prec_in items = option_map (λ (x : FileItem). x.word) (find (λ (x : FileItem). is_prec x.kind) items)
 
--- the symbols of the `%prec`s of an alternative and of the rules that stand for its actions, which come before it and have none
+-- the symbols of the `%prec`s of an alternative and of the rules for its actions, which come before it and have none
 abbrev pub prec_words_in : List FileAlias → List FileItem → List (Option PlacedTextWord)
 prec_words_in aliases items = replicate (length (actions_in items)) None ++ option_map (symbol_word aliases) (prec_in items) ∷ []
 

@@ -31,11 +31,11 @@ text_word w = record { kind = text_kind w.kind; name = w.name; span = w.span }
 abbrev pub token_with : List FileAlias → List ℕ → Option PlacedWord
 token_with aliases text = option_map (λ (x : FileAlias). x.token) (find (λ (x : FileAlias). bytes_eq x.text.name text) aliases)
 
--- the token that a word stands for, if it is the text of one; else the word
+-- the token whose text a word is, if there is one; else the word
 abbrev pub target : List FileAlias → PlacedWord → PlacedWord
 target aliases w = option_map_or (λ (token : PlacedWord). token) (token_with aliases w.name) w
 
--- a symbol of a rule in a grammar text: the token that it stands for, at its place
+-- a symbol of a rule in a grammar text: the token whose text it is, or itself, at its place
 abbrev pub symbol_word : List FileAlias → PlacedWord → PlacedTextWord
 symbol_word aliases w = record { kind = text_kind (target aliases w).kind; name = (target aliases w).name; span = w.span }
 
@@ -47,7 +47,7 @@ MapsAliases found aliases = (q : List ℕ) → option_map placed (get_by (λ k. 
 abbrev pub HasAliases : List Alias → BTreeMap (Bor (List ℕ)) Word → Type 0
 HasAliases aliases found = MapsAliases found (map alias_of aliases)
 
--- if the map has some texts, this is the word that another one stands for
+-- if the map has some texts, this is the token whose text the other word is, or that word
 abbrev pub HasTarget : BTreeMap (Bor (List ℕ)) Word → Word → Word → Type 0
 HasTarget found word result = (aliases : List FileAlias) → MapsAliases found aliases → placed result ≡ target aliases (placed word)
 

@@ -15,7 +15,7 @@ pub enum BisonFault {
     Rules(RulesFault),
     /// A second `%prec` of one alternative.
     RepeatedPrec(Span),
-    /// A `%empty` in an alternative that has symbols, or actions that stand for some.
+    /// A `%empty` in an alternative that has symbols, or actions in the place of some.
     NotEmpty(Span),
     /// A token whose precedence is declared a second time.
     RepeatedPrecedence(Span),

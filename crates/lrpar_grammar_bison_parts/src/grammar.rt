@@ -176,7 +176,7 @@ fn false_empty(alternatives: &[Alternative]) -> Option<Span>
     None
 }
 
-// Whether the alternative has a symbol, or an action that stands for one.
+// Whether the alternative has a symbol, or an action in the place of one.
 fn is_filled(items: &[Item]) -> bool
     ensures { result ≡ is_filled (map item_of items.now) }
 {

@@ -129,7 +129,7 @@ fn ends_action(kind: ItemKind) -> bool
     matches!(kind, ItemKind::Symbol | ItemKind::Action)
 }
 
-/// The names of so many rules that stand for actions.
+/// The names of so many rules for actions.
 pub fn midrule_names(alloc: Global, count: usize) -> Result<Vec<String>, AllocError>
     ensures { IfOk result (λ names. map string_bytes names.items ≡ midrule_names 1 count) }
 {
@@ -140,7 +140,7 @@ pub fn midrule_names(alloc: Global, count: usize) -> Result<Vec<String>, AllocEr
     Ok(names)
 }
 
-// The name of the rule that stands for the action of that number.
+// The name of the rule for the action of that number.
 fn midrule_name(alloc: Global, number: usize) -> Result<String, AllocError>
     ensures { IfOk result (λ name. string_bytes name ≡ midrule_name number) }
 {
@@ -149,7 +149,7 @@ fn midrule_name(alloc: Global, number: usize) -> Result<String, AllocError>
     Ok(name)
 }
 
-/// The rules that stand for these actions.
+/// The rules for these actions.
 pub fn midrule_words<'a>(
     alloc: Global,
     actions: &[Word<'a>],

@@ -86,7 +86,7 @@ fn rank_of(name: &str, found: &BTreeMap<&str, Precedence>) -> Option<Precedence>
     }
 }
 
-/// The symbol of the `%prec` of each production, if it has one. Rules that stand for actions come before the alternative of these, and
+/// The symbol of the `%prec` of each production, if it has one. Rules for actions come before the alternative of these, and
 /// have none.
 pub fn prec_words<'a>(
     alloc: Global,

@@ -10,7 +10,7 @@ use lrpar_grammar_words::words as text;
 use std::alloc::{AllocError, Global};
 use std::collections::BTreeMap;
 
-/// The tokens that texts stand for, by these texts: of two tokens with one text the first.
+/// The tokens that have a text, by their texts: of two tokens with one text the first.
 pub fn alias_map<'a>(
     alloc: Global,
     aliases: &[Alias<'a>],
@@ -26,7 +26,7 @@ pub fn alias_map<'a>(
     Ok(tokens)
 }
 
-/// The token that the word stands for if it is a text of one, and otherwise the word.
+/// The token whose text the word is, if there is one, and otherwise the word.
 pub fn target<'a>(word: Word<'a>, aliases: &BTreeMap<&'a str, Word<'a>>) -> Word<'a>
     ensures { HasTarget aliases.now word.entry result }
 {
@@ -48,7 +48,7 @@ pub fn text_word<'a>(word: Word<'a>) -> text::Word<'a>
     }
 }
 
-/// A symbol of a rule in a grammar text: the token that it stands for, at its place.
+/// A symbol of a rule in a grammar text: the token whose text it is, or itself, at its place.
 pub fn symbol_word<'a>(word: Word<'a>, aliases: &BTreeMap<&'a str, Word<'a>>) -> text::Word<'a>
     ensures { IsSymbolWord aliases.now word.entry result }
 {

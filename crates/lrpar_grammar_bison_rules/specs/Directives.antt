@@ -34,7 +34,7 @@ text_directive name =
     else (if bytes_eq name (codes "name-prefix") || (bytes_eq name (codes "name_prefix") || (bytes_eq name (codes "file-prefix") || bytes_eq name (codes "output"))) then Some Prefix
     else (if bytes_eq name (codes "header") || bytes_eq name (codes "defines") then Some Header else None)))
 
--- the directive says nothing of the grammar, and stands alone
+-- the directive says nothing of the grammar, and nothing comes after it
 abbrev pub is_flag : List ℕ → Bool
 is_flag name =
     bytes_eq name (codes "locations") || (bytes_eq name (codes "debug") || (bytes_eq name (codes "verbose")
@@ -43,7 +43,7 @@ is_flag name =
     || (bytes_eq name (codes "pure_parser") || (bytes_eq name (codes "error-verbose") || (bytes_eq name (codes "error_verbose")
     || (bytes_eq name (codes "fixed-output-files") || (bytes_eq name (codes "fixed_output_files"))))))))))))))
 
--- a directive before a number or a type, or one that stands alone
+-- a directive before a number or a type, or one before nothing
 abbrev pub other_directive : List ℕ → Option Directive
 other_directive name =
     if bytes_eq name (codes "empty") then Some Empty

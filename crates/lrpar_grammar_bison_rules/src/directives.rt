@@ -107,7 +107,7 @@ fn text_directive(name: &str) -> Option<Directive>
     }
 }
 
-// A directive before a number or a type, or one that stands alone.
+// A directive before a number or a type, or one before nothing.
 fn other_directive(name: &str) -> Option<Directive>
     ensures { result ≡ other_directive name.now }
 {
@@ -125,7 +125,7 @@ fn other_directive(name: &str) -> Option<Directive>
     }
 }
 
-// Whether the directive says nothing of the grammar, and stands alone.
+// Whether the directive says nothing of the grammar, and nothing comes after it.
 fn is_flag(name: &str) -> bool
     ensures { result ≡ is_flag name.now }
 {

@@ -38,7 +38,7 @@ pub enum SymbolList {
 pub enum Before {
     /// The directive.
     Directive,
-    /// A type, which wants a symbol.
+    /// A type, which a symbol has to follow.
     Tag,
     /// A symbol, which may have a number.
     Symbol,

@@ -35,7 +35,7 @@ pub struct Word<'a> {
     pub kind: WordKind,
     /// Its text, without quotes.
     pub name: &'a str,
-    /// The length in bytes of what is there in the text: `name`, or what stands for it.
+    /// The length in bytes of what is there in the text: `name`, or another text that means it.
     pub len: usize,
     /// The byte after that, counted from the start of the grammar text.
     pub end: usize,
