@@ -40,14 +40,14 @@ module _ {S : Type 0} (index : S → ℕ) (firsts : List TokenSet) (symbols : Li
 
   module _ (t : ℕ)
       (so_far : begins dummy (rows_of firsts) (map (symbol_of index) symbols) t ≡ begins dummy (rows_of firsts) (drop i (map (symbol_of index) symbols)) t)
-      (set : TokenSet) (found : set ≡ get_or firsts r set) (own : Bool) (own_is : own ≡ (nat_lt t dummy && has set.bits.items t)) where
+      (set : TokenSet) (found : set ≡ get_or firsts r set) (own : Bool) (own_is : own ≡ (nat_lt t dummy && has set t)) where
     -- from here on
     left : drop i (map (symbol_of index) symbols) ≡ Nonterminal r ∷ drop (i + 1) (map (symbol_of index) symbols)
     left =
         let rest = drop (i + 1) (map (symbol_of index) symbols) in
         symbols_from index symbols i symbol within read ∙ ap (λ s. symbol_of index s ∷ rest) shows ∙ ap (λ n. Nonterminal n ∷ rest) (sym number)
 
-    row : row_at (rows_of firsts) r ≡ set.bits.items
+    row : row_at (rows_of firsts) r ≡ set
     row = row_is firsts r set set_there found
 
     own_in_row : (nat_lt t dummy && has (row_at (rows_of firsts) r) t) ≡ own
@@ -59,14 +59,14 @@ module _ {S : Type 0} (index : S → ℕ) (firsts : List TokenSet) (symbols : Li
         at_own dummy (rows_of firsts) (map (symbol_of index) symbols) i t so_far r (drop (i + 1) (map (symbol_of index) symbols)) left (own_in_row ∙ own_true)
 
     -- it doesn't, and it isn't nullable
-    pub stops_here : own ≡ false → (b : Bool) → b ≡ has set.bits.items dummy → b ≡ false
+    pub stops_here : own ≡ false → (b : Bool) → b ≡ has set dummy → b ≡ false
         → false ≡ begins dummy (rows_of firsts) (map (symbol_of index) symbols) t
     stops_here own_false b is none =
         at_stop dummy (rows_of firsts) (map (symbol_of index) symbols) i t so_far r (drop (i + 1) (map (symbol_of index) symbols)) left (own_in_row ∙ own_false)
         (ap (λ bits. has bits dummy) row ∙ sym is ∙ none)
 
     -- it doesn't, but it is nullable
-    pub goes_through : own ≡ false → (b : Bool) → b ≡ has set.bits.items dummy → b ≡ true
+    pub goes_through : own ≡ false → (b : Bool) → b ≡ has set dummy → b ≡ true
         → begins dummy (rows_of firsts) (map (symbol_of index) symbols) t ≡ begins dummy (rows_of firsts) (drop (i + 1) (map (symbol_of index) symbols)) t
     goes_through own_false b is through =
         at_through dummy (rows_of firsts) (map (symbol_of index) symbols) i t so_far r (drop (i + 1) (map (symbol_of index) symbols)) left

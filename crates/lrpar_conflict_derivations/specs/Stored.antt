@@ -65,7 +65,7 @@ HasTwoMoves index conflict = move_of index conflict.one ≢ move_of index confli
 
 -- whether the set has the token; the dummy lookahead is none
 abbrev pub has_token : TokenSet → ℕ → ℕ → Bool
-has_token set token dummy = nat_lt token dummy && has set.bits.items token
+has_token set token dummy = nat_lt token dummy && has set token
 
 -- the tokens that moves shift
 abbrev pub text_of : {S : Type 0} → (S → ℕ) → List (Move S) → List ℕ

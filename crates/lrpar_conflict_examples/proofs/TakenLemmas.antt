@@ -50,20 +50,20 @@ eq_flip a b =
 
 -- a token more in the set of a state
 pub token_more : (sets : List TokenSet) (s0 t0 : ℕ) (d new : TokenSet) → s0 < length sets
-    → ((t : ℕ) → has new.bits.items t ≡ (has (get_or sets s0 d).bits.items t || t == t0))
+    → ((t : ℕ) → has new t ≡ (has (get_or sets s0 d) t || t == t0))
     → (s t : ℕ) → has (row_at (rows_of (set sets s0 new)) s) t ≡ (has (row_at (rows_of sets) s) t || ((s0 == s) && (t0 == t)))
 token_more sets s0 t0 d new within put s t =
     let rows = rows_of sets in
-    let inside : s0 < length rows = let count = length-map sets (λ s. s.bits.items) in omega (arith, count, within) in
+    let inside : s0 < length rows = within in
     ap (λ x. has (row_at x s) t) (rows-set sets s0 new)
-    ∙ elim (cases_eq s s0) as (λ _. has (row_at (set rows s0 new.bits.items) s) t ≡ (has (row_at rows s) t || ((s0 == s) && (t0 == t)))) [
+    ∙ elim (cases_eq s s0) as (λ _. has (row_at (set rows s0 new) s) t ≡ (has (row_at rows s) t || ((s0 == s) && (t0 == t)))) [
       | inl same ↦
-          ap (λ n. has (row_at (set rows s0 new.bits.items) n) t) same ∙ ap (λ b. has b t) (get_or-set_same rows s0 new.bits.items [] inside) ∙ put t
+          ap (λ n. has (row_at (set rows s0 new) n) t) same ∙ ap (λ b. has b t) (get_or-set_same rows s0 new [] inside) ∙ put t
           ∙ ap (λ b. has b t || t == t0) (row_in sets s0 d within)
           ∙ ap (λ n. has (row_at rows n) t || t == t0) (sym same)
           ∙ ap (λ b. has (row_at rows s) t || b) (eq_flip t t0 ∙ sym (ap (λ x. x && (t0 == t)) (eq-eqb s0 s (sym same))))
       | inr other ↦
-          ap (λ b. has b t) (get_or-set_other rows s0 s new.bits.items [] other)
+          ap (λ b. has b t) (get_or-set_other rows s0 s new [] other)
           ∙ sym (ap (λ b. has (row_at rows s) t || b) (ap (λ x. x && (t0 == t)) (ne_eqb s0 s (λ is. other (sym is)))) ∙ or_nothing (has (row_at rows s) t))
     ]
 
@@ -78,12 +78,12 @@ token_past rows s0 t0 past s t low =
 -- a state that isn't there has no room
 pub no_room : (sets : List TokenSet) (s : ℕ) → length sets ≤ s → length (row_at (rows_of sets) s) ≤ 0
 no_room sets s past =
-    let count = length-map sets (λ s. s.bits.items) in
+    let count = length-map sets (λ s. s) in
     let none : row_at (rows_of sets) s ≡ [] = get_or_past (rows_of sets) s [] (omega (arith, past, count)) in
     subst (λ (row : List Bool). length row ≤ 0) (sym none) (omega arith)
 
 -- the room of the set of a state
-pub room_in : (sets : List TokenSet) (s n : ℕ) (d : TokenSet) → s < length sets → length (get_or sets s d).bits.items ≤ n → length (row_at (rows_of sets) s) ≤ n
+pub room_in : (sets : List TokenSet) (s n : ℕ) (d : TokenSet) → s < length sets → length (get_or sets s d) ≤ n → length (row_at (rows_of sets) s) ≤ n
 room_in sets s n d within room = subst (λ (row : List Bool). length row ≤ n) (row_in sets s d within) room
 
 module _ (precedences : PrecedenceLists) (s t : ℕ) where

@@ -191,10 +191,10 @@ steps_of taken table s = shift_steps_of taken table s ++ goto_steps_of table s
 
 -- the step by the code's action was appended, and so were all steps of a state
 abbrev pub AppendsShift : {S A : Type 0} → (S → ℕ) → TokenSet → ℕ → ℕ → Action S → Vec (ℕ × ℕ) A → Vec (ℕ × ℕ) A → Type 0
-AppendsShift index taken s t action old new = new.items ≡ old.items ++ shift_step taken.bits.items s t (plain_action index action)
+AppendsShift index taken s t action old new = new.items ≡ old.items ++ shift_step taken s t (plain_action index action)
 
 abbrev pub AppendsSteps : {S A : Type 0} → (S → ℕ) → TokenSet → Table → StIdx S → Vec (ℕ × ℕ) A → Vec (ℕ × ℕ) A → Type 0
-AppendsSteps index taken table s old new = new.items ≡ old.items ++ steps_of taken.bits.items table (index s.0)
+AppendsSteps index taken table s old new = new.items ≡ old.items ++ steps_of taken table (index s.0)
 
 -- all steps of the states below n, state by state
 abbrev pub steps_at : Table → List (List Bool) → ℕ → List (ℕ × ℕ)

@@ -194,7 +194,7 @@ fn remove_shift(sets: &mut [TokenSet], state: usize, token: usize)
     if state >= sets.len() {
         return;
     }
-    if token >= sets[state].bits.len() {
+    if token >= sets[state].len() {
         return;
     }
     sets[state].insert(token);

@@ -10,6 +10,8 @@ pub mod MatchingLemmas
 pub mod ListingLemmas
 pub mod SymbolNameLemmas
 pub mod TakeLemmas
+pub mod TokenSetLemmas
+pub mod WordLemmas
 pub mod ProdTextLemmas
 pub mod SpelledLawLemmas
 pub mod SpelledPartsLemmas

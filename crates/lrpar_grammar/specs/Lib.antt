@@ -8,6 +8,8 @@ pub mod Kept
 pub mod Sum
 pub mod SpansFit
 pub mod Tokens
+pub mod Words
+pub mod SetOrder
 pub mod Printed
 pub mod Spelled
 pub mod SameProds

@@ -24,3 +24,7 @@ UnitesBelow old new other end = (t : ℕ) → has new t ≡ (has old t || (nat_l
 -- all tokens of the other set are in this one
 abbrev pub CoversAll : List Bool → List Bool → Type 0
 CoversAll bits other = (t : ℕ) → IsTrue (has other t) → IsTrue (has bits t)
+
+-- a token is in both sets
+abbrev pub HaveCommon : List Bool → List Bool → Type 0
+HaveCommon bits other = (t : ℕ) × IsTrue (has bits t) × IsTrue (has other t)

@@ -387,11 +387,11 @@ decided_as b test same = (λ h. same.0 (test.0 h), λ holds. test.1 (same.1 hold
 
 -- there are as many sets as productions
 pub starts_len : (g : Grammar) (sets : List TokenSet) → HaveStarts g (rows_of sets) → length sets ≡ prods_len g
-starts_len g sets room = sym (length-map sets (λ s. s.bits.items)) ∙ room.prods
+starts_len g sets room = room.prods
 
 -- the set of a production is one of the list's
 pub start_within : (g : Grammar) (sets : List TokenSet) (p prod : ℕ) → HaveStarts g (rows_of sets) → p < prods_len g → prod ≡ p → prod < length sets
-start_within g sets p prod room known is = let count = room.prods in omega (arith, count, known, is, length-map sets (λ s. s.bits.items))
+start_within g sets p prod room known is = let count = room.prods in omega (arith, count, known, is)
 
 -- so has that of a core of a state
 pub start_of_core : {S : Type 0} (index : S → ℕ) (parts : Completeness S) (s : StIdx S) (prod : PIdx S) (dot : ℕ) (starts : List TokenSet) (place : ℕ) → IsTestable parts
@@ -401,39 +401,39 @@ start_of_core index parts s prod dot starts place known core room is =
 
 -- it is as wide as all sets
 pub start_wide : (g : Grammar) (sets : List TokenSet) (prod : ℕ) (d : TokenSet) → HaveStarts g (rows_of sets) → prod < length sets
-    → length (get_or sets prod d).bits.items ≡ dummy_lookahead g + 1
-start_wide g sets prod d room within = All-map-at (λ row. length row ≡ dummy_lookahead g + 1) (λ s. s.bits.items) sets room.wide prod d within
+    → length (get_or sets prod d) ≡ dummy_lookahead g + 1
+start_wide g sets prod d room within = room.wide prod d within
 
 -- with a set of the same width in place of one of them, they keep their room
-pub starts_room : (g : Grammar) (sets : List TokenSet) (prod : ℕ) (new : TokenSet) → HaveStarts g (rows_of sets) → length new.bits.items ≡ dummy_lookahead g + 1
+pub starts_room : (g : Grammar) (sets : List TokenSet) (prod : ℕ) (new : TokenSet) → HaveStarts g (rows_of sets) → length new ≡ dummy_lookahead g + 1
     → HaveStarts g (rows_of (set sets prod new))
 starts_room g sets prod new room wide =
     subst (HaveStarts g) (sym (rows-set sets prod new)) (record {
-      prods = length-set (rows_of sets) prod new.bits.items ∙ room.prods;
-      wide = All-set (λ row. length row ≡ dummy_lookahead g + 1) (rows_of sets) prod new.bits.items wide room.wide;
+      prods = length-set (rows_of sets) prod new ∙ room.prods;
+      wide = All-set (λ row. length row ≡ dummy_lookahead g + 1) (rows_of sets) prod new wide room.wide;
     })
 
 -- the sets with another one in place of that of production p: p has the new one, and any other production what it had
 set_at : (sets : List TokenSet) (p prod q : ℕ) (d new : TokenSet) → prod < length sets → prod ≡ p
-    → ((p ≡ q) × (row_at (rows_of (set sets prod new)) q ≡ new.bits.items) × ((get_or sets prod d).bits.items ≡ row_at (rows_of sets) q))
+    → ((p ≡ q) × (row_at (rows_of (set sets prod new)) q ≡ new) × ((get_or sets prod d) ≡ row_at (rows_of sets) q))
     ⊎ ((p ≢ q) × (row_at (rows_of (set sets prod new)) q ≡ row_at (rows_of sets) q))
 set_at sets p prod q d new within is =
     let rows = rows_of sets in
-    let inside : prod < length rows = omega (arith, within, length-map sets (λ s. s.bits.items)) in
-    let now : row_at (rows_of (set sets prod new)) q ≡ row_at (set rows prod new.bits.items) q = ap (λ rs. row_at rs q) (rows-set sets prod new) in
-    elim (cases_eq q prod) as (λ _. ((p ≡ q) × (row_at (rows_of (set sets prod new)) q ≡ new.bits.items) × ((get_or sets prod d).bits.items ≡ row_at rows q))
+    let inside : prod < length rows = within in
+    let now : row_at (rows_of (set sets prod new)) q ≡ row_at (set rows prod new) q = ap (λ rs. row_at rs q) (rows-set sets prod new) in
+    elim (cases_eq q prod) as (λ _. ((p ≡ q) × (row_at (rows_of (set sets prod new)) q ≡ new) × ((get_or sets prod d) ≡ row_at rows q))
     ⊎ ((p ≢ q) × (row_at (rows_of (set sets prod new)) q ≡ row_at rows q))) [
       | inl same ↦ inl (
         sym is ∙ sym same,
-        now ∙ ap (row_at (set rows prod new.bits.items)) same ∙ get_or-set_same rows prod new.bits.items [] inside,
+        now ∙ ap (row_at (set rows prod new)) same ∙ get_or-set_same rows prod new [] inside,
         row_in sets prod d within ∙ ap (row_at rows) (sym same),
       )
-      | inr other ↦ inr (λ same. other (sym (is ∙ same)), now ∙ get_or-set_other rows prod q new.bits.items [] other)
+      | inr other ↦ inr (λ same. other (sym (is ∙ same)), now ∙ get_or-set_other rows prod q new [] other)
     ]
 
 -- what is put into the set of production p for a core with dot 0
 pub start_put : (sets : List TokenSet) (p prod dot q t : ℕ) (d new : TokenSet) (H : ℕ → ℕ → ℕ → Type 0) → prod < length sets → prod ≡ p → dot ≡ 0
-    → ((u : ℕ) → IsTrue (has new.bits.items u) ↔ (IsTrue (has (get_or sets prod d).bits.items u) ⊎ H p dot u))
+    → ((u : ℕ) → IsTrue (has new u) ↔ (IsTrue (has (get_or sets prod d) u) ⊎ H p dot u))
     → IsTrue (has (row_at (rows_of (set sets prod new)) q) t) ↔ (IsTrue (has (row_at (rows_of sets) q) t) ⊎ ((p ≡ q) × (dot ≡ 0) × H q 0 t))
 start_put sets p prod dot q t d new H within is first put =
     let after = row_at (rows_of (set sets prod new)) q in
@@ -443,8 +443,8 @@ start_put sets p prod dot q t d new H within is first put =
           let item : H p dot t ≡ H q 0 t = ap (λ n. H n dot t) here.0 ∙ ap (λ n. H q n t) first in
           let there : IsTrue (has after t) ↔ (IsTrue (has before t) ⊎ H q 0 t) =
           subst (λ bits. IsTrue (has bits t) ↔ (IsTrue (has before t) ⊎ H q 0 t)) (sym here.1)
-          (subst (λ bits. IsTrue (has new.bits.items t) ↔ (IsTrue (has bits t) ⊎ H q 0 t)) here.2
-          (subst (λ Put. IsTrue (has new.bits.items t) ↔ (IsTrue (has (get_or sets prod d).bits.items t) ⊎ Put)) item (put t))) in (
+          (subst (λ bits. IsTrue (has new t) ↔ (IsTrue (has bits t) ⊎ H q 0 t)) here.2
+          (subst (λ Put. IsTrue (has new t) ↔ (IsTrue (has (get_or sets prod d) t) ⊎ Put)) item (put t))) in (
             λ h. elim (there.0 h) as (λ _. IsTrue (has before t) ⊎ ((p ≡ q) × (dot ≡ 0) × H q 0 t)) [
               | inl old ↦ inl old
               | inr now ↦ inr (here.0, first, now)
@@ -466,7 +466,7 @@ no_start p dot q P H other = (
 )
 
 -- the set of production p is emptied
-pub start_taken : (sets : List TokenSet) (p prod dot q t : ℕ) (new : TokenSet) → prod < length sets → prod ≡ p → ((u : ℕ) → has new.bits.items u ≡ false)
+pub start_taken : (sets : List TokenSet) (p prod dot q t : ℕ) (new : TokenSet) → prod < length sets → prod ≡ p → ((u : ℕ) → has new u ≡ false)
     → IsTrue (has (row_at (rows_of (set sets prod new)) q) t) → IsTrue (has (row_at (rows_of sets) q) t) × (p ≡ q → dot ≢ 0)
 start_taken sets p prod dot q t new within is none h =
     elim (set_at sets p prod q new new within is) as (λ _. IsTrue (has (row_at (rows_of sets) q) t) × (p ≡ q → dot ≢ 0)) [
@@ -546,7 +546,7 @@ start_of_rule index g r prods i pidx starts place are within read room is =
 -- which is its row
 pub row_of_rule : {S : Type 0} (index : S → ℕ) (g : Grammar) (r : ℕ) (prods : List (PIdx S)) (i : ℕ) (pidx : PIdx S) (starts : List TokenSet) (place : ℕ) (set : TokenSet)
     → map (λ p. index p.0) prods ≡ prods_of g r → i < length prods → pidx ≡ get_or prods i pidx → HaveStarts g (rows_of starts) → place ≡ index pidx.0
-    → set ≡ get_or starts place set → row_at (rows_of starts) (index pidx.0) ≡ set.bits.items
+    → set ≡ get_or starts place set → row_at (rows_of starts) (index pidx.0) ≡ set
 row_of_rule index g r prods i pidx starts place set are within read room is at =
     ap (row_at (rows_of starts)) (sym is) ∙ row_is starts place set (start_of_rule index g r prods i pidx starts place are within read room is) at
 

@@ -25,9 +25,9 @@ pub record HaveStarts (g : Grammar) (rows : List (List Bool)) : Type 0 where
 
 -- each of the sets has room for each token and for the dummy lookahead
 pub record HaveRoomFor (g : Grammar) (sets : WorkSets) : Type 0 where
-  pub after : length sets.after.bits.items ≡ dummy_lookahead g + 1
-  pub front : length sets.front.bits.items ≡ dummy_lookahead g + 1
-  pub begun : length sets.begun.bits.items ≡ dummy_lookahead g + 1
+  pub after : length sets.after ≡ dummy_lookahead g + 1
+  pub front : length sets.front ≡ dummy_lookahead g + 1
+  pub begun : length sets.begun ≡ dummy_lookahead g + 1
   pub starts : HaveStarts g (rows_of sets.starts.items)
 
 -- the sets have room, and those of the productions are empty

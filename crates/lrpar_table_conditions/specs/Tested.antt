@@ -35,7 +35,7 @@ HasSetsIn parts starts = HaveStarts parts.grm.now (rows_of starts)
 
 -- a set has room for each token
 abbrev pub HasWidth : {S : Type 0} → Completeness S → TokenSet → Type 0
-HasWidth parts set = length set.bits.items ≡ dummy_lookahead parts.grm.now + 1
+HasWidth parts set = length set ≡ dummy_lookahead parts.grm.now + 1
 
 -- the state is one of the table, and so are the token and the rule; the production is one of the grammar; and so is the place of a dot
 -- before one of its symbols
@@ -103,7 +103,7 @@ ClosesCoreBy index parts s prod dot starts =
 abbrev pub StartsCover : {S : Type 0} → (S → ℕ) → Completeness S → RIdx S → TokenSet → List TokenSet → Type 0
 StartsCover index parts rule tokens starts =
     (q b : ℕ) → q < prods_len parts.grm.now → rule_of parts.grm.now q ≡ index rule.0
-    → IsTrue (has tokens.bits.items b) → IsTrue (has (row_at (rows_of starts) q) b)
+    → IsTrue (has tokens b) → IsTrue (has (row_at (rows_of starts) q) b)
 
 -- each production's set has the lookaheads of its items with dot 0 in the state
 abbrev pub HasStartsOf : {S : Type 0} → (S → ℕ) → Completeness S → StIdx S → List TokenSet → Type 0
@@ -123,7 +123,7 @@ ClearsStart index prod dot old new =
 -- the lookaheads of the state's items with this core are added to the set, and nothing else is
 abbrev pub AddsLookaheads : {S : Type 0} → (S → ℕ) → Completeness S → StIdx S → PIdx S → ℕ → TokenSet → TokenSet → Type 0
 AddsLookaheads index parts s prod dot old new =
-    (t : ℕ) → IsTrue (has new.bits.items t) ↔ (IsTrue (has old.bits.items t) ⊎ HasItem parts.sgraph.now (index s.0) (index prod.0) dot t)
+    (t : ℕ) → IsTrue (has new t) ↔ (IsTrue (has old t) ⊎ HasItem parts.sgraph.now (index s.0) (index prod.0) dot t)
 
 -- what C3, C4 or C5 requires holds for each item of the state, and for each of those with the core
 abbrev pub ItemsHold : {S : Type 0} → (S → ℕ) → Completeness S → CompletenessCondition → StIdx S → Type 0

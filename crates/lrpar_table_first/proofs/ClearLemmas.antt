@@ -9,20 +9,20 @@ use Rattle.lrpar_grammar.specs.declared.token_set.TokenSet.{TokenSet}
 use Rattle.lrpar_table_first.proofs.GrowthLemmas.{row_in, rows-set}
 
 -- after one more set, all sets so far are empty
-pub cleared_more : (sets : List TokenSet) (i : ℕ) (new : TokenSet) → i < length sets → ((t : ℕ) → has new.bits.items t ≡ false)
+pub cleared_more : (sets : List TokenSet) (i : ℕ) (new : TokenSet) → i < length sets → ((t : ℕ) → has new t ≡ false)
     → ((r t : ℕ) → r < i → has (row_at (rows_of sets) r) t ≡ false)
     → (r t : ℕ) → r < i + 1 → has (row_at (rows_of (set sets i new)) r) t ≡ false
 cleared_more sets i new within none before r t low =
     let rows = rows_of sets in
-    let inside : i < length rows = let count = length-map sets (λ s. s.bits.items) in omega (arith, count, within) in
+    let inside : i < length rows = within in
     subst (λ x. has (row_at x r) t ≡ false) (sym (rows-set sets i new))
-    (elim (cases_eq r i) as (λ _. has (row_at (set rows i new.bits.items) r) t ≡ false) [
-      | inl same ↦ ap (λ n. has (row_at (set rows i new.bits.items) n) t) same ∙ ap (λ b. has b t) (get_or-set_same rows i new.bits.items [] inside) ∙ none t
-      | inr other ↦ ap (λ b. has b t) (get_or-set_other rows i r new.bits.items [] other) ∙ before r t (omega (arith, low, other))
+    (elim (cases_eq r i) as (λ _. has (row_at (set rows i new) r) t ≡ false) [
+      | inl same ↦ ap (λ n. has (row_at (set rows i new) n) t) same ∙ ap (λ b. has b t) (get_or-set_same rows i new [] inside) ∙ none t
+      | inr other ↦ ap (λ b. has b t) (get_or-set_other rows i r new [] other) ∙ before r t (omega (arith, low, other))
     ])
 
-pub rooms_kept : (sets : List TokenSet) (i : ℕ) (d new : TokenSet) → i < length sets → length new.bits.items ≡ length (get_or sets i d).bits.items
+pub rooms_kept : (sets : List TokenSet) (i : ℕ) (d new : TokenSet) → i < length sets → length new ≡ length (get_or sets i d)
     → map (λ row. length row) (rows_of (set sets i new)) ≡ map (λ row. length row) (rows_of sets)
 rooms_kept sets i d new within wide =
     ap (map (λ row. length row)) (rows-set sets i new)
-    ∙ map-set_same (λ (row : List Bool). length row) (rows_of sets) i new.bits.items [] (wide ∙ ap length (row_in sets i d within))
+    ∙ map-set_same (λ (row : List Bool). length row) (rows_of sets) i new [] (wide ∙ ap length (row_in sets i d within))

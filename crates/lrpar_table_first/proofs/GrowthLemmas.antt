@@ -1,7 +1,7 @@
 -- One step of the computation: what one more production begins with is added to the set of its rule.
-use Rattle.std.proofs.Common.{◌≡◌, ◌<◌, ◌≤◌, ◌+◌, ◌||◌, ◌&&◌, ◌∙◌, sym, ap, subst, inl, inr, arith, ℕ, Bool, false, List, [], ◌∷◌, ◌++◌, All, length, set, get_or, nat_lt, take, drop, IsTrue}
+use Rattle.std.proofs.Common.{◌≡◌, ◌<◌, ◌≤◌, ◌+◌, ◌||◌, ◌&&◌, ◌∙◌, sym, ap, subst, inl, inr, arith, ℕ, Bool, false, List, [], ◌∷◌, ◌++◌, All, length, set, get_or, nat_lt, take, drop, IsTrue, refl}
 use Rattle.std.proofs.lemmas.Bool.{and_from, and_parts, cases_eq, cases_lt, eqb-true, false≢true, lt-ltb, or_cases, or_right}
-use Rattle.std.proofs.lemmas.List.{append-nil, drop_all, get_or-map, get_or-set_other, get_or-set_same, get_or_past, length-map, length-set, map-set, set-get_or, take_all}
+use Rattle.std.proofs.lemmas.List.{get_or_default, append-nil, drop_all, get_or-map, get_or-set_other, get_or-set_same, get_or_past, length-map, length-set, map-set, set-get_or, take_all}
 use Rattle.std.proofs.lemmas.List.Elements.{All-get_or, All-head, All-set, All-tail}
 use Rattle.std.proofs.lemmas.List.Sums.{sum_by-set}
 use Rattle.lrpar_grammar.specs.Grammar.{Grammar, GrammarSymbol, IsDeclaredSymbol, IsWellFormed, Nonterminal, Terminal, end_token, prods_len, rule_of, rules_len, start_prod, symbols_of}
@@ -39,8 +39,8 @@ has_room bits t h =
     ]
 
 -- a list of sets with one replaced
-pub rows-set : (sets : List TokenSet) (r : ℕ) (new : TokenSet) → rows_of (set sets r new) ≡ set (rows_of sets) r new.bits.items
-rows-set sets r new = map-set (λ s. s.bits.items) sets r new
+pub rows-set : (sets : List TokenSet) (r : ℕ) (new : TokenSet) → rows_of (set sets r new) ≡ set (rows_of sets) r new
+rows-set sets r new = refl
 
 -- it keeps its room
 pub room_set : (g : Grammar) (rows : List (List Bool)) (r : ℕ) (bits : List Bool) → HaveRoom g rows → length bits ≡ dummy_lookahead g + 1 → HaveRoom g (set rows r bits)
@@ -106,15 +106,15 @@ exact_sets g well rows room sound closed =
 
 -- there are as many sets as rules
 pub sets_len : (g : Grammar) (sets : List TokenSet) → HaveRoom g (rows_of sets) → length sets ≡ rules_len g
-sets_len g sets room = sym (length-map sets (λ s. s.bits.items)) ∙ room.rules
+sets_len g sets room = room.rules
 
 -- the set at a place, by its row
-pub row_in : (sets : List TokenSet) (r : ℕ) (d : TokenSet) → r < length sets → (get_or sets r d).bits.items ≡ row_at (rows_of sets) r
-row_in sets r d within = sym (get_or-map (λ s. s.bits.items) sets r d [] within)
+pub row_in : (sets : List TokenSet) (r : ℕ) (d : TokenSet) → r < length sets → (get_or sets r d) ≡ row_at (rows_of sets) r
+row_in sets r d within = get_or_default sets r d [] within
 
 -- it has room for all
 pub set_wide : (g : Grammar) (sets : List TokenSet) (r : ℕ) (d : TokenSet) → r < rules_len g → HaveRoom g (rows_of sets)
-    → length (get_or sets r d).bits.items ≡ dummy_lookahead g + 1
+    → length (get_or sets r d) ≡ dummy_lookahead g + 1
 set_wide g sets r d low room =
     let count = sets_len g sets room in
     let rows = room.rules in
@@ -125,25 +125,25 @@ module _ (g : Grammar) (well : IsWellFormed g) (sets : List TokenSet) (p r dummy
     (low : rule_of g p < rules_len g) (marked : dummy ≡ dummy_lookahead g) (room : HaveRoom g (rows_of sets)) (d new : TokenSet) (front cleared : List Bool)
     (symbols : List GrammarSymbol) (are : symbols ≡ symbols_of g p) (none : (t : ℕ) → has cleared t ≡ false)
     (begun : (t : ℕ) → has front t ≡ (has cleared t || begins dummy (rows_of sets) symbols t)) (long : length front ≡ dummy_lookahead g + 1)
-    (wide : length new.bits.items ≡ length (get_or sets r d).bits.items)
-    (put : (t : ℕ) → has new.bits.items t ≡ (has (get_or sets r d).bits.items t || (nat_lt t (dummy + 1) && has front t))) where
+    (wide : length new ≡ length (get_or sets r d))
+    (put : (t : ℕ) → has new t ≡ (has (get_or sets r d) t || (nat_lt t (dummy + 1) && has front t))) where
   inside : rule_of g p < length (rows_of sets)
   inside = let count = room.rules in omega (arith, count, low)
 
-  old_row : (get_or sets r d).bits.items ≡ row_at (rows_of sets) (rule_of g p)
+  old_row : (get_or sets r d) ≡ row_at (rows_of sets) (rule_of g p)
   old_row =
       let count = sets_len g sets room in
       row_in sets r d (omega (arith, count, is, low)) ∙ ap (row_at (rows_of sets)) is
 
-  new_rows : rows_of (set sets r new) ≡ set (rows_of sets) (rule_of g p) new.bits.items
-  new_rows = rows-set sets r new ∙ ap (λ n. set (rows_of sets) n new.bits.items) is
+  new_rows : rows_of (set sets r new) ≡ set (rows_of sets) (rule_of g p) new
+  new_rows = rows-set sets r new ∙ ap (λ n. set (rows_of sets) n new) is
 
   begun_by : (t : ℕ) → has front t ≡ begins (dummy_lookahead g) (rows_of sets) (symbols_of g p) t
   begun_by t =
       begun t ∙ ap (λ b. b || begins dummy (rows_of sets) symbols t) (none t) ∙ ap (λ n. begins n (rows_of sets) symbols t) marked
       ∙ ap (λ w. begins (dummy_lookahead g) (rows_of sets) w t) are
 
-  put_by : (t : ℕ) → has new.bits.items t ≡ (has (row_at (rows_of sets) (rule_of g p)) t || (nat_lt t (dummy_lookahead g + 1) && has front t))
+  put_by : (t : ℕ) → has new t ≡ (has (row_at (rows_of sets) (rule_of g p)) t || (nat_lt t (dummy_lookahead g + 1) && has front t))
   put_by t =
       put t ∙ ap (λ b. has b t || (nat_lt t (dummy + 1) && has front t)) old_row
       ∙ ap (λ n. has (row_at (rows_of sets) (rule_of g p)) t || (nat_lt t (n + 1) && has front t)) marked
@@ -151,25 +151,25 @@ module _ (g : Grammar) (well : IsWellFormed g) (sets : List TokenSet) (p r dummy
   pub grown_room : HaveRoom g (rows_of (set sets r new))
   grown_room =
       let old_wide = All-get_or (λ row. length row ≡ dummy_lookahead g + 1) (rows_of sets) (rule_of g p) [] inside room.wide in
-      subst (HaveRoom g) (sym new_rows) (room_set g (rows_of sets) (rule_of g p) new.bits.items room (wide ∙ ap length old_row ∙ old_wide))
+      subst (HaveRoom g) (sym new_rows) (room_set g (rows_of sets) (rule_of g p) new room (wide ∙ ap length old_row ∙ old_wide))
 
   pub grown_sound : AreSound g (rows_of sets) → AreSound g (rows_of (set sets r new))
   grown_sound sound =
-      subst (AreSound g) (sym new_rows) (sound_more g well (rows_of sets) p known front new.bits.items begun_by put_by inside sound)
+      subst (AreSound g) (sym new_rows) (sound_more g well (rows_of sets) p known front new begun_by put_by inside sound)
 
-  pub grown_less : missing new.bits.items < missing (get_or sets r d).bits.items → total_missing (rows_of (set sets r new)) < total_missing (rows_of sets)
+  pub grown_less : missing new < missing (get_or sets r d) → total_missing (rows_of (set sets r new)) < total_missing (rows_of sets)
   grown_less less =
-      let less' = subst (λ b. missing new.bits.items < missing b) old_row less in
-      subst (λ rows. total_missing rows < total_missing (rows_of sets)) (sym new_rows) (missing_set (rows_of sets) (rule_of g p) new.bits.items inside less')
+      let less' = subst (λ b. missing new < missing b) old_row less in
+      subst (λ rows. total_missing rows < total_missing (rows_of sets)) (sym new_rows) (missing_set (rows_of sets) (rule_of g p) new inside less')
 
-  pub grown_same : new.bits.items ≡ (get_or sets r d).bits.items → rows_of (set sets r new) ≡ rows_of sets
+  pub grown_same : new ≡ (get_or sets r d) → rows_of (set sets r new) ≡ rows_of sets
   grown_same same =
       new_rows ∙ ap (set (rows_of sets) (rule_of g p)) (same ∙ old_row) ∙ set-get_or (rows_of sets) (rule_of g p) []
 
-  pub grown_closed : new.bits.items ≡ (get_or sets r d).bits.items → IsClosedAt g (rows_of (set sets r new)) p
+  pub grown_closed : new ≡ (get_or sets r d) → IsClosedAt g (rows_of (set sets r new)) p
   grown_closed same =
       subst (λ rows. IsClosedAt g rows p) (sym (grown_same same))
-      (closed_same g well (rows_of sets) p known front new.bits.items begun_by put_by long (same ∙ old_row))
+      (closed_same g well (rows_of sets) p known front new begun_by put_by long (same ∙ old_row))
 
 -- a list that was lent in full comes back as it is
 pub lent_back : {X : Type 0} (old new : List X) (n : ℕ) → length old ≡ n → length new ≡ n → take n (new ++ drop (length new) old) ≡ new

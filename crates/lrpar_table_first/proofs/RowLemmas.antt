@@ -1,25 +1,27 @@
 -- Sets of tokens in a list, one for each rule, and what a walk over symbols adds to a set.
-use Rattle.std.proofs.Common.{◌≡◌, ◌<◌, ◌+◌, ◌==◌, ◌||◌, ◌&&◌, ◌∙◌, refl, sym, ap, subst, arith, ℕ, suc, Bool, true, false, List, [], ◌∷◌, All, length, map, set, drop, get_or, nat_lt}
+use Rattle.std.proofs.Common.{◌≡◌, ◌<◌, ◌+◌, ◌==◌, ◌||◌, ◌&&◌, ◌∙◌, ◌++◌, ◌≤◌, refl, sym, ap, subst, inl, inr, arith, ℕ, suc, Bool, true, false, List, [], ◌∷◌, All, length, map, set, drop, get_or, nat_lt}
 use Rattle.std.proofs.Math.Bool.{or_assoc}
 use Rattle.std.proofs.Math.Seq.{drop-cons}
-use Rattle.std.proofs.lemmas.List.{get_or-map, length-map}
+use Rattle.std.proofs.lemmas.Bool.{cases_eq, cases_lt}
+use Rattle.std.proofs.lemmas.List.{get_or_append_left, get_or_default, get_or-map, get_or_past, get_or_push, length-map, length_push}
+use Rattle.std.proofs.lemmas.List.Elements.{All-push}
 use Rattle.lrpar_grammar_places.specs.declared.span.Symbol.{Symbol}
 use Rattle.lrpar_grammar.specs.Grammar.{GrammarSymbol, Nonterminal, Terminal}
 use Rattle.lrpar_grammar.specs.Symbols.{symbol_of}
 use Rattle.lrpar_grammar_places.proofs.ListLemmas.{All-map-at}
-use Rattle.lrpar_table_first.specs.FirstRows.{IsSymbolBelow, begins, row_at, rows_of}
-use Rattle.lrpar_grammar.specs.Tokens.{has}
+use Rattle.lrpar_table_first.specs.FirstRows.{HoldNothing, IsSymbolBelow, begins, row_at, rows_of}
+use Rattle.lrpar_grammar.specs.Tokens.{IsEmptySet, has}
 use Rattle.lrpar_grammar.specs.declared.token_set.TokenSet.{TokenSet}
 
 -- the row of a rule is that of the set at its place
-pub row_is : (sets : List TokenSet) (r : ℕ) (set : TokenSet) → r < length sets → set ≡ get_or sets r set → row_at (rows_of sets) r ≡ set.bits.items
-row_is sets r set within is = get_or-map (λ s. s.bits.items) sets r set [] within ∙ sym (ap (λ s. s.bits.items) is)
+pub row_is : (sets : List TokenSet) (r : ℕ) (set : TokenSet) → r < length sets → set ≡ get_or sets r set → row_at (rows_of sets) r ≡ set
+row_is sets r set within is = get_or_default sets r [] set within ∙ sym is
 
 -- if all sets of a list have this room, each of them has it
 pub wide_at : (sets : List TokenSet) (r n : ℕ) (set : TokenSet) → All (λ row. length row ≡ n) (rows_of sets) → r < length sets → set ≡ get_or sets r set
-    → length set.bits.items ≡ n
+    → length set ≡ n
 wide_at sets r n set wide within is =
-    subst (λ s. length s.bits.items ≡ n) (sym is) (All-map-at (λ row. length row ≡ n) (λ s. s.bits.items) sets wide r set within)
+    subst (λ s. length s ≡ n) (sym is) (wide r set within)
 
 -- the symbols from a place on are the one there and those after it
 pub symbols_from : {S : Type 0} (index : S → ℕ) (symbols : List (Symbol S)) (i : ℕ) (symbol : Symbol S) → i < length symbols → symbol ≡ get_or symbols i symbol
@@ -73,8 +75,8 @@ symbol_below index P symbols i symbol shown all within is shows =
 -- where the walk meets a rule, by the set that is read for the rule: the symbols from there on, the rule's row, and what was added
 pub rule_met : {S : Type 0} (index : S → ℕ) (dummy : ℕ) (sets : List TokenSet) (symbols : List (Symbol S)) (i : ℕ) (symbol : Symbol S) (r : ℕ) (set : TokenSet)
     (front new : List Bool) → All (IsSymbolBelow (length sets) dummy) (map (symbol_of index) symbols) → i < length symbols → symbol ≡ get_or symbols i symbol
-    → symbol_of index symbol ≡ Nonterminal r → set ≡ get_or sets r set → ((t : ℕ) → has new t ≡ (has front t || (nat_lt t dummy && has set.bits.items t)))
-    → (drop i (map (symbol_of index) symbols) ≡ Nonterminal r ∷ drop (i + 1) (map (symbol_of index) symbols)) × (row_at (rows_of sets) r ≡ set.bits.items)
+    → symbol_of index symbol ≡ Nonterminal r → set ≡ get_or sets r set → ((t : ℕ) → has new t ≡ (has front t || (nat_lt t dummy && has set t)))
+    → (drop i (map (symbol_of index) symbols) ≡ Nonterminal r ∷ drop (i + 1) (map (symbol_of index) symbols)) × (row_at (rows_of sets) r ≡ set)
     × ((t : ℕ) → has new t ≡ (has front t || (nat_lt t dummy && has (row_at (rows_of sets) r) t)))
 rule_met index dummy sets symbols i symbol r set front new all within is shown read put =
     let rest = drop (i + 1) (map (symbol_of index) symbols) in
@@ -84,4 +86,25 @@ rule_met index dummy sets symbols i symbol r set front new all within is shown r
       symbols_from index symbols i symbol within is ∙ ap (λ s. s ∷ rest) shown,
       row,
       λ t. put t ∙ ap (λ bits. has front t || (nat_lt t dummy && has bits t)) (sym row),
+    )
+
+-- an empty set was added to empty sets
+pub empty_added : (sets after : List TokenSet) (new : TokenSet) (count room : ℕ) → after ≡ sets ++ new ∷ [] → length sets ≡ count → HoldNothing (rows_of sets)
+    → All (λ row. length row ≡ room) (rows_of sets) → length new ≡ room → IsEmptySet new
+    → (length after ≡ count + 1) × HoldNothing (rows_of after) × All (λ row. length row ≡ room) (rows_of after)
+empty_added sets after new count room pushed long none wide new_wide new_none =
+    let more = length_push sets new in (
+      ap length pushed ∙ more ∙ ap (λ n. n + 1) long,
+      λ r t.
+          subst (λ rows. has (row_at rows r) t ≡ false) (sym pushed)
+          (elim (cases_lt r (length sets)) as (λ _. has (row_at (sets ++ new ∷ []) r) t ≡ false) [
+            | inl early ↦ ap (λ bits. has bits t) (get_or_append_left sets (new ∷ []) [] r early) ∙ none r t
+            | inr late ↦
+                elim (cases_eq r (length sets)) as (λ _. has (row_at (sets ++ new ∷ []) r) t ≡ false) [
+                  | inl last ↦ ap (λ bits. has bits t) (get_or_push sets new [] r (sym last)) ∙ new_none t
+                  | inr past ↦
+                      ap (λ bits. has bits t) (get_or_past (sets ++ new ∷ []) r [] (omega (arith, late, past, more)))
+                ]
+          ]),
+      subst (λ rows. All (λ row. length row ≡ room) rows) (sym pushed) (All-push (λ (row : List Bool). length row ≡ room) sets new wide new_wide),
     )

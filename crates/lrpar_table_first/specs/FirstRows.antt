@@ -1,6 +1,6 @@
 -- FIRST sets of the rules, as they are computed. First(w, a) for any token a follows from First(w, d), where d is the dummy
 -- lookahead: a number that no token has. So w is nullable exactly if d is in First(w, d).
-use Rattle.std.specs.Prelude.{◌≡◌, ◌<◌, ◌+◌, ◌==◌, ◌||◌, ◌&&◌, ◌↔◌, ℕ, Bool, false, IsTrue, List, [], ◌∷◌, All, length, map, nat_lt, slice_index_or, sum_by}
+use Rattle.std.specs.Prelude.{◌≡◌, ◌<◌, ◌+◌, ◌==◌, ◌||◌, ◌&&◌, ◌↔◌, ℕ, Bool, false, IsTrue, List, [], ◌∷◌, All, length, nat_lt, slice_index_or, sum_by}
 use Rattle.lrpar_grammar.specs.Grammar.{Grammar, GrammarSymbol, Nonterminal, Terminal, rule_of, rules_len, symbols_of, tokens_len}
 use Rattle.lrpar_table_first.specs.First.{IsFirst}
 use Rattle.lrpar_grammar.specs.Tokens.{has, missing}
@@ -8,7 +8,7 @@ use Rattle.lrpar_grammar.specs.declared.token_set.TokenSet.{TokenSet}
 
 -- the bits of each set, by token
 abbrev pub rows_of : List TokenSet → List (List Bool)
-rows_of sets = map (λ set. set.bits.items) sets
+rows_of sets = sets
 
 -- the bits of the set of rule r; out of range, none
 abbrev pub row_at : List (List Bool) → ℕ → List Bool

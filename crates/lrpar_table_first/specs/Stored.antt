@@ -12,7 +12,7 @@ use Rattle.lrpar_table_first.specs.FirstRows.{AreFirsts, AreSound, HaveRoom, Hol
 
 -- the set has room for each token and for the dummy lookahead
 abbrev pub IsWide : Grammar → TokenSet → Type 0
-IsWide g set = length set.bits.items ≡ dummy_lookahead g + 1
+IsWide g set = length set ≡ dummy_lookahead g + 1
 
 -- there is a set for each rule, with this room
 abbrev pub HaveSpace : {A : Type 0} → Grammar → Vec TokenSet A → Type 0
@@ -74,13 +74,13 @@ module _ {S : Type 0} (index : S → ℕ) where
   -- the FIRST set of the symbols was added, computed from the set of each rule
   abbrev pub AddsFirst : ℕ → List TokenSet → List (Symbol S) → TokenSet → TokenSet → Type 0
   AddsFirst dummy sets symbols old new =
-      (t : ℕ) → has new.bits.items t ≡ (has old.bits.items t || begins dummy (rows_of sets) (map (symbol_of index) symbols) t)
+      (t : ℕ) → has new t ≡ (has old t || begins dummy (rows_of sets) (map (symbol_of index) symbols) t)
 
   -- First(symbols, a) was added for each token a of `after`
   abbrev pub AddsBefore : Grammar → TokenSet → List (Symbol S) → TokenSet → TokenSet → Type 0
   AddsBefore g after symbols old new =
-      (t : ℕ) → IsTrue (has new.bits.items t)
-      ↔ (IsTrue (has old.bits.items t) ⊎ IsFirstBefore g after.bits.items (map (symbol_of index) symbols) t)
+      (t : ℕ) → IsTrue (has new t)
+      ↔ (IsTrue (has old t) ⊎ IsFirstBefore g after (map (symbol_of index) symbols) t)
 
   -- the rule that the production has after its first `dot` symbols, and the symbols after that rule; none, if no rule is there
   abbrev pub FindsRule : Grammar → PIdx S → ℕ → Option (RIdx S × Bor (List (Symbol S))) → Type 0

@@ -136,8 +136,8 @@ pub fn add_first<StorageT: StorageIndex>(
 )
     requires rules { AreSymbolsBelow StorageT.index (length sets.now) dummy symbols.now }
     requires wide { HaveRoomFor dummy sets.now }
-    requires front { length front.old.bits.items ≡ dummy + 1 }
-    ensures front { length front.new.bits.items ≡ dummy + 1 }
+    requires front { length front.old ≡ dummy + 1 }
+    ensures front { length front.new ≡ dummy + 1 }
     ensures tokens { AddsFirst StorageT.index dummy sets.now symbols.now front.old front.new }
 {
     for symbol in symbols {

@@ -86,21 +86,21 @@ brings_nothing g core rows never r t = (
 module _ (g : Grammar) (brought : List TokenSet) (target : ℕ) (low : target < rules_len g) (room : HaveRoom g (rows_of brought)) (d new : TokenSet)
     (at_d : d ≡ get_or brought target d) (core : CoreSet)
     (w : List GrammarSymbol) (begins : drop core.dot (symbols_of g core.prod) ≡ Nonterminal target ∷ w)
-    (came : (t : ℕ) → IsTrue (has new.bits.items t) ↔ (IsTrue (has d.bits.items t) ⊎ IsFirstBefore g core.tokens w t)) where
-  at_target : d.bits.items ≡ row_at (rows_of brought) target
+    (came : (t : ℕ) → IsTrue (has new t) ↔ (IsTrue (has d t) ⊎ IsFirstBefore g core.tokens w t)) where
+  at_target : d ≡ row_at (rows_of brought) target
   at_target =
       let count = sets_len g brought room in
-      ap (λ (s : TokenSet). s.bits.items) at_d ∙ row_in brought target d (omega (arith, count, low))
+      at_d ∙ row_in brought target d (omega (arith, count, low))
 
-  now_at : row_at (set (rows_of brought) target new.bits.items) target ≡ new.bits.items
-  now_at = let count = room.rules in get_or-set_same (rows_of brought) target new.bits.items [] (omega (arith, count, low))
+  now_at : row_at (set (rows_of brought) target new) target ≡ new
+  now_at = let count = room.rules in get_or-set_same (rows_of brought) target new [] (omega (arith, count, low))
 
-  pub bring_room : length new.bits.items ≡ dummy_lookahead g + 1 → HaveRoom g (rows_of (set brought target new))
-  bring_room wide = subst (HaveRoom g) (sym (rows-set brought target new)) (room_set g (rows_of brought) target new.bits.items room wide)
+  pub bring_room : length new ≡ dummy_lookahead g + 1 → HaveRoom g (rows_of (set brought target new))
+  bring_room wide = subst (HaveRoom g) (sym (rows-set brought target new)) (room_set g (rows_of brought) target new room wide)
 
   pub bring_exact : (r t : ℕ) → HasIn (rows_of (set brought target new)) r t ↔ (HasIn (rows_of brought) r t ⊎ Brings g core r t)
   bring_exact r t =
-      let after = set (rows_of brought) target new.bits.items in
+      let after = set (rows_of brought) target new in
       subst (λ rows. HasIn rows r t ↔ (HasIn (rows_of brought) r t ⊎ Brings g core r t)) (sym (rows-set brought target new)) (
         λ h. elim (cases_eq r target) as (λ _. HasIn (rows_of brought) r t ⊎ Brings g core r t) [
           | inl same ↦
@@ -110,7 +110,7 @@ module _ (g : Grammar) (brought : List TokenSet) (target : ℕ) (low : target < 
                 | inl old ↦ inl (subst (λ n. HasIn (rows_of brought) n t) (sym same) (subst (λ b. IsTrue (has b t)) at_target old))
                 | inr first ↦ inr (w, begins ∙ ap (λ n. Nonterminal n ∷ w) (sym same), first)
               ]
-          | inr other ↦ inl (subst (λ b. IsTrue (has b t)) (get_or-set_other (rows_of brought) target r new.bits.items [] other) h)
+          | inr other ↦ inl (subst (λ b. IsTrue (has b t)) (get_or-set_other (rows_of brought) target r new [] other) h)
         ],
         λ h. elim h [
           | inl old ↦
@@ -118,7 +118,7 @@ module _ (g : Grammar) (brought : List TokenSet) (target : ℕ) (low : target < 
                 | inl same ↦
                     let old' = subst (λ b. IsTrue (has b t)) (sym at_target) (subst (λ n. HasIn (rows_of brought) n t) same old) in
                     subst (λ n. HasIn after n t) (sym same) (subst (λ b. IsTrue (has b t)) (sym now_at) ((came t).1 (inl old')))
-                | inr other ↦ subst (λ b. IsTrue (has b t)) (sym (get_or-set_other (rows_of brought) target r new.bits.items [] other)) old
+                | inr other ↦ subst (λ b. IsTrue (has b t)) (sym (get_or-set_other (rows_of brought) target r new [] other)) old
               ]
           | inr brings ↦
               let alike = sym begins ∙ brings.1 in
@@ -129,4 +129,4 @@ module _ (g : Grammar) (brought : List TokenSet) (target : ℕ) (low : target < 
 
   -- the sets of other rules are as before
   pub bring_other : (n : ℕ) → n ≢ target → row_at (rows_of (set brought target new)) n ≡ row_at (rows_of brought) n
-  bring_other n other = ap (λ rows. row_at rows n) (rows-set brought target new) ∙ get_or-set_other (rows_of brought) target n new.bits.items [] other
+  bring_other n other = ap (λ rows. row_at rows n) (rows-set brought target new) ∙ get_or-set_other (rows_of brought) target n new [] other

@@ -128,7 +128,7 @@ core_row index core (t ∷ ts) = ap (λ (xs : List ItemOf). item_at (index core.
 
 -- a row with the lookaheads of a core adds its items
 pub row_pushed : {S Z : Type 0} (index : S → ℕ) (len : ℕ) (rows : List (PIdx S × ℕ × Vec (TIdx S) Z)) (core : CoreItems S) (tokens : Vec (TIdx S) Z)
-    → map (λ token. index token.0) tokens.items ≡ filter (has core.tokens.bits.items) (range_with_len 0 len)
+    → map (λ token. index token.0) tokens.items ≡ filter (has core.tokens) (range_with_len 0 len)
     → set_of_rows index (rows ++ (core.prod, core.dot, tokens) ∷ []) ≡ set_of_rows index rows ++ items_of_core len (core_set index core)
 row_pushed {S} index len rows core tokens are =
     ap (map (item_of index)) (row_more rows (core.prod, core.dot, tokens))

@@ -66,13 +66,13 @@ lists_compare R Q f same (x ∷ xs) (y ∷ ys) = λ i. ordering_then (same x y i
 -- the order of the code's cores, by the order of its numbers
 abbrev pub order_of : {S : Type 0} → (S → S → Ordering) → CoreItems S → CoreItems S → Ordering
 order_of cmp x y =
-    ordering_then (cmp x.prod.0 y.prod.0) (ordering_then (nat_cmp x.dot y.dot) (slice_cmp bool_cmp x.tokens.bits.items y.tokens.bits.items))
+    ordering_then (cmp x.prod.0 y.prod.0) (ordering_then (nat_cmp x.dot y.dot) (slice_cmp bool_cmp x.tokens y.tokens))
 
 -- it is the order of the cores that they represent
 cores_compare : {S : Type 0} (index : S → ℕ) (cmp : S → S → Ordering) → ((a b : S) → cmp a b ≡ nat_cmp (index a) (index b)) → (x y : CoreItems S)
     → order_of cmp x y ≡ core_cmp (core_set index x) (core_set index y)
 cores_compare index cmp law x y =
-    ap (λ (o : Ordering). ordering_then o (ordering_then (nat_cmp x.dot y.dot) (slice_cmp bool_cmp x.tokens.bits.items y.tokens.bits.items)))
+    ap (λ (o : Ordering). ordering_then o (ordering_then (nat_cmp x.dot y.dot) (slice_cmp bool_cmp x.tokens y.tokens)))
     (law x.prod.0 y.prod.0)
 
 module _ {S A : Type 0} (index : S → ℕ) (cmp : S → S → Ordering) (law : (a b : S) → cmp a b ≡ nat_cmp (index a) (index b))

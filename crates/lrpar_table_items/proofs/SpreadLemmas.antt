@@ -36,8 +36,8 @@ pub record IsSpreadTo (g : Grammar) (sets : List TokenSet) (p target : ℕ) (old
   pub room : HaveRoom g (rows_of (set sets target new))
   pub kept : Keeps (rows_of sets) (rows_of (set sets target new))
   pub sound : AreBroughtFrom g (rows_of sets) (rows_of (set sets target new))
-  pub grown : missing new.bits.items < missing old.bits.items → total_missing (rows_of (set sets target new)) < total_missing (rows_of sets)
-  pub same : new.bits.items ≡ old.bits.items → rows_of (set sets target new) ≡ rows_of sets
+  pub grown : missing new < missing old → total_missing (rows_of (set sets target new)) < total_missing (rows_of sets)
+  pub same : new ≡ old → rows_of (set sets target new) ≡ rows_of sets
   pub closed : row_at (rows_of (set sets target new)) (rule_of g p) ≡ row_at (rows_of sets) (rule_of g p) → IsSpreadAt g (rows_of (set sets target new)) p
   pub other : (n : ℕ) → n ≢ target → row_at (rows_of (set sets target new)) n ≡ row_at (rows_of sets) n
 
@@ -45,30 +45,30 @@ module _ (g : Grammar) (sets : List TokenSet) (p rule target dummy : ℕ) (w : L
     (rule_low : rule_of g p < rules_len g) (begins : symbols_of g p ≡ Nonterminal target ∷ w) (low : target < rules_len g) (marked : dummy ≡ dummy_lookahead g)
     (room : HaveRoom g (rows_of sets)) (d d' new : TokenSet) (at_rule : d ≡ get_or sets rule d)
     (at_target : d' ≡ get_or sets target d') (fresh cleared : List Bool) (none : (t : ℕ) → has cleared t ≡ false)
-    (came : (t : ℕ) → IsTrue (has fresh t) ↔ (IsTrue (has cleared t) ⊎ IsFirstBefore g d.bits.items w t))
-    (long : length fresh ≡ dummy_lookahead g + 1) (wide : length new.bits.items ≡ length d'.bits.items)
-    (put : (t : ℕ) → has new.bits.items t ≡ (has d'.bits.items t || (nat_lt t (dummy + 1) && has fresh t))) where
+    (came : (t : ℕ) → IsTrue (has fresh t) ↔ (IsTrue (has cleared t) ⊎ IsFirstBefore g d w t))
+    (long : length fresh ≡ dummy_lookahead g + 1) (wide : length new ≡ length d')
+    (put : (t : ℕ) → has new t ≡ (has d' t || (nat_lt t (dummy + 1) && has fresh t))) where
   inside : target < length (rows_of sets)
   inside = let count = room.rules in omega (arith, count, low)
 
-  old_row : d'.bits.items ≡ row_at (rows_of sets) target
+  old_row : d' ≡ row_at (rows_of sets) target
   old_row =
       let count = sets_len g sets room in
-      ap (λ (s : TokenSet). s.bits.items) at_target ∙ row_in sets target d' (omega (arith, count, low))
+      at_target ∙ row_in sets target d' (omega (arith, count, low))
 
-  from_row : d.bits.items ≡ row_at (rows_of sets) (rule_of g p)
+  from_row : d ≡ row_at (rows_of sets) (rule_of g p)
   from_row =
       let count = sets_len g sets room in
-      ap (λ (s : TokenSet). s.bits.items) at_rule ∙ row_in sets rule d (omega (arith, count, is, rule_low)) ∙ ap (row_at (rows_of sets)) is
+      at_rule ∙ row_in sets rule d (omega (arith, count, is, rule_low)) ∙ ap (row_at (rows_of sets)) is
 
-  new_rows : rows_of (set sets target new) ≡ set (rows_of sets) target new.bits.items
+  new_rows : rows_of (set sets target new) ≡ set (rows_of sets) target new
   new_rows = rows-set sets target new
 
-  new_row : row_at (set (rows_of sets) target new.bits.items) target ≡ new.bits.items
-  new_row = get_or-set_same (rows_of sets) target new.bits.items [] inside
+  new_row : row_at (set (rows_of sets) target new) target ≡ new
+  new_row = get_or-set_same (rows_of sets) target new [] inside
 
-  new_has : (t : ℕ) → IsTrue (has new.bits.items t) ↔ (HasIn (rows_of sets) target t ⊎ ((t < dummy + 1) × IsTrue (has fresh t)))
-  new_has t = united (row_at (rows_of sets) target) fresh new.bits.items (dummy + 1) t
+  new_has : (t : ℕ) → IsTrue (has new t) ↔ (HasIn (rows_of sets) target t ⊎ ((t < dummy + 1) × IsTrue (has fresh t)))
+  new_has t = united (row_at (rows_of sets) target) fresh new (dummy + 1) t
       (put t ∙ ap (λ b. has b t || (nat_lt t (dummy + 1) && has fresh t)) old_row)
 
   fresh_is : (t : ℕ) → IsTrue (has fresh t) ↔ IsFirstBefore g (row_at (rows_of sets) (rule_of g p)) w t
@@ -83,16 +83,16 @@ module _ (g : Grammar) (sets : List TokenSet) (p rule target dummy : ℕ) (w : L
   spread_room : HaveRoom g (rows_of (set sets target new))
   spread_room =
       let old_wide = All-get_or (λ row. length row ≡ dummy_lookahead g + 1) (rows_of sets) target [] inside room.wide in
-      subst (HaveRoom g) (sym new_rows) (room_set g (rows_of sets) target new.bits.items room (wide ∙ ap length old_row ∙ old_wide))
+      subst (HaveRoom g) (sym new_rows) (room_set g (rows_of sets) target new room (wide ∙ ap length old_row ∙ old_wide))
 
   spread_keeps : Keeps (rows_of sets) (rows_of (set sets target new))
   spread_keeps r t h =
       subst (λ rows. HasIn rows r t) (sym new_rows)
-      (elim (cases_eq r target) as (λ _. HasIn (set (rows_of sets) target new.bits.items) r t) [
+      (elim (cases_eq r target) as (λ _. HasIn (set (rows_of sets) target new) r t) [
         | inl same ↦
             let now = (new_has t).1 (inl (subst (λ n. HasIn (rows_of sets) n t) same h)) in
-            subst (λ n. HasIn (set (rows_of sets) target new.bits.items) n t) (sym same) (subst (λ b. IsTrue (has b t)) (sym new_row) now)
-        | inr other ↦ subst (λ b. IsTrue (has b t)) (sym (get_or-set_other (rows_of sets) target r new.bits.items [] other)) h
+            subst (λ n. HasIn (set (rows_of sets) target new) n t) (sym same) (subst (λ b. IsTrue (has b t)) (sym new_row) now)
+        | inr other ↦ subst (λ b. IsTrue (has b t)) (sym (get_or-set_other (rows_of sets) target r new [] other)) h
       ])
 
   spread_sound : AreBroughtFrom g (rows_of sets) (rows_of (set sets target new))
@@ -100,22 +100,22 @@ module _ (g : Grammar) (sets : List TokenSet) (p rule target dummy : ℕ) (w : L
       let h' = subst (λ rows. HasIn rows r t) new_rows h in
       elim (cases_eq r target) as (λ _. IsBrought g (HasIn (rows_of sets)) r t) [
         | inl same ↦
-            let there = subst (λ n. HasIn (set (rows_of sets) target new.bits.items) n t) same h' in
+            let there = subst (λ n. HasIn (set (rows_of sets) target new) n t) same h' in
             let now = subst (λ b. IsTrue (has b t)) new_row there in
             subst (λ n. IsBrought g (HasIn (rows_of sets)) n t) (sym same)
             (elim ((new_has t).0 now) as (λ _. IsBrought g (HasIn (rows_of sets)) target t) [
               | inl before ↦ Given target t before
               | inr came ↦ let first = (fresh_is t).0 came.1 in Brought p target first.0 t w known begins (Given (rule_of g p) first.0 first.1) first.2
             ])
-        | inr other ↦ Given r t (subst (λ b. IsTrue (has b t)) (get_or-set_other (rows_of sets) target r new.bits.items [] other) h')
+        | inr other ↦ Given r t (subst (λ b. IsTrue (has b t)) (get_or-set_other (rows_of sets) target r new [] other) h')
       ]
 
-  spread_less : missing new.bits.items < missing d'.bits.items → total_missing (rows_of (set sets target new)) < total_missing (rows_of sets)
+  spread_less : missing new < missing d' → total_missing (rows_of (set sets target new)) < total_missing (rows_of sets)
   spread_less less =
-      let less' = subst (λ b. missing new.bits.items < missing b) old_row less in
-      subst (λ rows. total_missing rows < total_missing (rows_of sets)) (sym new_rows) (missing_set (rows_of sets) target new.bits.items inside less')
+      let less' = subst (λ b. missing new < missing b) old_row less in
+      subst (λ rows. total_missing rows < total_missing (rows_of sets)) (sym new_rows) (missing_set (rows_of sets) target new inside less')
 
-  spread_same : new.bits.items ≡ d'.bits.items → rows_of (set sets target new) ≡ rows_of sets
+  spread_same : new ≡ d' → rows_of (set sets target new) ≡ rows_of sets
   spread_same same = new_rows ∙ ap (set (rows_of sets) target) (same ∙ old_row) ∙ set-get_or (rows_of sets) target []
 
   spread_closed : row_at (rows_of (set sets target new)) (rule_of g p) ≡ row_at (rows_of sets) (rule_of g p) → IsSpreadAt g (rows_of (set sets target new)) p
@@ -127,10 +127,10 @@ module _ (g : Grammar) (sets : List TokenSet) (p rule target dummy : ℕ) (w : L
       let low_t : t < dummy + 1 = omega (arith, room_t, long, marked) in
       let now = (new_has t).1 (inr (low_t, in_fresh)) in
       let there = subst (λ b. IsTrue (has b t)) (sym new_row) now in
-      subst (λ rows. HasIn rows r t) (sym new_rows) (subst (λ n. HasIn (set (rows_of sets) target new.bits.items) n t) (same_rule target r w v alike) there)
+      subst (λ rows. HasIn rows r t) (sym new_rows) (subst (λ n. HasIn (set (rows_of sets) target new) n t) (same_rule target r w v alike) there)
 
   spread_other : (n : ℕ) → n ≢ target → row_at (rows_of (set sets target new)) n ≡ row_at (rows_of sets) n
-  spread_other n other = ap (λ rows. row_at rows n) new_rows ∙ get_or-set_other (rows_of sets) target n new.bits.items [] other
+  spread_other n other = ap (λ rows. row_at rows n) new_rows ∙ get_or-set_other (rows_of sets) target n new [] other
 
   pub spread_to : IsSpreadTo g sets p target d' new
   spread_to = record { room = spread_room; kept = spread_keeps; sound = spread_sound; grown = spread_less; same = spread_same; closed = spread_closed; other = spread_other }

@@ -19,7 +19,7 @@ items_of_cores tokens cores = flat_map (items_of_core tokens) cores
 
 -- the lookaheads of a core, ascending
 abbrev pub AreLookaheads : {S : Type 0} → (S → ℕ) → ℕ → CoreItems S → List (TIdx S) → Type 0
-AreLookaheads index len core tokens = map (λ token. index token.0) tokens ≡ filter (has core.tokens.bits.items) (range_with_len 0 len)
+AreLookaheads index len core tokens = map (λ token. index token.0) tokens ≡ filter (has core.tokens) (range_with_len 0 len)
 
 -- each row has the lookaheads of the core at its place
 abbrev pub AreRowsOf : {S Z : Type 0} → (S → ℕ) → ℕ → List (CoreItems S) → List (PIdx S × ℕ × Vec (TIdx S) Z) → Type 0

@@ -15,7 +15,7 @@ pub record CoreSet : Type 0 where
 
 -- the core that a value of code represents
 abbrev pub core_set : {S : Type 0} → (S → ℕ) → CoreItems S → CoreSet
-core_set index core = record { prod = index core.prod.0; dot = core.dot; tokens = core.tokens.bits.items }
+core_set index core = record { prod = index core.prod.0; dot = core.dot; tokens = core.tokens }
 
 -- the item has this core, and one of its lookaheads
 abbrev pub IsOfCore : CoreSet → ItemOf → Type 0

@@ -24,11 +24,11 @@ use Rattle.lrpar_table_items.specs.declared.successors.Successors.{Successors}
 
 -- the set has room for each token and for the dummy lookahead
 abbrev pub IsWide : Grammar → TokenSet → Type 0
-IsWide g tokens = length tokens.bits.items ≡ dummy_lookahead g + 1
+IsWide g tokens = length tokens ≡ dummy_lookahead g + 1
 
 -- the cores have the same lookaheads
 abbrev pub HaveSameTokens : {S : Type 0} → CoreItems S → CoreItems S → Type 0
-HaveSameTokens core other = core.tokens.bits.items ≡ other.tokens.bits.items
+HaveSameTokens core other = core.tokens ≡ other.tokens
 
 -- the item set is that of these cores
 abbrev pub HasItems : {S : Type 0} → List (CoreItems S) → Successors S → Type 0
@@ -83,12 +83,12 @@ module _ {S : Type 0} (index : S → ℕ) where
 
   -- the items that the closure adds for the rule were added, with these lookaheads
   abbrev pub AddsRule : {A B : Type 0} → Grammar → RIdx S → TokenSet → Vec (CoreItems S) A → Vec (CoreItems S) B → Type 0
-  AddsRule g rule tokens old new = AddsItems (IsOfRule g (index rule.0) tokens.bits.items) old new
+  AddsRule g rule tokens old new = AddsItems (IsOfRule g (index rule.0) tokens) old new
 
   -- the production was appended, with its dot at the start and these lookaheads
   abbrev pub AppendsProd : {A B : Type 0} → PIdx S → TokenSet → Vec (CoreItems S) A → Vec (CoreItems S) B → Type 0
   AppendsProd prod tokens old new =
-      map (core_set index) new.items ≡ map (core_set index) old.items ++ record { prod = index prod.0; dot = 0; tokens = tokens.bits.items } ∷ []
+      map (core_set index) new.items ≡ map (core_set index) old.items ++ record { prod = index prod.0; dot = 0; tokens = tokens } ∷ []
 
   -- the cores come before the productions of rule n, and of the rules after it, with the dot at the start
   abbrev pub AreAhead : {A : Type 0} → Grammar → ℕ → Vec (CoreItems S) A → Type 0

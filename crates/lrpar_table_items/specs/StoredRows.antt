@@ -94,11 +94,11 @@ module _ {S : Type 0} (index : S → ℕ) where
 
   -- whether the core is of another production than the start production, and has the token as lookahead
   abbrev pub is_reduction : ℕ → CoreItems S → ℕ → Bool
-  is_reduction start core token = not (index core.prod.0 == start) && has core.tokens.bits.items token
+  is_reduction start core token = not (index core.prod.0 == start) && has core.tokens token
 
   -- whether the core is of the start production, and has the token as lookahead
   abbrev pub is_accept : ℕ → CoreItems S → ℕ → Bool
-  is_accept start core token = (index core.prod.0 == start) && has core.tokens.bits.items token
+  is_accept start core token = (index core.prod.0 == start) && has core.tokens token
 
   -- whether one of the complete cores calls for accept at the token
   abbrev pub calls_for_accept : ℕ → List (Bor (CoreItems S)) → ℕ → Bool

@@ -16,8 +16,8 @@ pub record AreSets (g : Grammar) (sets : Sets) : Type 0 where
   pub firsts : AreFirsts g (rows_of sets.firsts.items)
   pub room : HaveRoom g (rows_of sets.brought.items)
   pub waits : length sets.waits.items ≡ rules_len g
-  pub front : length sets.front.bits.items ≡ dummy_lookahead g + 1
-  pub fresh : length sets.fresh.bits.items ≡ dummy_lookahead g + 1
+  pub front : length sets.front ≡ dummy_lookahead g + 1
+  pub fresh : length sets.fresh ≡ dummy_lookahead g + 1
 
 -- the lookaheads that are brought to each rule
 abbrev pub brought_rows : Sets → List (List Bool)

@@ -41,7 +41,7 @@ fn is_same<StorageT: StorageIndex>(core: &CoreItems<StorageT>, other: &CoreItems
     if prod != same || core.dot != other.dot {
         return false;
     }
-    core.tokens.bits == other.tokens.bits
+    core.tokens.is_same(&other.tokens)
 }
 
 /// A copy of the cores.

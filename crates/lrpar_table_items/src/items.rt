@@ -56,7 +56,7 @@ fn have_same_tokens<StorageT: StorageIndex>(
 ) -> bool
     ensures { IsTrue result ↔ HaveSameTokens core.now other.now }
 {
-    core.tokens.bits == other.tokens.bits
+    core.tokens.is_same(&other.tokens)
 }
 
 // The lookaheads of the core, ascending.

@@ -51,7 +51,7 @@ module _ {S : Type 0} (index : S → ℕ) (kernel : List (CoreItems S)) (place :
   low_value = omega (arith, low, length-map kernel (core_set index))
 
   -- one more core has no lookaheads
-  pub cleared_more : ((t : ℕ) → has core.tokens.bits.items t ≡ false)
+  pub cleared_more : ((t : ℕ) → has core.tokens t ≡ false)
       → ((k : ℕ) → k < place → (t : ℕ) → has (lookaheads_at (map (core_set index) kernel) k) t ≡ false)
       → (k : ℕ) → k < place + 1 → (t : ℕ) → has (lookaheads_at (map (core_set index) (set kernel place core)) k) t ≡ false
   cleared_more none so_far k below t =

@@ -30,7 +30,7 @@ no_item_more cores core none empty x h =
 
 -- a core with a lookahead has an item
 pub some_item_at : {S : Type 0} (index : S → ℕ) (cores : List (CoreItems S)) (i : ℕ) (core : CoreItems S) → i < length cores → core ≡ get_or cores i core
-    → (t : ℕ) → IsTrue (has core.tokens.bits.items t) → (x : ItemOf) × IsAmong (map (core_set index) cores) x
+    → (t : ℕ) → IsTrue (has core.tokens t) → (x : ItemOf) × IsAmong (map (core_set index) cores) x
 some_item_at index cores i core low is t h =
     let count = length-map cores (core_set index) in
     let x : ItemOf = record { prod = index core.prod.0; dot = core.dot; token = t } in

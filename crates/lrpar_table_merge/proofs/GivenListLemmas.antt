@@ -16,7 +16,7 @@ use Rattle.lrpar_table_merge.specs.declared.held.Transitions.{Transitions}
 
 -- a kernel whose first core has a lookahead has an item
 pub first_item : {S : Type 0} (index : S → ℕ) (kernel : List (CoreItems S)) (d : CoreItems S) → 0 < length kernel
-    → (t : ℕ) × IsTrue (has (get_or kernel 0 d).tokens.bits.items t) → (x : ItemOf) × IsAmong (map (core_set index) kernel) x
+    → (t : ℕ) × IsTrue (has (get_or kernel 0 d).tokens t) → (x : ItemOf) × IsAmong (map (core_set index) kernel) x
 first_item index kernel d low token =
     let own = core_set index (get_or kernel 0 d) in
     let count = length-map kernel (core_set index) in (

@@ -1,4 +1,3 @@
-pub mod ExpansionLemmas
 pub mod SameCoreLemmas
 pub mod PairLemmas
 pub mod UniteLemmas

@@ -5,12 +5,12 @@ use Rattle.std.proofs.lemmas.Bool.{and_from, and_parts, cases_Bool, cases_eq, ca
 use Rattle.std.proofs.lemmas.List.{get_or_append_left, get_or_push, get_or-set_other, get_or-set_same, length-set, length_push}
 use Rattle.std.proofs.lemmas.List.Elements.{All-push}
 use Rattle.lrpar_grammar.specs.Grammar.{Grammar}
-use Rattle.lrpar_grammar.specs.Tokens.{has}
+use Rattle.lrpar_grammar.specs.Tokens.{HaveCommon, has}
 use Rattle.lrpar_table_first.proofs.GrowthLemmas.{has_room}
 use Rattle.lrpar_table_items.specs.CoreOrder.{IsKernel}
 use Rattle.lrpar_table_items.specs.Cores.{CoreSet}
 use Rattle.lrpar_table_items.specs.Next.{kernel_at}
-use Rattle.lrpar_table_merge.specs.Compatible.{AreWeaklyCompatible, HaveCommon, lookaheads_at}
+use Rattle.lrpar_table_merge.specs.Compatible.{AreWeaklyCompatible, lookaheads_at}
 use Rattle.lrpar_table_merge.specs.Merging.{HasGrownFrom, HaveOrigins, IsMade, MergesMore, NoneIsCompatible}
 use Rattle.lrpar_table_merge.specs.United.{AreUnited}
 

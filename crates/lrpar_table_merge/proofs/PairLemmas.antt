@@ -3,7 +3,8 @@ use Rattle.std.proofs.Common.{◌≡◌, ◌<◌, ◌↔◌, ◌⊎◌, inl, inr
 use Rattle.std.proofs.lemmas.Bool.{cases_lt}
 use Rattle.lrpar_table_items.specs.Cores.{CoreSet, core_set}
 use Rattle.lrpar_table_items.specs.declared.cores.CoreItems.{CoreItems}
-use Rattle.lrpar_table_merge.specs.Compatible.{ArePairCompatible, AreWeaklyCompatible, HaveCommon, HaveSameCores, IsPairCompatible, lookaheads_at}
+use Rattle.lrpar_grammar.specs.Tokens.{HaveCommon}
+use Rattle.lrpar_table_merge.specs.Compatible.{ArePairCompatible, AreWeaklyCompatible, HaveSameCores, IsPairCompatible, lookaheads_at}
 use Rattle.lrpar_table_merge.proofs.SameCoreLemmas.{lookaheads_of}
 
 -- sets of the same tokens
@@ -14,7 +15,7 @@ pair_same l m l' m' a b a' b' one two three four h =
 
 -- the lookaheads of a value
 abbrev pub row_in : {S : Type 0} → List (CoreItems S) → ℕ → CoreItems S → List Bool
-row_in cores i d = (get_or cores i d).tokens.bits.items
+row_in cores i d = (get_or cores i d).tokens
 
 -- two cores are compatible exactly if their values are
 pub pair_values : {S : Type 0} (index : S → ℕ) (kernel other : List (CoreItems S)) (i j : ℕ) (d e d' e' : CoreItems S) → length other ≡ length kernel

@@ -61,7 +61,7 @@ module _ {S : Type 0} (index : S → ℕ) where
 
   -- the lookaheads of the core at a place
   pub lookaheads_of : (kernel : List (CoreItems S)) (i : ℕ) (d : CoreItems S) → i < length kernel
-      → lookaheads_at (map (core_set index) kernel) i ≡ (get_or kernel i d).tokens.bits.items
+      → lookaheads_at (map (core_set index) kernel) i ≡ (get_or kernel i d).tokens
   lookaheads_of kernel i d low =
       let low' : i < length (map (core_set index) kernel) = omega (arith, low, length-map kernel (core_set index)) in
       get_or-map (λ (c : CoreSet). c.tokens) (map (core_set index) kernel) i (core_set index d) [] low'

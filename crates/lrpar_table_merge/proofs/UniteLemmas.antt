@@ -114,8 +114,8 @@ module _ {S : Type 0} (index : S → ℕ) (kernel : List (CoreItems S)) (place :
   -- one more core is united, as a value
   pub united_value : (before other : List CoreSet) (row : List Bool) → row ≡ lookaheads_at other place
       → lr0_core (core_set index core) ≡ lr0_core (core_set index (get_or kernel place d))
-      → length core.tokens.bits.items ≡ length (get_or kernel place d).tokens.bits.items
-      → ((t : ℕ) → has core.tokens.bits.items t ≡ (has (get_or kernel place d).tokens.bits.items t || has row t))
+      → length core.tokens ≡ length (get_or kernel place d).tokens
+      → ((t : ℕ) → has core.tokens t ≡ (has (get_or kernel place d).tokens t || has row t))
       → AreUnitedBelow before other (map (core_set index) kernel) place → AreUnitedBelow before other (map (core_set index) (set kernel place core)) (place + 1)
   united_value before other row is same room tokens so_far =
       let at = at_value in
@@ -126,18 +126,18 @@ module _ {S : Type 0} (index : S → ℕ) (kernel : List (CoreItems S)) (place :
       ∙ ap (λ r. has (get_or (map (core_set index) kernel) place (core_set index d)).tokens t || has r t) is)
       so_far)
 
-  pub fewer_value : missing core.tokens.bits.items < missing (get_or kernel place d).tokens.bits.items
+  pub fewer_value : missing core.tokens < missing (get_or kernel place d).tokens
       → total_missing (lookahead_rows (map (core_set index) (set kernel place core))) < total_missing (lookahead_rows (map (core_set index) kernel))
   fewer_value less =
       subst (λ cores. total_missing (lookahead_rows cores) < total_missing (lookahead_rows (map (core_set index) kernel)))
       (sym (map-set (core_set index) kernel place core))
       (fewer_missing (map (core_set index) kernel) place (core_set index core) (core_set index d) value_low
-      (subst (λ (c : CoreSet). missing core.tokens.bits.items < missing c.tokens) (sym at_value) less))
+      (subst (λ (c : CoreSet). missing core.tokens < missing c.tokens) (sym at_value) less))
 
 -- the set of a core has as much room as that of the core at the same place
 pub room_at : {S : Type 0} (index : S → ℕ) (kernel other : List (CoreItems S)) (i : ℕ) (core more : CoreItems S) → i < length kernel → i < length other
     → core ≡ get_or kernel i core → more ≡ get_or other i more → rooms_of (map (core_set index) kernel) ≡ rooms_of (map (core_set index) other)
-    → length core.tokens.bits.items ≡ length more.tokens.bits.items
+    → length core.tokens ≡ length more.tokens
 room_at index kernel other i core more low below is more_is same =
     let room = λ (c : CoreSet). length c.tokens in
     same_at (λ c. room (core_set index c)) kernel other i core more low below is more_is
@@ -145,5 +145,5 @@ room_at index kernel other i core more low below is more_is same =
 
 -- the lookaheads of a value
 pub row_value : {S : Type 0} (index : S → ℕ) (other : List (CoreItems S)) (i : ℕ) (more : CoreItems S) → i < length other → more ≡ get_or other i more
-    → more.tokens.bits.items ≡ lookaheads_at (map (core_set index) other) i
-row_value index other i more low is = ap (λ (c : CoreItems _). c.tokens.bits.items) is ∙ sym (lookaheads_of index other i more low)
+    → more.tokens ≡ lookaheads_at (map (core_set index) other) i
+row_value index other i more low is = ap (λ (c : CoreItems _). c.tokens) is ∙ sym (lookaheads_of index other i more low)

@@ -1,7 +1,7 @@
 -- Kernels with the same LR(0) cores, and whether they are weakly compatible: the test by which states are merged. That merging such states
 -- makes no new reduce/reduce conflict is not proved here.
 use Rattle.std.specs.Prelude.{◌≡◌, ◌≢◌, ◌<◌, ◌⊎◌, ℕ, Bool, IsTrue, List, [], length, map, slice_index_or}
-use Rattle.lrpar_grammar.specs.Tokens.{has}
+use Rattle.lrpar_grammar.specs.Tokens.{HaveCommon}
 use Rattle.lrpar_table_items.specs.Cores.{CoreSet}
 
 -- the LR(0) core: the production, and how many of its symbols are before the dot
@@ -19,10 +19,6 @@ lookahead_rows cores = map (λ core. core.tokens) cores
 -- the lookaheads of core i; out of range, none
 abbrev pub lookaheads_at : List CoreSet → ℕ → List Bool
 lookaheads_at cores i = slice_index_or (lookahead_rows cores) i []
-
--- a token is in both sets
-abbrev pub HaveCommon : List Bool → List Bool → Type 0
-HaveCommon tokens others = (t : ℕ) × IsTrue (has tokens t) × IsTrue (has others t)
 
 -- two cores are compatible in two kernels: l and m are the lookaheads of the one core in the two kernels, l' and m' those of the other core.
 -- Either neither l and m' nor m and l' have a common token, or l and l' have one, or m and m'

@@ -17,19 +17,19 @@ use Rattle.lrpar_table_merge.specs.United.{AreUnited, rooms_of}
 
 -- the lookaheads of both cores have the same room
 abbrev pub HaveOneRoom : {S : Type 0} → CoreItems S → CoreItems S → Type 0
-HaveOneRoom core other = length core.tokens.bits.items ≡ length other.tokens.bits.items
+HaveOneRoom core other = length core.tokens ≡ length other.tokens
 
 -- the core has no lookahead
 abbrev pub HasNoLookahead : {S : Type 0} → CoreItems S → Type 0
-HasNoLookahead core = (t : ℕ) → has core.tokens.bits.items t ≡ false
+HasNoLookahead core = (t : ℕ) → has core.tokens t ≡ false
 
 -- the lookaheads are those that the core had, and those of the other core
 abbrev pub UnitesLookaheads : {S : Type 0} → CoreItems S → CoreItems S → CoreItems S → Type 0
-UnitesLookaheads old other new = (t : ℕ) → has new.tokens.bits.items t ≡ (has old.tokens.bits.items t || has other.tokens.bits.items t)
+UnitesLookaheads old other new = (t : ℕ) → has new.tokens t ≡ (has old.tokens t || has other.tokens t)
 
 -- fewer tokens than before are missing among the core's lookaheads
 abbrev pub LacksFewer : {S : Type 0} → CoreItems S → CoreItems S → Type 0
-LacksFewer old new = missing new.tokens.bits.items < missing old.tokens.bits.items
+LacksFewer old new = missing new.tokens < missing old.tokens
 
 -- there is at least one, and there are at most n
 abbrev pub AreOneTo : {X : Type 0} → ℕ → List X → Type 0

@@ -8,7 +8,6 @@ ghost use Rattle.lrpar_table_merge.specs.Minimised.{AreMinimisedBy, AreSafe, IsM
 ghost use Rattle.lrpar_table_merge.specs.StoredStates.{AreStatesOf};
 
 use crate::distinct::make_distinct_states;
-use crate::expansions::Expansions;
 use crate::held::HeldFault;
 use crate::merge::merge;
 use crate::merged_table::table_of_merged;
@@ -16,6 +15,7 @@ use lrpar_grammar::grammar::YaccGrammar;
 use lrpar_grammar::span::StorageIndex;
 use lrpar_table_build::build::{BuildFault, Precedences, from_yacc_with};
 use lrpar_table_items::item_set::State;
+use lrpar_table_items::sets::Sets;
 use lrpar_table_rows::table::{StateGraph, StateTable};
 use std::alloc::Global;
 
@@ -97,9 +97,9 @@ fn states_of<StorageT: StorageIndex>(
     ensures fault { IfErr result (IsMergeFault grm.now max_states StorageT.limit) }
 {
     let _lemma = grm.start_prod();
-    let mut expansions = Expansions::new(alloc, grm)?;
-    let mut merged = merge(alloc, grm, &mut expansions, max_states)?;
-    match make_distinct_states(alloc, grm, &mut expansions, &mut merged) {
+    let mut sets = Sets::new(alloc, grm)?;
+    let mut merged = merge(alloc, grm, &mut sets, max_states)?;
+    match make_distinct_states(alloc, grm, &mut sets, &mut merged) {
         Ok(states) => Ok(Some(states)),
         Err(HeldFault::Misfit) => Ok(None),
         Err(HeldFault::Memory) => Err(BuildFault::Memory),

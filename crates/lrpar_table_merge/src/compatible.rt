@@ -1,6 +1,6 @@
 //! Weak compatibility of kernels.
 ghost use Rattle.std.specs.Prelude.{◌≡◌, ◌<◌, ◌↔◌, IsTrue, length};
-ghost use Rattle.lrpar_table_merge.specs.Compatible.{HaveCommon, IsPairCompatible};
+ghost use Rattle.lrpar_table_merge.specs.Compatible.{IsPairCompatible};
 ghost use Rattle.lrpar_table_merge.specs.StoredKernels.{AreCompatible, AreSameCores, IsCompatibleBefore, IsSameCore};
 
 use lrpar_grammar::span::StorageIndex;
@@ -48,24 +48,12 @@ fn is_compatible_with_earlier<StorageT: StorageIndex>(
 
 // Whether two cores are compatible: `l` and `m` are the lookaheads of the one in both kernels, `l2` and `m2` those of the other.
 fn is_pair_compatible(l: &TokenSet, m: &TokenSet, l2: &TokenSet, m2: &TokenSet) -> bool
-    ensures { IsTrue result ↔ IsPairCompatible l.now.bits.items m.now.bits.items l2.now.bits.items m2.now.bits.items }
+    ensures { IsTrue result ↔ IsPairCompatible l.now m.now l2.now m2.now }
 {
-    if have_common(l, l2) || have_common(m, m2) {
+    if l.has_common(l2) || m.has_common(m2) {
         return true;
     }
-    !have_common(l, m2) && !have_common(m, l2)
-}
-
-/// Whether a token is in both sets.
-pub fn have_common(tokens: &TokenSet, others: &TokenSet) -> bool
-    ensures { IsTrue result ↔ HaveCommon tokens.now.bits.items others.now.bits.items }
-{
-    for token in 0..tokens.bits.len() {
-        if tokens.contains(token) && others.contains(token) {
-            return true;
-        }
-    }
-    false
+    !l.has_common(m2) && !m.has_common(l2)
 }
 
 /// Whether the kernels have the same LR(0) cores in the same order.

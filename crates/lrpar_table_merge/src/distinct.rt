@@ -2,11 +2,10 @@
 ghost use Rattle.std.specs.Prelude.{◌≡◌, ◌<◌, ◌≤◌, IfErr, IfNone, IfOk, IfSome, length};
 ghost use Rattle.lrpar_grammar.specs.Grammar.{IsWellFormed};
 ghost use Rattle.lrpar_table_items.specs.StoredStates.{HasAtMost};
-ghost use Rattle.lrpar_table_merge.specs.Expansions.{AreKept};
+ghost use Rattle.lrpar_table_items.specs.Working.{AreSets};
 ghost use Rattle.lrpar_table_merge.specs.StoredKernels.{AreDistinctKernels, AreTwins, HaveCores, IsNewAt, IsTwinOf};
 ghost use Rattle.lrpar_table_merge.specs.StoredStates.{AreStatesOf, HaveKernels, KeepKernels};
 
-use crate::expansions::Expansions;
 use crate::held::{HeldFault, Transitions};
 use crate::merge::MergedState;
 use crate::merged_states::make_merged_states;
@@ -16,6 +15,7 @@ use lrpar_grammar::grammar::YaccGrammar;
 use lrpar_grammar::span::StorageIndex;
 use lrpar_table_items::cores::{CoreItems, are_same};
 use lrpar_table_items::item_set::State;
+use lrpar_table_items::sets::Sets;
 use std::alloc::Global;
 
 /// The states to which transitions lead, with the lookaheads worked out anew from the start. Merging can leave two states with the same
@@ -25,11 +25,11 @@ use std::alloc::Global;
 pub(crate) fn make_distinct_states<StorageT: StorageIndex>(
     alloc: Global,
     grm: &YaccGrammar<StorageT>,
-    expansions: &mut Expansions<StorageT>,
+    sets: &mut Sets,
     states: &mut [MergedState<StorageT>],
 ) -> Result<Vec<State<StorageT>>, HeldFault>
     requires well_formed { IsWellFormed grm.now }
-    requires kept { AreKept StorageT.index grm.now expansions.old }
+    requires sets { AreSets grm.now sets.old }
     requires kernels { HaveKernels StorageT.index grm.now states.old }
     requires fit { length states.old ≤ StorageT.limit }
     ensures states { IfOk result (AreStatesOf StorageT.index grm.now) }
@@ -40,7 +40,7 @@ pub(crate) fn make_distinct_states<StorageT: StorageIndex>(
         let marks = reached(alloc, states)?;
         let mut kernels = marked_kernels(alloc, states, &marks)?;
         let all = marked_transitions(alloc, states, &marks)?;
-        match propagate_states(alloc, grm, expansions, &all, &mut kernels)? {
+        match propagate_states(alloc, grm, sets, &all, &mut kernels)? {
             Ok(made) => return Ok(made),
             Err((first, second)) => {
                 redirect(states, number_at(&marks, second), number_at(&marks, first));
@@ -54,22 +54,22 @@ pub(crate) fn make_distinct_states<StorageT: StorageIndex>(
 fn propagate_states<StorageT: StorageIndex>(
     alloc: Global,
     grm: &YaccGrammar<StorageT>,
-    expansions: &mut Expansions<StorageT>,
+    sets: &mut Sets,
     all: &[Transitions],
     kernels: &mut [Vec<CoreItems<StorageT>>],
 ) -> Result<Result<Vec<State<StorageT>>, (usize, usize)>, HeldFault>
     requires well_formed { IsWellFormed grm.now }
-    requires kept { AreKept StorageT.index grm.now expansions.old }
+    requires sets { AreSets grm.now sets.old }
     requires cores { HaveCores StorageT.index grm.now kernels.old }
     requires fit { length kernels.old ≤ StorageT.limit }
-    ensures kept { AreKept StorageT.index grm.now expansions.new }
+    ensures sets { AreSets grm.now sets.new }
     ensures states { IfOk result (λ made. IfOk made (AreStatesOf StorageT.index grm.now)) }
     ensures len { IfOk result (λ made. IfOk made (HasAtMost (length kernels.old))) }
     ensures twins { IfOk result (λ made. IfErr made (AreTwins StorageT.index kernels.new)) }
 {
-    propagate(alloc, grm, expansions, all, kernels)?;
+    propagate(alloc, grm, sets, all, kernels)?;
     match find_twins(kernels) {
-        None => Ok(Ok(make_merged_states(alloc, grm, expansions, all, kernels)?)),
+        None => Ok(Ok(make_merged_states(alloc, grm, sets, all, kernels)?)),
         Some(twins) => Ok(Err(twins)),
     }
 }

@@ -4,20 +4,21 @@
 ghost use Rattle.std.specs.Prelude.{◌≡◌, ◌<◌, ◌≤◌, ◌↔◌, ℕ, IfErr, IfNone, IfOk, IfSome, IsTrue, OnOk, length};
 ghost use Rattle.std.specs.Bool.{OnFalse};
 ghost use Rattle.lrpar_grammar.specs.Grammar.{IsWellFormed};
-ghost use Rattle.lrpar_table_merge.specs.Expansions.{AreKept};
+ghost use Rattle.lrpar_table_items.specs.Working.{AreSets};
 ghost use Rattle.lrpar_table_merge.specs.Minimised.{IsMergeFault};
 ghost use Rattle.lrpar_table_merge.specs.Merging.{AreMerging, EndsPass, EndsTurn, GoesOn, NoneWaits, work_of};
 ghost use Rattle.lrpar_table_merge.specs.StoredKernels.{AreEqualCores, AreMadeOf, BeginsWith, CanUnite, IsMadeOf, StaysKernel, UniteKernels};
 ghost use Rattle.lrpar_table_merge.specs.StoredStates.{AreSplitStates, HasCompatibleAt, HasNoCompatible, HasNoCompatibleOf, HaveKernels, IsCompatibleWith};
 
 use crate::compatible::are_weakly_compatible;
-use crate::expansions::Expansions;
+use crate::expansions::expand;
 use crate::held::Transitions;
 use crate::unite::unite;
 use lrpar_grammar::grammar::YaccGrammar;
 use lrpar_grammar::span::StorageIndex;
 use lrpar_table_items::cores::{CoreItems, copied};
 use lrpar_table_items::fault::BuildFault;
+use lrpar_table_items::sets::Sets;
 use lrpar_table_items::states::start_kernel;
 use std::alloc::{AllocError, Global};
 
@@ -64,12 +65,12 @@ impl<StorageT: StorageIndex> Drop for Merging<StorageT> {
 pub(crate) fn merge<StorageT: StorageIndex>(
     alloc: Global,
     grm: &YaccGrammar<StorageT>,
-    expansions: &mut Expansions<StorageT>,
+    sets: &mut Sets,
     max_states: usize,
 ) -> Result<Vec<MergedState<StorageT>>, BuildFault>
     requires well_formed { IsWellFormed grm.now }
-    requires kept { AreKept StorageT.index grm.now expansions.old }
-    ensures kept { AreKept StorageT.index grm.now expansions.new }
+    requires sets { AreSets grm.now sets.old }
+    ensures sets { AreSets grm.now sets.new }
     ensures kernels { IfOk result (λ states. HaveKernels StorageT.index grm.now states.items) }
     ensures split { IfOk result (λ states. AreSplitStates StorageT.index grm.now states.items) }
     ensures room { IfOk result (λ states. length states.items ≤ max_states) }
@@ -79,7 +80,7 @@ pub(crate) fn merge<StorageT: StorageIndex>(
     let mut merging = Merging::new(alloc, grm)?;
     let start = start_kernel(alloc, grm)?;
     let _start = merging.merge_kernel(alloc, grm, max_states, &start)?;
-    merging.merge_until_stable(alloc, grm, expansions, max_states)?;
+    merging.merge_until_stable(alloc, grm, sets, max_states)?;
     Ok(merging.into_states())
 }
 
@@ -108,18 +109,18 @@ impl<StorageT: StorageIndex> Merging<StorageT> {
         &mut self,
         alloc: Global,
         grm: &YaccGrammar<StorageT>,
-        expansions: &mut Expansions<StorageT>,
+        sets: &mut Sets,
         max_states: usize,
     ) -> Result<(), BuildFault>
         requires well_formed { IsWellFormed grm.now }
-        requires kept { AreKept StorageT.index grm.now expansions.old }
+        requires sets { AreSets grm.now sets.old }
         requires merging { AreMerging StorageT.index grm.now max_states StorageT.limit self.old }
-        ensures kept { AreKept StorageT.index grm.now expansions.new }
+        ensures sets { AreSets grm.now sets.new }
         ensures merging { OnOk result (AreMerging StorageT.index grm.now max_states StorageT.limit self.new) }
         ensures stable { OnOk result (NoneWaits self.new.states.items) }
         ensures fault { IfErr result (IsMergeFault grm.now max_states StorageT.limit) }
     {
-        'rounds: while self.work_on_all(alloc, grm, expansions, max_states)? {}
+        'rounds: while self.work_on_all(alloc, grm, sets, max_states)? {}
         Ok(())
     }
 
@@ -128,13 +129,13 @@ impl<StorageT: StorageIndex> Merging<StorageT> {
         &mut self,
         alloc: Global,
         grm: &YaccGrammar<StorageT>,
-        expansions: &mut Expansions<StorageT>,
+        sets: &mut Sets,
         max_states: usize,
     ) -> Result<bool, BuildFault>
         requires well_formed { IsWellFormed grm.now }
-        requires kept { AreKept StorageT.index grm.now expansions.old }
+        requires sets { AreSets grm.now sets.old }
         requires merging { AreMerging StorageT.index grm.now max_states StorageT.limit self.old }
-        ensures kept { AreKept StorageT.index grm.now expansions.new }
+        ensures sets { AreSets grm.now sets.new }
         ensures merging { OnOk result (AreMerging StorageT.index grm.now max_states StorageT.limit self.new) }
         ensures waited { IfOk result (EndsPass StorageT.index grm.now max_states self.old.states.items self.new.states.items) }
         ensures fault { IfErr result (IsMergeFault grm.now max_states StorageT.limit) }
@@ -142,7 +143,7 @@ impl<StorageT: StorageIndex> Merging<StorageT> {
         let mut waited = false;
         let mut number = 0;
         'states: while number < self.states.len() {
-            let worked = self.work_on(alloc, grm, expansions, max_states, number)?;
+            let worked = self.work_on(alloc, grm, sets, max_states, number)?;
             waited = waited || worked;
             number += 1;
         }
@@ -154,15 +155,15 @@ impl<StorageT: StorageIndex> Merging<StorageT> {
         &mut self,
         alloc: Global,
         grm: &YaccGrammar<StorageT>,
-        expansions: &mut Expansions<StorageT>,
+        sets: &mut Sets,
         max_states: usize,
         number: usize,
     ) -> Result<bool, BuildFault>
         requires well_formed { IsWellFormed grm.now }
-        requires kept { AreKept StorageT.index grm.now expansions.old }
+        requires sets { AreSets grm.now sets.old }
         requires number { number < length self.old.states.items }
         requires merging { AreMerging StorageT.index grm.now max_states StorageT.limit self.old }
-        ensures kept { AreKept StorageT.index grm.now expansions.new }
+        ensures sets { AreSets grm.now sets.new }
         ensures merging { OnOk result (AreMerging StorageT.index grm.now max_states StorageT.limit self.new) }
         ensures turn { IfOk result (EndsTurn StorageT.index grm.now max_states number self.old.states.items self.new.states.items) }
         ensures fault { IfErr result (IsMergeFault grm.now max_states StorageT.limit) }
@@ -170,7 +171,7 @@ impl<StorageT: StorageIndex> Merging<StorageT> {
         if !self.stop_waiting(grm, max_states, number) {
             return Ok(false);
         }
-        let transitions = self.merge_successors(alloc, grm, expansions, max_states, number)?;
+        let transitions = self.merge_successors(alloc, grm, sets, max_states, number)?;
         self.set_transitions(grm, max_states, number, transitions);
         Ok(true)
     }
@@ -198,20 +199,19 @@ impl<StorageT: StorageIndex> Merging<StorageT> {
         &mut self,
         alloc: Global,
         grm: &YaccGrammar<StorageT>,
-        expansions: &mut Expansions<StorageT>,
+        sets: &mut Sets,
         max_states: usize,
         number: usize,
     ) -> Result<Transitions, BuildFault>
         requires well_formed { IsWellFormed grm.now }
-        requires kept { AreKept StorageT.index grm.now expansions.old }
+        requires sets { AreSets grm.now sets.old }
         requires number { number < length self.old.states.items }
         requires merging { AreMerging StorageT.index grm.now max_states StorageT.limit self.old }
-        ensures kept { AreKept StorageT.index grm.now expansions.new }
+        ensures sets { AreSets grm.now sets.new }
         ensures goes_on { OnOk result (GoesOn StorageT.index grm.now max_states StorageT.limit self.old self.new) }
         ensures fault { IfErr result (IsMergeFault grm.now max_states StorageT.limit) }
     {
-        let place = expansions.expand(alloc, grm, &self.states[number].kernel)?;
-        let successors = expansions.at(place);
+        let successors = expand(alloc, grm, sets, &self.states[number].kernel)?;
         let rules = self.merge_kernels(alloc, grm, max_states, &successors.rules)?;
         let tokens = self.merge_kernels(alloc, grm, max_states, &successors.tokens)?;
         Ok(Transitions { rules, tokens })

@@ -1,19 +1,20 @@
 //! The states of merged item sets, from their kernels and transitions.
 ghost use Rattle.std.specs.Prelude.{◌≡◌, ◌<◌, ◌≤◌, ◌↔◌, IfErr, IfOk, IsTrue, None, length, slice_index_or};
 ghost use Rattle.lrpar_grammar.specs.Grammar.{IsWellFormed};
-ghost use Rattle.lrpar_table_items.specs.Working.{AreSuccessors};
-ghost use Rattle.lrpar_table_merge.specs.Expansions.{AreKept, IsKeptAt};
+ghost use Rattle.lrpar_table_items.specs.Working.{AreSets, AreSuccessors};
+ghost use Rattle.lrpar_table_merge.specs.Expansions.{ExpandsKernel};
 ghost use Rattle.lrpar_table_merge.specs.Passing.{AreKernelsHeld};
 ghost use Rattle.lrpar_table_merge.specs.StoredKernels.{AreDistinctKernels, AreKernelsIfFilled, AreOneTo, HaveAnItem, IsKernelIfFilled, IsKernelOf};
 ghost use Rattle.lrpar_table_merge.specs.StoredStates.{AreStatesOf, FitsGoto, HasGivenGotos, HasGivenShifts, HasGivenSteps, IsGivenNext, IsMisfitAt, IsStateAt};
 
 use crate::compatible::have_same_cores;
-use crate::expansions::Expansions;
+use crate::expansions::expand;
 use crate::held::{HeldFault, Transitions};
 use lrpar_grammar::grammar::YaccGrammar;
 use lrpar_grammar::span::{Numbered, RIdx, StIdx, StorageIndex, TIdx};
-use lrpar_table_items::cores::{CoreItems, copied};
+use lrpar_table_items::cores::CoreItems;
 use lrpar_table_items::item_set::State;
+use lrpar_table_items::sets::Sets;
 use lrpar_table_items::successors::Successors;
 use std::alloc::Global;
 
@@ -22,27 +23,27 @@ use std::alloc::Global;
 ///
 /// It returns `Misfit` if a kernel has no item; if a transition is missing where an item has the symbol after its dot; and if a transition
 /// is there where no item has it, or leads to state 0, to no state, or to a state with other LR(0) cores. It returns `Memory` if an
-/// allocation fails. After an `Err` no state is left, and `expansions` can be used again. For each state it takes a closure, and time
+/// allocation fails. After an `Err` no state is left, and `sets` can be used again. For each state it takes a closure, and time
 /// proportional to the number of rules and tokens.
 pub(crate) fn make_merged_states<StorageT: StorageIndex>(
     alloc: Global,
     grm: &YaccGrammar<StorageT>,
-    expansions: &mut Expansions<StorageT>,
+    sets: &mut Sets,
     all: &[Transitions],
     kernels: &[Vec<CoreItems<StorageT>>],
 ) -> Result<Vec<State<StorageT>>, HeldFault>
     requires well_formed { IsWellFormed grm.now }
-    requires kept { AreKept StorageT.index grm.now expansions.old }
+    requires sets { AreSets grm.now sets.old }
     requires count { AreOneTo StorageT.limit kernels.now }
     requires held { AreKernelsHeld StorageT.index grm.now all.now kernels.now }
     requires distinct { AreDistinctKernels StorageT.index kernels.now }
-    ensures kept { AreKept StorageT.index grm.now expansions.new }
+    ensures sets { AreSets grm.now sets.new }
     ensures states { IfOk result (AreStatesOf StorageT.index grm.now) }
     ensures len { IfOk result (λ states. length states.items ≡ length kernels.now) }
 {
     let mut states = Vec::new(alloc);
     for number in 0..kernels.len() {
-        let state = make_merged_state(alloc, grm, expansions, all, kernels, number)?;
+        let state = make_merged_state(alloc, grm, sets, all, kernels, number)?;
         states.push(state)?;
     }
     Ok(states)
@@ -52,54 +53,52 @@ pub(crate) fn make_merged_states<StorageT: StorageIndex>(
 fn make_merged_state<StorageT: StorageIndex>(
     alloc: Global,
     grm: &YaccGrammar<StorageT>,
-    expansions: &mut Expansions<StorageT>,
+    sets: &mut Sets,
     all: &[Transitions],
     kernels: &[Vec<CoreItems<StorageT>>],
     number: usize,
 ) -> Result<State<StorageT>, HeldFault>
     requires well_formed { IsWellFormed grm.now }
-    requires kept { AreKept StorageT.index grm.now expansions.old }
+    requires sets { AreSets grm.now sets.old }
     requires number { number < length kernels.now }
     requires fit { length kernels.now ≤ StorageT.limit }
     requires kernels { AreKernelsIfFilled StorageT.index grm.now kernels.now }
-    ensures kept { AreKept StorageT.index grm.now expansions.new }
+    ensures sets { AreSets grm.now sets.new }
     ensures state { IfOk result (IsStateAt StorageT.index grm.now kernels.now all.now number) }
 {
-    let place = expand(alloc, grm, expansions, &kernels[number])?;
-    let successors = expansions.at(place);
-    let items = copied(alloc, &successors.items)?;
+    let successors = expand_filled(alloc, grm, sets, &kernels[number])?;
     let none = Transitions {
         rules: Vec::new(alloc),
         tokens: Vec::new(alloc),
     };
     let transitions = all.get(number).unwrap_or(&none);
-    let (gotos, shifts) = all_steps(alloc, grm, kernels, successors, transitions)?;
+    let (gotos, shifts) = all_steps(alloc, grm, kernels, &successors, transitions)?;
     Ok(State {
-        items,
+        items: successors.items,
         gotos,
         shifts,
     })
 }
 
-// Where the item set of the kernel is, if it has an item.
-fn expand<StorageT: StorageIndex>(
+// The item set of the kernel, if it has an item.
+fn expand_filled<StorageT: StorageIndex>(
     alloc: Global,
     grm: &YaccGrammar<StorageT>,
-    expansions: &mut Expansions<StorageT>,
+    sets: &mut Sets,
     kernel: &[CoreItems<StorageT>],
-) -> Result<usize, HeldFault>
+) -> Result<Successors<StorageT>, HeldFault>
     requires well_formed { IsWellFormed grm.now }
-    requires kept { AreKept StorageT.index grm.now expansions.old }
+    requires sets { AreSets grm.now sets.old }
     requires kernel { IsKernelIfFilled StorageT.index grm.now kernel.now }
-    ensures kept { AreKept StorageT.index grm.now expansions.new }
+    ensures sets { AreSets grm.now sets.new }
     ensures is_kernel { IfOk result (λ _. IsKernelOf StorageT.index grm.now kernel.now) }
-    ensures expanded { IfOk result (IsKeptAt StorageT.index grm.now expansions.new kernel.now) }
+    ensures expanded { IfOk result (ExpandsKernel StorageT.index grm.now kernel.now) }
 {
     if !has_item(kernel) {
         return Err(HeldFault::Misfit);
     }
-    let place = expansions.expand(alloc, grm, kernel)?;
-    Ok(place)
+    let successors = expand(alloc, grm, sets, kernel)?;
+    Ok(successors)
 }
 
 // Whether the first core has a lookahead. Then the cores have an item.

@@ -39,6 +39,6 @@ fn unite_core<StorageT: StorageIndex>(
     ensures grown { OnTrue result (LacksFewer core.old core.new) }
     ensures same { OnFalse result (core_set StorageT.index core.new ≡ core_set StorageT.index core.old) }
 {
-    let end = core.tokens.bits.len();
+    let end = core.tokens.len();
     core.tokens.unite_below(&other.tokens, end)
 }

@@ -145,7 +145,7 @@ impl<'a, StorageT: StorageIndex> Completeness<'a, StorageT> {
     )
         requires known { IsTestable self.now }
         requires room { HasWidth self.now set.old }
-        ensures room { length set.new.bits.items ≡ length set.old.bits.items }
+        ensures room { length set.new ≡ length set.old }
         ensures put { AddsLookaheads StorageT.index self.now s pidx dot set.old set.new }
     {
         for token in self.sgraph.lookaheads(s, pidx, dot) {

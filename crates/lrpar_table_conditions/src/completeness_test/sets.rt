@@ -18,9 +18,9 @@ pub(crate) struct WorkSets {
 impl WorkSets {
     /// Empty sets, with room for the tokens below `len`, for this number of productions.
     pub(crate) fn new(alloc: Global, prods: usize, len: usize) -> Result<Self, AllocError>
-        ensures after { IfOk result (λ sets. length sets.after.bits.items ≡ len) }
-        ensures front { IfOk result (λ sets. length sets.front.bits.items ≡ len) }
-        ensures begun { IfOk result (λ sets. length sets.begun.bits.items ≡ len) }
+        ensures after { IfOk result (λ sets. length sets.after ≡ len) }
+        ensures front { IfOk result (λ sets. length sets.front ≡ len) }
+        ensures begun { IfOk result (λ sets. length sets.begun ≡ len) }
         ensures prods { IfOk result (λ sets. length (rows_of sets.starts.items) ≡ prods) }
         ensures starts { IfOk result (λ sets. All (λ row. length row ≡ len) (rows_of sets.starts.items)) }
         ensures none { IfOk result (λ sets. HoldNothing (rows_of sets.starts.items)) }

@@ -11,7 +11,7 @@ shifts-preserved g c =
     let index = g.StorageT.StorageIndex.index in
     let s = index c.args.s.0 in
     let edges = c.shifts.edges.items in
-    let taken = c.args.taken.now.bits.items in
+    let taken = c.args.taken.now in
     let action = plain_action index c.index-actions-place.result in
     entry_more (λ t. index t.0) (plain_action index) c.actions_of.result.0.now c.actions_of.result.1.now (actions_at c.args.stable.now s)
     c.actions_of.ensures.actions c.actions_of.ensures.entries (λ entry. shift_step taken s entry.0 entry.1) c.args.edges.now.items c.shifts.place
@@ -35,7 +35,7 @@ pub returns-clause-edges : goal.returns-clause-edges
 returns-clause-edges g c =
     let index = g.StorageT.StorageIndex.index in
     let s = index c.args.s.0 in
-    let taken = c.args.taken.now.bits.items in
+    let taken = c.args.taken.now in
     let es = actions_at c.args.stable.now s in
     let more = gotos_at c.args.stable.now s in
     let old = c.args.edges.now.items in

@@ -7,7 +7,7 @@ use Rattle.lrpar_conflict_examples.proofs.met.push_steps.Given as goal
 abbrev pub invariant-shifts : goal.invariant-shifts
 invariant-shifts g l =
     let s = g.StorageT.StorageIndex.index l.s.0 in
-    l.edges.items ≡ l.initial.edges.items ++ shift_steps l.taken.bits.items s (take l.place (actions_at l.stable s))
+    l.edges.items ≡ l.initial.edges.items ++ shift_steps l.taken s (take l.place (actions_at l.stable s))
 
 -- the gotos so far
 abbrev pub invariant-gotos : goal.invariant-gotos

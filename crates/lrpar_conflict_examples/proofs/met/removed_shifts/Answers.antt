@@ -22,7 +22,7 @@ returns g c =
     let lent_is : lent ≡ old = c.deref_mut.ensures.value in
     subst (λ xs. AreLostShifts p table (rows_of xs)) (sym back)
     (taken_by p table (rows_of lent) (rows_of new) (map plain c.sr_conflicts.result.now) c.remove_shifts.ensures.room
-    (length-map lent (λ s. s.bits.items) ∙ ap length lent_is ∙ c.in_ok-sets.ensures.len ∙ c.states_len.ensures.states)
+    (ap length lent_is ∙ c.in_ok-sets.ensures.len ∙ c.states_len.ensures.states)
     (subst (λ n. All (λ row. length row ≡ n) (rows_of lent)) c.tokens_len.ensures.tokens
     (subst (λ xs. All (λ row. length row ≡ c.tokens_len.result) (rows_of xs)) (sym lent_is) c.in_ok-sets.ensures.wide))
     (subst (λ xs. HoldNothing (rows_of xs)) (sym lent_is) c.in_ok-sets.ensures.none) c.remove_shifts.ensures.exact

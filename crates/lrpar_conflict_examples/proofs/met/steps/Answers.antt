@@ -18,10 +18,10 @@ loop-state-preserved g c =
     let n = c.loop-state.state in
     let at = index_back index c.from_index.result c.unwrap.result n c.from_index.ensures.back c.unwrap.ensures in
     let count = c.in_ok-taken.ensures.states in
-    let len = length-map c.in_ok-taken.taken.items (λ set. set.bits.items) in
+    let len = length-map c.in_ok-taken.taken.items (λ set. set) in
     let within : n < length c.in_ok-taken.taken.items = omega (arith, count, len, c.loop-state-test.true, c.states_len-state-end.ensures.states, c.loop-state.auto.state-end) in
-    let row : row_at rows n ≡ c.index.result.now.bits.items = row_is c.in_ok-taken.taken.items n c.index.result.now within c.index.ensures in (
-      steps_more table rows n (index c.unwrap.result) c.index.result.now.bits.items c.loop-state.edges.items c.push_steps.new.edges.items at row
+    let row : row_at rows n ≡ c.index.result.now = row_is c.in_ok-taken.taken.items n c.index.result.now within c.index.ensures in (
+      steps_more table rows n (index c.unwrap.result) c.index.result.now c.loop-state.edges.items c.push_steps.new.edges.items at row
           c.loop-state.invariant.0 c.in_ok-push_steps.ensures.edges,
       λ s low. elim (cases_eq s n) as (λ _. IsStoredAt table s) [
         | inl same ↦ subst (IsStoredAt table) (at ∙ sym same) c.in_ok-push_steps.ensures.stored

@@ -8,6 +8,6 @@ use Rattle.lrpar_table_first.proofs.first.add_first.Given as goal
 abbrev pub invariant-loop-symbol : goal.invariant-loop-symbol
 invariant-loop-symbol g l =
     let symbols = map (symbol_of g.StorageT.StorageIndex.index) l.symbols in
-    (length l.front.bits.items ≡ l.dummy + 1)
-    × ((t : ℕ) → (has l.front.bits.items t || begins l.dummy (rows_of l.sets) (drop l.symbol-index symbols) t)
-    ≡ (has l.initial.front.bits.items t || begins l.dummy (rows_of l.sets) symbols t))
+    (length l.front ≡ l.dummy + 1)
+    × ((t : ℕ) → (has l.front t || begins l.dummy (rows_of l.sets) (drop l.symbol-index symbols) t)
+    ≡ (has l.initial.front t || begins l.dummy (rows_of l.sets) symbols t))

@@ -20,15 +20,15 @@ pub returns-else-contains-clause-tokens : goal.returns-else-contains-clause-toke
 returns-else-contains-clause-tokens g c =
     let grm = c.args.grm.now in
     let free = symbols_below (rules_len grm) (tokens_len grm) (map (symbol_of g.StorageT.StorageIndex.index) c.args.symbols.now) c.requires.symbols in
-    added_before grm c.requires.firsts.0 (rows_of c.args.sets.now) c.requires.firsts.1 _ free c.args.after.now.bits.items c.clear.new.self.bits.items
-    c.add_first.new.front.bits.items c.args.set.now.bits.items c.unite_below-new.new.self.bits.items _ (c.has_any.ensures.0 c.if-not-has_any.false)
+    added_before grm c.requires.firsts.0 (rows_of c.args.sets.now) c.requires.firsts.1 _ free c.args.after.now c.clear.new.self
+    c.add_first.new.front c.args.set.now c.unite_below-new.new.self _ (c.has_any.ensures.0 c.if-not-has_any.false)
     c.tokens_len-dummy.ensures.len c.clear.ensures.none c.add_first.ensures.tokens c.unite_below-new.ensures.tokens (sym c.contains.ensures ∙ c.if-contains.false)
 
 pub returns-then-contains-clause-tokens : goal.returns-then-contains-clause-tokens
 returns-then-contains-clause-tokens g c =
     let grm = c.args.grm.now in
     let free = symbols_below (rules_len grm) (tokens_len grm) (map (symbol_of g.StorageT.StorageIndex.index) c.args.symbols.now) c.requires.symbols in
-    added_through grm c.requires.firsts.0 (rows_of c.args.sets.now) c.requires.firsts.1 _ free c.args.after.now.bits.items c.clear.new.self.bits.items
-    c.add_first.new.front.bits.items c.args.set.now.bits.items c.unite_below-new.new.self.bits.items _ (c.has_any.ensures.0 c.if-not-has_any.false)
-    c.tokens_len-dummy.ensures.len c.clear.ensures.none c.add_first.ensures.tokens c.unite_below-new.ensures.tokens c.unite_below-more.new.self.bits.items
+    added_through grm c.requires.firsts.0 (rows_of c.args.sets.now) c.requires.firsts.1 _ free c.args.after.now c.clear.new.self
+    c.add_first.new.front c.args.set.now c.unite_below-new.new.self _ (c.has_any.ensures.0 c.if-not-has_any.false)
+    c.tokens_len-dummy.ensures.len c.clear.ensures.none c.add_first.ensures.tokens c.unite_below-new.ensures.tokens c.unite_below-more.new.self
     c.requires.after (sym c.contains.ensures ∙ c.if-contains.true) c.unite_below-more.ensures.tokens

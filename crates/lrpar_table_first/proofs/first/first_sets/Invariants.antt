@@ -4,7 +4,7 @@ use Rattle.lrpar_table_first.proofs.first.first_sets.Given as goal
 
 abbrev pub invariant-passes : goal.invariant-passes
 invariant-passes g l =
-    HaveRoom l.grm (rows_of l.sets.items) × AreSound l.grm (rows_of l.sets.items) × (length l.front.bits.items ≡ dummy_lookahead l.grm + 1)
+    HaveRoom l.grm (rows_of l.sets.items) × AreSound l.grm (rows_of l.sets.items) × (length l.front ≡ dummy_lookahead l.grm + 1)
 
 -- the tokens that the sets lack
 abbrev pub decreases-passes : goal.decreases-passes

@@ -15,8 +15,8 @@ add_first-requires-clause-rules g c =
 pub add_first-requires-clause-wide : goal.add_first-requires-clause-wide
 add_first-requires-clause-wide g c = rw c.tokens_len-dummy.ensures.len c.requires.room.0.wide
 
-pub unite_below-requires-clause-room : goal.unite_below-requires-clause-room
-unite_below-requires-clause-room g c =
+pub unite_below-requires : goal.unite_below-requires
+unite_below-requires g c =
     let sets = c.args.sets.now in
     let count = sets_len c.args.grm.now sets c.requires.room.0 in
     let within : c.from-rule.result < length sets = omega (arith, count, c.from-rule.ensures, c.prod_to_rule.ensures.within) in
@@ -30,7 +30,7 @@ returns-clause-room g c =
     let front = c.add_first.ensures.front ∙ ap (λ n. n + 1) c.tokens_len-dummy.ensures.len in (
       grown_room c.args.grm.now c.requires.well_formed c.args.sets.now (g.StorageT.StorageIndex.index c.args.pidx.0) c.from-rule.result c.tokens_len-dummy.result
           c.requires.prod (c.from-rule.ensures ∙ c.prod_to_rule.ensures.rule) (rw (← c.prod_to_rule.ensures.rule) c.prod_to_rule.ensures.within) c.tokens_len-dummy.ensures.len c.requires.room.0 c.index-sets-rule.result
-          c.unite_below.new.self c.add_first.new.front.bits.items c.clear.new.self.bits.items _ c.prod.ensures c.clear.ensures.none c.add_first.ensures.tokens
+          c.unite_below.new.self c.add_first.new.front c.clear.new.self _ c.prod.ensures c.clear.ensures.none c.add_first.ensures.tokens
           front c.unite_below.ensures.room c.unite_below.ensures.tokens,
       front,
     )
@@ -39,14 +39,14 @@ pub returns-clause-sound : goal.returns-clause-sound
 returns-clause-sound g c =
     grown_sound c.args.grm.now c.requires.well_formed c.args.sets.now (g.StorageT.StorageIndex.index c.args.pidx.0) c.from-rule.result c.tokens_len-dummy.result
     c.requires.prod (c.from-rule.ensures ∙ c.prod_to_rule.ensures.rule) (rw (← c.prod_to_rule.ensures.rule) c.prod_to_rule.ensures.within) c.tokens_len-dummy.ensures.len c.requires.room.0 c.index-sets-rule.result
-    c.unite_below.new.self c.add_first.new.front.bits.items c.clear.new.self.bits.items _ c.prod.ensures c.clear.ensures.none c.add_first.ensures.tokens
+    c.unite_below.new.self c.add_first.new.front c.clear.new.self _ c.prod.ensures c.clear.ensures.none c.add_first.ensures.tokens
     (c.add_first.ensures.front ∙ ap (λ n. n + 1) c.tokens_len-dummy.ensures.len) c.unite_below.ensures.room c.unite_below.ensures.tokens
 
 pub returns-clause-grown : goal.returns-clause-grown
 returns-clause-grown g c =
     OnTrue_from c.unite_below.result _ (λ e. grown_less c.args.grm.now c.requires.well_formed c.args.sets.now (g.StorageT.StorageIndex.index c.args.pidx.0) c.from-rule.result c.tokens_len-dummy.result
     c.requires.prod (c.from-rule.ensures ∙ c.prod_to_rule.ensures.rule) (rw (← c.prod_to_rule.ensures.rule) c.prod_to_rule.ensures.within) c.tokens_len-dummy.ensures.len c.requires.room.0 c.index-sets-rule.result
-    c.unite_below.new.self c.add_first.new.front.bits.items c.clear.new.self.bits.items _ c.prod.ensures c.clear.ensures.none c.add_first.ensures.tokens
+    c.unite_below.new.self c.add_first.new.front c.clear.new.self _ c.prod.ensures c.clear.ensures.none c.add_first.ensures.tokens
     (c.add_first.ensures.front ∙ ap (λ n. n + 1) c.tokens_len-dummy.ensures.len) c.unite_below.ensures.room c.unite_below.ensures.tokens
     (OnTrue_at e c.unite_below.ensures.grown))
 
@@ -54,7 +54,7 @@ pub returns-clause-same : goal.returns-clause-same
 returns-clause-same g c =
     OnFalse_from c.unite_below.result _ (λ e. grown_same c.args.grm.now c.requires.well_formed c.args.sets.now (g.StorageT.StorageIndex.index c.args.pidx.0) c.from-rule.result c.tokens_len-dummy.result
     c.requires.prod (c.from-rule.ensures ∙ c.prod_to_rule.ensures.rule) (rw (← c.prod_to_rule.ensures.rule) c.prod_to_rule.ensures.within) c.tokens_len-dummy.ensures.len c.requires.room.0 c.index-sets-rule.result
-    c.unite_below.new.self c.add_first.new.front.bits.items c.clear.new.self.bits.items _ c.prod.ensures c.clear.ensures.none c.add_first.ensures.tokens
+    c.unite_below.new.self c.add_first.new.front c.clear.new.self _ c.prod.ensures c.clear.ensures.none c.add_first.ensures.tokens
     (c.add_first.ensures.front ∙ ap (λ n. n + 1) c.tokens_len-dummy.ensures.len) c.unite_below.ensures.room c.unite_below.ensures.tokens
     (OnFalse_at e c.unite_below.ensures.same))
 
@@ -62,6 +62,6 @@ pub returns-clause-closed : goal.returns-clause-closed
 returns-clause-closed g c =
     OnFalse_from c.unite_below.result _ (λ e. grown_closed c.args.grm.now c.requires.well_formed c.args.sets.now (g.StorageT.StorageIndex.index c.args.pidx.0) c.from-rule.result c.tokens_len-dummy.result
     c.requires.prod (c.from-rule.ensures ∙ c.prod_to_rule.ensures.rule) (rw (← c.prod_to_rule.ensures.rule) c.prod_to_rule.ensures.within) c.tokens_len-dummy.ensures.len c.requires.room.0 c.index-sets-rule.result
-    c.unite_below.new.self c.add_first.new.front.bits.items c.clear.new.self.bits.items _ c.prod.ensures c.clear.ensures.none c.add_first.ensures.tokens
+    c.unite_below.new.self c.add_first.new.front c.clear.new.self _ c.prod.ensures c.clear.ensures.none c.add_first.ensures.tokens
     (c.add_first.ensures.front ∙ ap (λ n. n + 1) c.tokens_len-dummy.ensures.len) c.unite_below.ensures.room c.unite_below.ensures.tokens
     (OnFalse_at e c.unite_below.ensures.same))

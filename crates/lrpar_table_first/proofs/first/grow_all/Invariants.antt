@@ -7,7 +7,7 @@ use Rattle.lrpar_table_first.proofs.first.grow_all.Given as goal
 abbrev pub invariant-loop-prod : goal.invariant-loop-prod
 invariant-loop-prod g l =
     HaveRoom l.grm (rows_of l.sets)
-    × (length l.front.bits.items ≡ dummy_lookahead l.grm + 1)
+    × (length l.front ≡ dummy_lookahead l.grm + 1)
     × (AreSound l.grm (rows_of l.initial.sets) → AreSound l.grm (rows_of l.sets))
     × OnTrue l.grown (total_missing (rows_of l.sets) < total_missing (rows_of l.initial.sets))
     × OnFalse l.grown ((rows_of l.sets ≡ rows_of l.initial.sets) × ((p : ℕ) → p < l.prod → IsClosedAt l.grm (rows_of l.sets) p))

@@ -16,7 +16,7 @@ add_first_before-requires-clause-set g c =
     let grm = c.args.grm.now in
     let low : c.from-target.result < rules_len grm = rw c.from-target.ensures c.in-Some.ensures.within in
     let wide = set_wide grm c.args.sets.now.brought.items c.from-target.result c.index_mut.result.now low c.requires.sets.room in
-    subst (λ (s : TokenSet). length s.bits.items ≡ dummy_lookahead grm + 1) (sym c.index_mut.ensures.value) wide
+    subst (λ (s : TokenSet). length s ≡ dummy_lookahead grm + 1) (sym c.index_mut.ensures.value) wide
 
 pub returns-in-Some : goal.returns-in-Some
 returns-in-Some g c =

@@ -38,12 +38,12 @@ loop-rule-preserved g c =
     let number : index c.unwrap.result ≡ n = rw c.unwrap.ensures at c.from_index.ensures.back in
     let count = sets_len grm brought c.requires.room in
     let within : n < length brought = omega (arith, count, c.loop-rule-test.true, c.rules_len-rule-end.ensures.len) in
-    let tokens : c.index-brought-rule.result.bits.items ≡ row_at rows n = sym (row_is brought n c.index-brought-rule.result within c.index-brought-rule.is) in
+    let tokens : c.index-brought-rule.result ≡ row_at rows n = sym (row_is brought n c.index-brought-rule.result within c.index-brought-rule.is) in
     let before = map (core_set index) c.loop-rule.closure.items in
     let after = map (core_set index) c.push_rule.new.closure.items in
     record {
       items = λ x.
-          rows_more grm rows (IsAmong (map (core_set index) c.args.closure.now.items)) (IsAmong before) (IsAmong after) n c.index-brought-rule.result.bits.items x
+          rows_more grm rows (IsAmong (map (core_set index) c.args.closure.now.items)) (IsAmong before) (IsAmong after) n c.index-brought-rule.result x
           tokens (c.loop-rule.invariant.items x) (rw number at c.in_ok-push_rule.ensures.items x);
       are = c.in_ok-push_rule.ensures.cores;
       ahead = subst (λ m. All (IsAhead grm (m + 1)) after) number c.in_ok-push_rule.ensures.ahead;

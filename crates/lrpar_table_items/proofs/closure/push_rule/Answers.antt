@@ -13,7 +13,7 @@ pub returns-then-not-has_any-clause-items : goal.returns-then-not-has_any-clause
 returns-then-not-has_any-clause-items g c =
     let index = g.StorageT.StorageIndex.index in
     λ x.
-    no_items c.args.grm.now (index c.args.ridx.0) c.args.tokens.now.bits.items (map (core_set index) c.args.closure.now.items) x
+    no_items c.args.grm.now (index c.args.ridx.0) c.args.tokens.now (map (core_set index) c.args.closure.now.items) x
     (λ t some. false≢true (sym c.if-not-has_any.true ∙ c.has_any.ensures.1 (t, some)))
 
 pub returns-then-not-has_any-clause-ahead : goal.returns-then-not-has_any-clause-ahead
@@ -31,7 +31,7 @@ loop-pidx-preserved g c =
     let i = c.loop-pidx.pidx-index in
     let more = map-take_more (λ x. index x.0) prods i c.pidx-item.result c.loop-pidx-test.true c.pidx-item.is in
     put_more (map (core_set index) c.args.closure.now.items) (map (core_set index) c.loop-pidx.closure.items) (map (core_set index) c.push_core.new.closure.items)
-    c.args.tokens.now.bits.items (prod_numbers index (take i prods)) (prod_numbers index (take (i + 1) prods)) (index c.pidx-item.result.0) more
+    c.args.tokens.now (prod_numbers index (take i prods)) (prod_numbers index (take (i + 1) prods)) (index c.pidx-item.result.0) more
     c.loop-pidx.invariant c.in_ok-push_core.ensures
 
 pub returns : goal.returns
@@ -39,7 +39,7 @@ returns g c =
     let index = g.StorageT.StorageIndex.index in
     let grm = c.args.grm.now in
     let r = index c.args.ridx.0 in
-    let tokens = c.args.tokens.now.bits.items in
+    let tokens = c.args.tokens.now in
     let first = map (core_set index) c.args.closure.now.items in
     let prods = c.rule_to_prods-pidx-items.result.now in
     let all = take_all c.loop-pidx.pidx-index prods c.loop-pidx-test.false in

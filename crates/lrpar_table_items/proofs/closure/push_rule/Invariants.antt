@@ -9,4 +9,4 @@ abbrev pub invariant-loop-pidx : goal.invariant-loop-pidx
 invariant-loop-pidx g l =
     let index = g.StorageT.StorageIndex.index in
     map (core_set index) l.closure.items
-    ≡ map (core_set index) l.initial.closure.items ++ map (front_core l.tokens.bits.items) (prod_numbers index (take l.pidx-index l.pidx-items))
+    ≡ map (core_set index) l.initial.closure.items ++ map (front_core l.tokens) (prod_numbers index (take l.pidx-index l.pidx-items))

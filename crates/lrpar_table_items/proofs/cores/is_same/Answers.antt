@@ -1,6 +1,4 @@
-use Rattle.std.proofs.Common.{◌≡◌, ◌∙◌, sym, ap, arith}
-use Rattle.std.specs.Cmp.{booleans_Decides}
-use lib.Pointwise.{pointwise_decides}
+use Rattle.std.proofs.Common.{◌≡◌, ap, arith}
 use Rattle.lrpar_table_items.specs.Cores.{CoreSet, core_set}
 use Rattle.lrpar_table_items.proofs.CoreLemmas.{core_is}
 use Rattle.lrpar_table_items.proofs.cores.is_same.Goals as goal
@@ -10,7 +8,6 @@ returns g c =
     let index = g.StorageT.StorageIndex.index in
     let core = core_set index c.args.core.now in
     let other = core_set index c.args.other.now in
-    let bits = pointwise_decides booleans_Decides core.tokens other.tokens in
     let prods : core.prod ≡ other.prod = omega (arith, c.from-prod.ensures, c.from-same.ensures) in
     let dots : core.dot ≡ other.dot = omega arith in
-    (λ h. core_is core other prods dots (bits.0 (sym c.eq.ensures ∙ h)), λ h. c.eq.ensures ∙ bits.1 (ap (λ (x : CoreSet). x.tokens) h))
+    (λ h. core_is core other prods dots (c.is_same.ensures.0 h), λ h. c.is_same.ensures.1 (ap (λ (x : CoreSet). x.tokens) h))

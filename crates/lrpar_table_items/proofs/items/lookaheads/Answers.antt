@@ -10,7 +10,7 @@ loop-token-preserved g c =
     let index = g.StorageT.StorageIndex.index in
     let token_index = λ (t : TIdx g.row.StorageT.Denot). index t.0 in
     let token = c.loop-token.token in
-    let bits = c.args.core.now.tokens.bits.items in
+    let bits = c.args.core.now.tokens in
     elim c.if-contains.branch [
       | then-contains+in_ok-push w ↦
           let number : index w.unwrap.result ≡ token = rw w.unwrap.ensures at w.from_index.ensures.back in

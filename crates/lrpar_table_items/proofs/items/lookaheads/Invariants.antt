@@ -6,4 +6,4 @@ use Rattle.lrpar_table_items.proofs.items.lookaheads.Given as goal
 -- the lookaheads so far
 abbrev pub invariant-loop-token : goal.invariant-loop-token
 invariant-loop-token g l =
-    map (λ token. g.StorageT.StorageIndex.index token.0) l.tokens.items ≡ filter (has l.core.tokens.bits.items) (range_with_len 0 l.token)
+    map (λ token. g.StorageT.StorageIndex.index token.0) l.tokens.items ≡ filter (has l.core.tokens) (range_with_len 0 l.token)

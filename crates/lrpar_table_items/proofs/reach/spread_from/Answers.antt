@@ -13,12 +13,12 @@ use Rattle.lrpar_table_items.proofs.reach.spread_from.Goals as goal
 pub returns-in-None-clause-growth : goal.returns-in-None-clause-growth
 returns-in-None-clause-growth g c = grown_itself c.args.grm.now c.args.sets.now
 
-pub unite_below-grown-requires-clause-room : goal.unite_below-grown-requires-clause-room
-unite_below-grown-requires-clause-room g c =
+pub unite_below-grown-requires : goal.unite_below-grown-requires
+unite_below-grown-requires g c =
     let grm = c.args.grm.now in
     let low : c.from-target.result < rules_len grm = rw c.from-target.ensures c.in-Some.ensures.within in
     let wide = set_wide grm c.args.sets.now.brought.items c.from-target.result c.index_mut.result.now low c.requires.sets.room in
-    let here = subst (λ (s : TokenSet). length s.bits.items ≡ dummy_lookahead grm + 1) (sym c.index_mut.ensures.value) wide in
+    let here = subst (λ (s : TokenSet). length s ≡ dummy_lookahead grm + 1) (sym c.index_mut.ensures.value) wide in
     omega (arith, here, c.tokens_len.ensures.len)
 
 pub add_first_before-requires-clause-after : goal.add_first_before-requires-clause-after
@@ -26,7 +26,7 @@ add_first_before-requires-clause-after g c =
     let grm = c.args.grm.now in
     let low : c.from-rule.result < rules_len grm = rw c.from-rule.ensures c.prod_to_rule.ensures.within in
     let wide = set_wide grm c.args.sets.now.brought.items c.from-rule.result c.index.result.now low c.requires.sets.room in
-    subst (λ (s : TokenSet). length s.bits.items ≡ dummy_lookahead grm + 1) (sym c.index.ensures) wide
+    subst (λ (s : TokenSet). length s ≡ dummy_lookahead grm + 1) (sym c.index.ensures) wide
 
 pub returns-in-Some : goal.returns-in-Some
 returns-in-Some g c =
@@ -43,7 +43,7 @@ returns-in-Some g c =
     (c.from-rule.ensures ∙ c.prod_to_rule.ensures.rule) (rw (← c.prod_to_rule.ensures.rule) c.prod_to_rule.ensures.within)
     (c.in-Some.ensures.rule ∙ ap (λ n. Nonterminal n ∷ rest) (sym c.from-target.ensures)) low c.tokens_len.ensures.len c.requires.sets.room
     c.index.result.now c.index_mut.result.now c.unite_below-grown.new.self c.index.ensures c.index_mut.ensures.value
-    c.add_first_before.new.set.bits.items c.clear.new.self.bits.items
+    c.add_first_before.new.set c.clear.new.self
     c.clear.ensures.none c.add_first_before.ensures.tokens c.add_first_before.ensures.set c.unite_below-grown.ensures.room c.unite_below-grown.ensures.tokens in
     let same = λ (fell : grown ≡ false). to.same (OnFalse_at fell c.unite_below-grown.ensures.same) in
     let resting = marks_kept sets.waits.items c.mark.new.waits.items target grown _ _ marks c.mark.ensures to.other same in record {

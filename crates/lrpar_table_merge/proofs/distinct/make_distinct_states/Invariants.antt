@@ -1,5 +1,5 @@
 use Rattle.std.proofs.Common.{◌≡◌, length}
-use Rattle.lrpar_table_merge.specs.Expansions.{AreKept}
+use Rattle.lrpar_table_items.specs.Working.{AreSets}
 use Rattle.lrpar_table_merge.specs.StoredStates.{HaveKernels}
 use Rattle.lrpar_table_merge.proofs.distinct.make_distinct_states.Given as goal
 
@@ -7,7 +7,7 @@ use Rattle.lrpar_table_merge.proofs.distinct.make_distinct_states.Given as goal
 abbrev pub invariant-loop : goal.invariant-loop
 invariant-loop g l =
     let index = g.StorageT.StorageIndex.index in record {
-      kept : AreKept index l.grm l.expansions;
+      sets : AreSets l.grm l.sets;
       kernels : HaveKernels index l.grm l.states;
       len : length l.states ≡ length l.initial.states;
     }

@@ -16,8 +16,8 @@ use Rattle.lrpar_table_merge.proofs.GivenListLemmas.{read_transitions}
 use Rattle.lrpar_table_merge.proofs.PassLemmas.{rows_len}
 use Rattle.lrpar_table_merge.proofs.merged_states.make_merged_state.Goals as goal
 
-pub expand-requires-clause-kernel : goal.expand-requires-clause-kernel
-expand-requires-clause-kernel g c =
+pub expand_filled-requires-clause-kernel : goal.expand_filled-requires-clause-kernel
+expand_filled-requires-clause-kernel g c =
     let index = g.StorageT.StorageIndex.index in
     let kernels = c.args.kernels.now in
     let low = c.requires.number in
@@ -28,7 +28,7 @@ expand-requires-clause-kernel g c =
 
 pub all_steps-requires-clause-successors : goal.all_steps-requires-clause-successors
 all_steps-requires-clause-successors g c =
-    (c.at-successors.ensures c.args.grm.now (map (core_set g.StorageT.StorageIndex.index) c.deref.result.now) c.in_ok-place.ensures.expanded).next
+    c.in_ok-successors.ensures.expanded.next
 
 pub returns-clause-state : goal.returns-clause-state
 returns-clause-state g c =
@@ -40,27 +40,21 @@ returns-clause-state g c =
     ap (map (core_set index)) c.deref.ensures.value
     ∙ sym (mapped_at (λ k. map (core_set index) k.items) kernels c.args.number c.index-kernels-number.result [] c.requires.number
     c.index-kernels-number.is) in
-    let items = map (core_set index) c.in_ok-items.items.items in
-    let successors = c.at-successors.result.now in
-    let cores = map (core_set index) successors.items.items in
-    let same : items ≡ cores = c.in_ok-items.ensures ∙ ap (map (core_set index)) c.deref-2.ensures.value in
-    let all = c.at-successors.ensures grm (map (core_set index) c.deref.result.now) c.in_ok-place.ensures.expanded in
+    let items = map (core_set index) c.in_ok-successors.successors.items.items in
+    let all = c.in_ok-successors.ensures.expanded in
     let read = c.get.ensures.lookup in
     let transitions : transitions_of c.unwrap_or-transitions.result.now ≡ transitions_at (all_transitions c.args.all.now) c.args.number =
     ap (λ x. transitions_of x.now) c.unwrap_or-transitions.ensures
     ∙ read_transitions c.args.all.now c.args.number c.get.result _ c.new.ensures.items c.new-2.ensures.items read.1 read.3 in record {
       closure = record {
-        is_kernel = subst (IsKernel grm) own c.in_ok-place.ensures.is_kernel;
-        items = subst (λ kernel. AreSame (IsAmong items) (IsInClosure grm (IsAmong kernel))) own
-            (subst (λ xs. AreSame (IsAmong xs) (IsInClosure grm (IsAmong (map (core_set index) c.deref.result.now)))) (sym same) all.items);
-        are_cores = subst (AreCores grm) (sym same) all.cores;
+        is_kernel = subst (IsKernel grm) own c.in_ok-successors.ensures.is_kernel;
+        items = subst (λ kernel. AreSame (IsAmong items) (IsInClosure grm (IsAmong kernel))) own all.items;
+        are_cores = all.cores;
       };
       gotos =
           subst (λ t. AreGivenBy grm rows items t Nonterminal (map (goto_entry index) c.in_ok-gotos.gotos.items) (rules_len grm)) transitions
-          (subst (λ xs. AreGivenBy grm rows xs (transitions_of c.unwrap_or-transitions.result.now) Nonterminal (map (goto_entry index) c.in_ok-gotos.gotos.items) (rules_len grm))
-          (sym same) c.in_ok-gotos.ensures.gotos);
+          c.in_ok-gotos.ensures.gotos;
       shifts =
           subst (λ t. AreGivenBy grm rows items t Terminal (map (shift_entry index) c.in_ok-gotos.shifts.items) (tokens_len grm)) transitions
-          (subst (λ xs. AreGivenBy grm rows xs (transitions_of c.unwrap_or-transitions.result.now) Terminal (map (shift_entry index) c.in_ok-gotos.shifts.items) (tokens_len grm))
-          (sym same) c.in_ok-gotos.ensures.shifts);
+          c.in_ok-gotos.ensures.shifts;
     }

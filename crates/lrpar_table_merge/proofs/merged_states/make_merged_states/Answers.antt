@@ -14,7 +14,7 @@ pub loop-number-init : goal.loop-number-init
 loop-number-init g c =
     let index = g.StorageT.StorageIndex.index in
     let none : map (state_of index) c.new-states.result.items ≡ [] = ap (map (state_of index)) c.new-states.ensures.items in record {
-      kept = c.requires.kept;
+      sets = c.requires.sets;
       within = omega arith;
       len = ap (λ (states : List StateOf). length states) none;
       given = λ s low. absurd (omega (arith, low));
@@ -39,7 +39,7 @@ loop-number-preserved g c =
     let more : map (state_of index) c.push.new.self.items ≡ states ++ state ∷ [] =
     ap (map (state_of index)) c.in_ok-push.ensures.items ∙ map_push (state_of index) c.loop-number.states.items c.in_ok-state.state in
     let Given = λ (s : ℕ) (x : StateOf). IsGivenState c.args.grm.now kernels (transitions_at all s) (kernel_at kernels s) x in record {
-      kept = c.in_ok-state.ensures.kept;
+      sets = c.in_ok-state.ensures.sets;
       within = omega (arith, c.loop-number-test.true);
       len = (let total = ap (λ (xs : List StateOf). length xs) more in omega (arith, total, len, length_push states state));
       given =

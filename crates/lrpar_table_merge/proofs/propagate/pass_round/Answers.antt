@@ -8,7 +8,7 @@ use Rattle.lrpar_table_merge.proofs.propagate.pass_round.Goals.{then-grown, else
 
 pub loop-state-init : goal.loop-state-init
 loop-state-init g c = record {
-  kept = c.requires.kept;
+  sets = c.requires.sets;
   alike = alike_itself (kernel_rows g.StorageT.StorageIndex.index c.args.kernels.now);
   propagated = c.requires.propagated;
   round = (tt, (refl, λ s low. absurd (omega (arith, low))));
@@ -28,7 +28,7 @@ loop-state-preserved g c =
       | then-grown w ↦ inl (w.if-grown.true, w.grown-is ∙ w.if-grown.true)
       | else-grown w ↦ inr (w.if-grown.false, w.grown-is)
     ]) in record {
-      kept = c.in_ok-more.ensures.kept;
+      sets = c.in_ok-more.ensures.sets;
       alike = alike_on first before after so_far.alike one.goes_on.alike;
       propagated = one.goes_on.propagated;
       round =

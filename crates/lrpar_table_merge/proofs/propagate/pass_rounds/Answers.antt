@@ -12,7 +12,7 @@ use Rattle.lrpar_table_merge.proofs.propagate.pass_rounds.Goals as goal
 
 pub rounds-init : goal.rounds-init
 rounds-init g c = record {
-  kept = c.requires.kept;
+  sets = c.requires.sets;
   alike = alike_itself (kernel_rows g.StorageT.StorageIndex.index c.args.kernels.now);
   propagated = c.requires.propagated;
 }
@@ -21,7 +21,7 @@ pub rounds-preserved : goal.rounds-preserved
 rounds-preserved g c =
     let index = g.StorageT.StorageIndex.index in
     let round = c.in_ok-pass_round.ensures in record {
-      kept = round.kept;
+      sets = round.sets;
       alike =
           alike_on (kernel_rows index c.args.kernels.now) (kernel_rows index c.rounds.kernels) (kernel_rows index c.pass_round.new.kernels)
           c.rounds.invariant.alike round.propagated.alike;

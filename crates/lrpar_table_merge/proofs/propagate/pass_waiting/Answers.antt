@@ -41,14 +41,14 @@ pub pass_all-requires-clause-known : goal.pass_all-requires-clause-known
 pass_all-requires-clause-known g c =
     let index = g.StorageT.StorageIndex.index in
     let grm = c.args.grm.now in
-    let all = c.at-successors.ensures grm (map (core_set index) c.deref-kernel.result.now) c.in_ok-place.ensures.expanded in
+    let all = c.in_ok-successors.ensures.expanded in
     (grm, c.requires.propagated.beginnings, kernels_lent index grm _ _ all Nonterminal _ (rules_lent index grm _ _ c.deref.ensures.value all.next))
 
 pub pass_all-requires-2-clause-known : goal.pass_all-requires-2-clause-known
 pass_all-requires-2-clause-known g c =
     let index = g.StorageT.StorageIndex.index in
     let grm = c.args.grm.now in
-    let all = c.at-successors.ensures grm (map (core_set index) c.deref-kernel.result.now) c.in_ok-place.ensures.expanded in
+    let all = c.in_ok-successors.ensures.expanded in
     let rules = kernels_lent index grm _ _ all Nonterminal _ (rules_lent index grm _ _ c.deref.ensures.value all.next) in (
       grm,
       c.in_ok-by_rules.ensures.kernels grm c.requires.propagated.beginnings rules,
@@ -58,14 +58,14 @@ pass_all-requires-2-clause-known g c =
 pub returns-in_err-by_rules-clause-stuck : goal.returns-in_err-by_rules-clause-stuck
 returns-in_err-by_rules-clause-stuck g c =
     stuck_by_rules g.StorageT.StorageIndex.index c.args.grm.now c.args.all.now c.args.state c.args.kernels.now _ _ c.requires.state c.deref-kernel.ensures.value
-    c.requires.propagated.beginnings (c.has_items.ensures.0 c.if-not-has_items.false) _ (c.at-successors.ensures _ _ c.in_ok-place.ensures.expanded) _
+    c.requires.propagated.beginnings (c.has_items.ensures.0 c.if-not-has_items.false) _ c.in_ok-successors.ensures.expanded _
     c.from_residual-in_err-by_rules.result _ c.from_residual-in_err-by_rules.ensures.1 _ (alike_itself _) _ c.in_err-by_rules.ensures.misfit
     c.deref.ensures.value c.rules_from.ensures
 
 pub returns-in_err-by_tokens-clause-stuck : goal.returns-in_err-by_tokens-clause-stuck
 returns-in_err-by_tokens-clause-stuck g c =
     stuck_by_tokens g.StorageT.StorageIndex.index c.args.grm.now c.args.all.now c.args.state c.args.kernels.now _ _ c.requires.state c.deref-kernel.ensures.value
-    c.requires.propagated.beginnings (c.has_items.ensures.0 c.if-not-has_items.false) _ (c.at-successors.ensures _ _ c.in_ok-place.ensures.expanded) _
+    c.requires.propagated.beginnings (c.has_items.ensures.0 c.if-not-has_items.false) _ c.in_ok-successors.ensures.expanded _
     c.from_residual-in_err-by_tokens.result _ c.from_residual-in_err-by_tokens.ensures.1 _ c.in_ok-by_rules.ensures.added.alike _
     c.in_err-by_tokens.ensures.misfit c.deref-2.ensures.value c.tokens_from.ensures
 
@@ -80,8 +80,8 @@ returns-clause-passed g c =
     let waited = set c.args.waits.now state false in
     let by_rules = c.in_ok-by_rules.ensures in
     let by_tokens = c.in_ok-by_tokens.ensures in
-    let all = c.at-successors.ensures grm (map (core_set index) c.deref-kernel.result.now) c.in_ok-place.ensures.expanded in
-    let cores = map (core_set index) c.at-successors.result.now.items.items in
+    let all = c.in_ok-successors.ensures.expanded in
+    let cores = map (core_set index) c.in_ok-successors.successors.items.items in
     let own = own_at index c.args.kernels.now state c.index-kernels-state.result c.deref-kernel.result.now c.requires.state c.deref-kernel.ensures.value in
     let rules = c.deref.result.now in
     let tokens = c.deref-2.result.now in

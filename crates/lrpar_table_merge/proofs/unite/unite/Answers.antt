@@ -27,7 +27,7 @@ unite_core-requires g c =
     let room =
     room_at index kernel other place c.index-kernel-place.result c.index-other-place.result low below c.index-kernel-place.is
     c.index-other-place.is (c.loop-place.invariant.0.room ∙ c.requires.room) in record {
-      room = sym (ap (λ (x : _). length x.tokens.bits.items) (sym c.index-kernel-place.is) ∙ room);
+      room = sym (ap (λ (x : _). length x.tokens) (sym c.index-kernel-place.is) ∙ room);
     }
 
 pub loop-place-preserved : goal.loop-place-preserved
@@ -48,7 +48,7 @@ loop-place-preserved g c =
     let row = row_value index other place c.index-other-place.result below c.index-other-place.is in
     let unchanged = OnFalse_from c.loop-place.grown (lookahead_rows before ≡ lookahead_rows first) (λ fell. ap lookahead_rows (OnFalse_at fell so_far.2)) in (
       united_value index kernel place core c.index-kernel-place.result low first (map (core_set index) other)
-          c.index-other-place.result.tokens.bits.items row one.core one.room one.tokens so_far.0,
+          c.index-other-place.result.tokens row one.core one.room one.tokens so_far.0,
       OnTrue_from c.if-unite_core.grown (total_missing (lookahead_rows after) < total_missing (lookahead_rows first)) (λ held.
           elim c.if-unite_core.branch [
             | then-unite_core w ↦

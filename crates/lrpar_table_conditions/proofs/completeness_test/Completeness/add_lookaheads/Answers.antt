@@ -18,16 +18,16 @@ insert-requires g c =
 pub loop-token-init : goal.loop-token-init
 loop-token-init g c =
     let index = g.StorageT.StorageIndex.index in
-    (refl, none_added (λ x t. index x.0 ≡ t) c.lookaheads-token-items.result.now (λ t. IsTrue (has c.args.set.now.bits.items t)))
+    (refl, none_added (λ x t. index x.0 ≡ t) c.lookaheads-token-items.result.now (λ t. IsTrue (has c.args.set.now t)))
 
 pub loop-token-preserved : goal.loop-token-preserved
 loop-token-preserved g c =
     let index = g.StorageT.StorageIndex.index in (
       c.insert.ensures.room ∙ c.loop-token.invariant.0,
       one_added (λ x t. index x.0 ≡ t) c.lookaheads-token-items.result.now c.loop-token.token-index c.token-item.result
-          (λ t. IsTrue (has c.args.set.now.bits.items t)) (λ t. IsTrue (has c.loop-token.set.bits.items t)) (λ t. IsTrue (has c.insert.new.self.bits.items t))
+          (λ t. IsTrue (has c.args.set.now t)) (λ t. IsTrue (has c.loop-token.set t)) (λ t. IsTrue (has c.insert.new.self t))
           c.loop-token-test.true c.token-item.is
-          (token_added c.loop-token.set.bits.items c.insert.new.self.bits.items c.from.result (index c.token-item.result.0) c.from.ensures c.insert.ensures.tokens)
+          (token_added c.loop-token.set c.insert.new.self c.from.result (index c.token-item.result.0) c.from.ensures c.insert.ensures.tokens)
           c.loop-token.invariant.1,
     )
 
@@ -35,5 +35,5 @@ pub returns-clause-put : goal.returns-clause-put
 returns-clause-put g c =
     let index = g.StorageT.StorageIndex.index in
     lookaheads_added index (HasItem c.args.self.now.sgraph.now (index c.args.s.0) (index c.args.pidx.0) c.args.dot) c.lookaheads-token-items.result.now
-    c.loop-token.token-index (λ t. IsTrue (has c.args.set.now.bits.items t)) (λ t. IsTrue (has c.loop-token.set.bits.items t))
+    c.loop-token.token-index (λ t. IsTrue (has c.args.set.now t)) (λ t. IsTrue (has c.loop-token.set t))
     c.lookaheads-token-items.ensures.all c.loop-token-test.false c.loop-token.invariant.1

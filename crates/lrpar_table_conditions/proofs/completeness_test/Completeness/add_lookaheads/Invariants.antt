@@ -7,5 +7,5 @@ use Rattle.lrpar_table_conditions.proofs.completeness_test.Completeness.add_look
 abbrev pub invariant-loop-token : goal.invariant-loop-token
 invariant-loop-token g l =
     let index = g.StorageT.StorageIndex.index in
-    (length l.set.bits.items ≡ length l.fn.set.bits.items)
-    × AreAdded (λ x t. index x.0 ≡ t) (take l.token-index l.token-items) (λ t. IsTrue (has l.fn.set.bits.items t)) (λ t. IsTrue (has l.set.bits.items t))
+    (length l.set ≡ length l.fn.set)
+    × AreAdded (λ x t. index x.0 ≡ t) (take l.token-index l.token-items) (λ t. IsTrue (has l.fn.set t)) (λ t. IsTrue (has l.set t))

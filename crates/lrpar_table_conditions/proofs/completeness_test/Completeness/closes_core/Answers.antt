@@ -22,11 +22,11 @@ returns-in-Some-clause-test g c =
     let s = index c.args.s.0 in
     let p = index c.args.pidx.0 in
     let rest = map (symbol_of index) c.in-Some.rest.now in
-    let after = c.add_lookaheads.new.set.bits.items in
-    let begun = c.add_first_before.new.set.bits.items in
+    let after = c.add_lookaheads.new.set in
+    let begun = c.add_first_before.new.set in
     let test = c.starts_cover.result in
-    let are = only_put c.clear.new.self.bits.items after (HasItem graph s p c.args.dot) c.clear.ensures.none c.add_lookaheads.ensures.put in
-    let firsts = only_put c.clear-in-Some.new.self.bits.items begun (IsFirstBefore grm after rest) c.clear-in-Some.ensures.none c.add_first_before.ensures.tokens in
+    let are = only_put c.clear.new.self after (HasItem graph s p c.args.dot) c.clear.ensures.none c.add_lookaheads.ensures.put in
+    let firsts = only_put c.clear-in-Some.new.self begun (IsFirstBefore grm after rest) c.clear-in-Some.ensures.none c.add_first_before.ensures.tokens in
     let P : List TokenSet → Type 0 = λ sets. IsTrue test ↔ EachOfCore graph s p c.args.dot (ClosesAmong grm (rows_of sets)) in
     subst P c.deref.ensures.value
     (closed_core grm graph s (rows_of c.deref.result.now) p c.args.dot (index c.in-Some.rule.0) rest after begun test c.in-Some.ensures.rule are firsts

@@ -23,22 +23,13 @@ offset_bounds-starts-prod g c =
     c.rule_to_prods-pidx-items.ensures c.loop-pidx-test.true c.pidx-item.is c.requires.starts c.from-prod.ensures in
     search rules
 
-pub covers-requires : goal.covers-requires
-covers-requires g c =
-    let index = g.StorageT.StorageIndex.index in
-    let grm = c.args.self.now.grm.now in
-    let within = start_of_rule index grm (index c.args.rule.0) c.rule_to_prods-pidx-items.result.now c.loop-pidx.pidx-index c.pidx-item.result c.args.starts.now c.from-prod.result
-    c.rule_to_prods-pidx-items.ensures c.loop-pidx-test.true c.pidx-item.is c.requires.starts c.from-prod.ensures in
-    let wide = wide_at c.args.starts.now c.from-prod.result (dummy_lookahead grm + 1) c.index-starts-prod.result c.requires.starts.wide within c.index-starts-prod.is in
-    omega (arith, wide, c.requires.tokens)
-
 pub returns-then-not-covers : goal.returns-then-not-covers
 returns-then-not-covers g c =
     let index = g.StorageT.StorageIndex.index in
     let grm = c.args.self.now.grm.now in
     let starts = c.args.starts.now in
     let prods = c.rule_to_prods-pidx-items.result.now in
-    let P : ℕ → Type 0 = λ q. (b : ℕ) → IsTrue (has c.args.tokens.now.bits.items b) → IsTrue (has (row_at (rows_of starts) q) b) in
+    let P : ℕ → Type 0 = λ q. (b : ℕ) → IsTrue (has c.args.tokens.now b) → IsTrue (has (row_at (rows_of starts) q) b) in
     let row = row_of_rule index _ _ prods _ _ starts _ _ c.rule_to_prods-pidx-items.ensures c.loop-pidx-test.true c.pidx-item.is c.requires.starts c.from-prod.ensures c.index-starts-prod.is in
     refused (λ all.
     let of_rule = (each_of_rule grm (index c.args.rule.0) P).1 (λ q h by b has_b. all q b h by has_b) in
@@ -51,7 +42,7 @@ loop-pidx-preserved g c =
     let index = g.StorageT.StorageIndex.index in
     let starts = c.args.starts.now in
     let prods = c.rule_to_prods-pidx-items.result.now in
-    let P : ℕ → Type 0 = λ q. (b : ℕ) → IsTrue (has c.args.tokens.now.bits.items b) → IsTrue (has (row_at (rows_of starts) q) b) in
+    let P : ℕ → Type 0 = λ q. (b : ℕ) → IsTrue (has c.args.tokens.now b) → IsTrue (has (row_at (rows_of starts) q) b) in
     let row = row_of_rule index _ _ prods _ _ starts _ _ c.rule_to_prods-pidx-items.ensures c.loop-pidx-test.true c.pidx-item.is c.requires.starts c.from-prod.ensures c.index-starts-prod.is in
     let here : P (index c.pidx-item.result.0) =
     λ b has_b. subst (λ bits. IsTrue (has bits b)) (sym row) (c.covers.ensures.0 c.if-not-covers.false b has_b) in
@@ -62,7 +53,7 @@ returns g c =
     let index = g.StorageT.StorageIndex.index in
     let grm = c.args.self.now.grm.now in
     let prods = c.rule_to_prods-pidx-items.result.now in
-    let P : ℕ → Type 0 = λ q. (b : ℕ) → IsTrue (has c.args.tokens.now.bits.items b) → IsTrue (has (row_at (rows_of c.args.starts.now) q) b) in
+    let P : ℕ → Type 0 = λ q. (b : ℕ) → IsTrue (has c.args.tokens.now b) → IsTrue (has (row_at (rows_of c.args.starts.now) q) b) in
     let mapped : All P (map (λ x. index x.0) prods) = All-map P (λ x. index x.0) prods (λ k d below. c.loop-pidx.invariant k d (omega arith)) in
     let listed = subst (λ (qs : List ℕ). All P qs) c.rule_to_prods-pidx-items.ensures mapped in
     accepted (λ q b known by has_b. (each_of_rule grm (index c.args.rule.0) P).0 listed q known by b has_b)

@@ -18,24 +18,24 @@ merge_kernels-requires-clause-kernels g c =
     let index = g.StorageT.StorageIndex.index in
     let grm = c.args.grm.now in
     let kernel = map (core_set index) c.deref.result.now in
-    let all = c.at-successors.ensures grm kernel c.in_ok-place.ensures.expanded in
+    let all = c.in_ok-successors.ensures.expanded in
     let made : IsMade grm kernel =
     subst (λ cores. IsMade grm (map (core_set index) cores)) (sym c.deref.ensures.value)
     (made_read index grm c.args.self.now.states.items c.args.number c.index.result.now c.requires.number c.index.ensures c.requires.merging.made) in
     subst (AreMadeOf index grm) (sym c.deref-2.ensures.value)
-    (made_kernels index grm kernel (map (core_set index) c.at-successors.result.now.items.items) Nonterminal _ made all.cores all.items all.next.rules)
+    (made_kernels index grm kernel (map (core_set index) c.in_ok-successors.successors.items.items) Nonterminal _ made all.cores all.items all.next.rules)
 
 pub merge_kernels-requires-2-clause-kernels : goal.merge_kernels-requires-2-clause-kernels
 merge_kernels-requires-2-clause-kernels g c =
     let index = g.StorageT.StorageIndex.index in
     let grm = c.args.grm.now in
     let kernel = map (core_set index) c.deref.result.now in
-    let all = c.at-successors.ensures grm kernel c.in_ok-place.ensures.expanded in
+    let all = c.in_ok-successors.ensures.expanded in
     let made : IsMade grm kernel =
     subst (λ cores. IsMade grm (map (core_set index) cores)) (sym c.deref.ensures.value)
     (made_read index grm c.args.self.now.states.items c.args.number c.index.result.now c.requires.number c.index.ensures c.requires.merging.made) in
     subst (AreMadeOf index grm) (sym c.deref-3.ensures.value)
-    (made_kernels index grm kernel (map (core_set index) c.at-successors.result.now.items.items) Terminal _ made all.cores all.items all.next.tokens)
+    (made_kernels index grm kernel (map (core_set index) c.in_ok-successors.successors.items.items) Terminal _ made all.cores all.items all.next.tokens)
 
 pub merge_kernels-requires-2-clause-merging : goal.merge_kernels-requires-2-clause-merging
 merge_kernels-requires-2-clause-merging g c = c.in_ok-rules.ensures.goes_on.merging

@@ -1,11 +1,11 @@
 use Rattle.lrpar_table_merge.specs.Merging.{AreMerging, work_left}
-use Rattle.lrpar_table_merge.specs.Expansions.{AreKept}
+use Rattle.lrpar_table_items.specs.Working.{AreSets}
 use Rattle.lrpar_table_merge.proofs.merge.Merging.merge_until_stable.Given as goal
 
 -- each state has a kernel
 abbrev pub invariant-rounds : goal.invariant-rounds
 invariant-rounds g l = record {
-  kept : AreKept g.StorageT.StorageIndex.index l.grm l.expansions;
+  sets : AreSets l.grm l.sets;
   merging : AreMerging g.StorageT.StorageIndex.index l.grm l.max_states g.StorageT.StorageIndex.limit l.self;
 }
 

@@ -6,7 +6,7 @@ use Rattle.lrpar_table_merge.proofs.merge.Merging.work_on_all.Goals.{then-waited
 
 pub states-init : goal.states-init
 states-init g c = record {
-  kept = c.requires.kept;
+  sets = c.requires.sets;
   merging = c.requires.merging;
   pass = pass_none g.StorageT.StorageIndex.index c.args.grm.now c.args.max_states c.args.self.now.states.items;
 }
@@ -19,7 +19,7 @@ states-preserved g c =
       | then-waited w ↦ inl (w.if-waited.true, w.waited-is ∙ w.if-waited.true)
       | else-waited w ↦ inr (w.if-waited.false, w.waited-is)
     ]) in record {
-      kept = c.in_ok-worked.ensures.kept;
+      sets = c.in_ok-worked.ensures.sets;
       merging = c.in_ok-worked.ensures.merging;
       pass =
           pass_more index c.args.grm.now c.args.max_states c.args.self.now.states.items c.states.self.states.items c.work_on.new.self.states.items c.states.number c.states.waited

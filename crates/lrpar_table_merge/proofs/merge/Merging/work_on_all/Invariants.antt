@@ -1,6 +1,6 @@
 use Rattle.std.proofs.Common.{◌-◌}
 use Rattle.lrpar_table_merge.specs.Merging.{AreMerging}
-use Rattle.lrpar_table_merge.specs.Expansions.{AreKept}
+use Rattle.lrpar_table_items.specs.Working.{AreSets}
 use Rattle.lrpar_table_merge.proofs.WorkLemmas.{IsPassTo}
 use Rattle.lrpar_table_merge.proofs.merge.Merging.work_on_all.Given as goal
 
@@ -8,7 +8,7 @@ use Rattle.lrpar_table_merge.proofs.merge.Merging.work_on_all.Given as goal
 abbrev pub invariant-states : goal.invariant-states
 invariant-states g l =
     let index = g.StorageT.StorageIndex.index in record {
-      kept : AreKept index l.grm l.expansions;
+      sets : AreSets l.grm l.sets;
       merging : AreMerging index l.grm l.max_states g.StorageT.StorageIndex.limit l.self;
       pass : IsPassTo index l.grm l.max_states l.initial.self.states.items l.self.states.items l.number l.waited;
     }
