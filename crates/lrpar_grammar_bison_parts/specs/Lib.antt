@@ -1,5 +1,6 @@
 pub mod Symbols
 pub mod Midrules
+pub mod Ends
 pub mod Outline
 pub mod Precedences
 pub mod Unquoted

@@ -1,6 +1,7 @@
 //! The grammars of `.y` files as bison reads them: their parts and precedences.
 #![tactic(auto)]
 
+pub mod ends;
 pub mod faults;
 pub mod grammar;
 pub mod midrules;
