@@ -25,10 +25,14 @@ number_after base limit number (c ∷ s) = if may_follow base limit number c the
 abbrev pub number_of_digits : ℕ → ℕ → List ℕ → Option ℕ
 number_of_digits base limit digits = number_after base limit 0 digits
 
+-- the numbers of tokens are below this
+abbrev pub number_limit : ℕ
+number_limit = 2 ^ 31 - 1
+
 -- a hexadecimal number of a token, after its `0x`
 abbrev pub hexadecimal : List ℕ → Option ℕ
 hexadecimal [] = None
-hexadecimal (c ∷ s) = number_of_digits 16 (2 ^ 31) (c ∷ s)
+hexadecimal (c ∷ s) = number_of_digits 16 number_limit (c ∷ s)
 
 -- `0x`
 abbrev pub is_hexadecimal : ℕ → ℕ → Bool
@@ -36,5 +40,5 @@ is_hexadecimal c d = (c == 48) && ((d == 120) || (d == 88))
 
 -- the number of a token
 abbrev pub token_number : List ℕ → Option ℕ
-token_number (c ∷ d ∷ s) = if is_hexadecimal c d then hexadecimal s else number_of_digits 10 (2 ^ 31) (c ∷ d ∷ s)
-token_number s = number_of_digits 10 (2 ^ 31) s
+token_number (c ∷ d ∷ s) = if is_hexadecimal c d then hexadecimal s else number_of_digits 10 number_limit (c ∷ d ∷ s)
+token_number s = number_of_digits 10 number_limit s

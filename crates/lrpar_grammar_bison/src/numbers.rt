@@ -3,7 +3,7 @@ ghost use Rattle.std.specs.Prelude.{◌≡◌, ◌≤◌, ◌<◌, ◌^◌, IfSo
 ghost use Rattle.lrpar_grammar_bison.specs.Numbers.{digit_value, hexadecimal, number_of_digits, token_number};
 
 // The numbers of tokens are below this.
-const LIMIT: u64 = 1 << 31;
+const LIMIT: u64 = (1 << 31) - 1;
 
 /// The number of a token: `None` if that is no number, or is larger than bison takes.
 pub fn token_number(text: &[u8]) -> Option<u64>

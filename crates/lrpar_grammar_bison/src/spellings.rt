@@ -99,8 +99,8 @@ fn plain_name<'a>(word: Word<'a>) -> &'a str
     }
 }
 
-// The character that the word is, if it is a literal of one.
-fn character_in(word: Word) -> Option<u8>
+/// The character that the word is, if it is a literal of one.
+pub fn character_in(word: Word) -> Option<u8>
     ensures { result ≡ character_in (placed word.entry) }
 {
     match word.kind {

@@ -4,3 +4,4 @@ pub mod NameLemmas
 pub mod OutlineLemmas
 pub mod PrecedenceLemmas
 pub mod UnquotedLemmas
+pub mod NumberLemmas

@@ -1,5 +1,5 @@
 -- The token of the end of the text. Each grammar has one already, so rules can't have it.
-use Rattle.std.specs.Prelude.{◌≡◌, ◌==◌, ◌&&◌, ◌∷◌, [], not, Bool, ℕ, List, Option, None, Some, bytes_eq, codes, filter, map, option_map}
+use Rattle.std.specs.Prelude.{◌≡◌, ◌==◌, ◌&&◌, ◌∷◌, [], not, Bool, ℕ, List, Option, None, bytes_eq, codes, filter, map, option_map}
 use Rattle.std.specs.BTreeMap.{BTreeMap}
 use Rattle.std.specs.Borrow.{Bor}
 use Rattle.std.specs.List.{find}

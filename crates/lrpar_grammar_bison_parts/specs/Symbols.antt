@@ -1,11 +1,8 @@
 -- Words of a `.y` file as words of a grammar text.
-use Rattle.std.specs.Prelude.{◌≡◌, ℕ, List, Option, option_map, bytes_eq, map}
-use Rattle.std.specs.BTreeMap.{BTreeMap, get_by}
+use Rattle.std.specs.Prelude.{◌≡◌, ℕ, List, map}
+use Rattle.std.specs.BTreeMap.{BTreeMap}
 use Rattle.std.specs.Borrow.{Bor}
-use Rattle.std.specs.Cmp.Lexicographic.{slice_cmp}
-use Rattle.std.specs.List.{find}
 use Rattle.std.specs.Option.{option_map_or}
-use Rattle.std.specs.Ordering.{nat_cmp}
 use Rattle.lrpar_grammar_words.specs.declared.words.Word.{Word as TextWord}
 use Rattle.lrpar_grammar_words.specs.declared.words.WordKind.{WordKind as TextKind}
 use Rattle.lrpar_grammar_words.specs.declared.words.WordKind.TheVariants.{Name, Quoted}

@@ -19,6 +19,10 @@ pub enum BisonFault {
     RepeatedEmpty(Span),
     /// A `%empty` in an alternative that has symbols, or actions in the place of some.
     NotEmpty(Span),
+    /// A number that no token can have.
+    BadNumber(Span),
+    /// A number of a token that has another one.
+    RepeatedNumber(Span),
     /// The token of the end of the text in a rule, or as a rule.
     EndInRule(Span),
     /// A token whose precedence is declared a second time.

@@ -8,6 +8,7 @@ ghost use Rattle.lrpar_grammar_bison_parts.specs.Outline.{midrules_of};
 use crate::ends::end_in_rules;
 use crate::faults::BisonFault;
 use crate::midrules::{action_count, is_symbol, midrule_actions, midrule_names, midrule_words};
+use crate::numbers::check_numbers;
 use crate::outline::outline_of_file;
 use crate::precedences::{
     TokenRanks, is_prec, prec_words, prod_slots, rank_list, rank_map, token_slots,
@@ -43,8 +44,8 @@ impl<StorageT: StorageIndex> BisonGrammar<StorageT> {
     /// The grammar of a file.
     ///
     /// Fails with `Rules` if its declarations and rules can't be read; else with the first of these that holds: `RepeatedPrec`,
-    /// `RepeatedEmpty`, `NotEmpty`, `EndInRule`, `RepeatedPrecedence`, each at its first place, and then the faults of a grammar text, as
-    /// `Grammar`; or with `Memory`. Takes memory linear in the text, and time linear in it but for names: each is looked up in logarithmic time.
+    /// `RepeatedEmpty`, `NotEmpty`, `BadNumber` or `RepeatedNumber`, `EndInRule`, `RepeatedPrecedence`, each at its first place, and then the
+    /// faults of a grammar text, as `Grammar`; or with `Memory`. Takes memory linear in the text, and time linear in it but for names: each is looked up in logarithmic time.
     pub fn read(alloc: Global, text: &str) -> Result<Self, BisonFault>
         ensures grammar { IfOk result (IsGrammarOfFile StorageT.index StorageT.limit text.now) }
         ensures fault { IfErr result (IsFileFault StorageT.limit text.now) }
@@ -81,6 +82,7 @@ impl<StorageT: StorageIndex> BisonGrammar<StorageT> {
         ensures grammar { IfOk result (IsGrammarWith StorageT.index StorageT.limit (rules_in rules.now)) }
         ensures fault { IfErr result (IsPartsFault StorageT.limit (rules_in rules.now)) }
     {
+        check_numbers(alloc, rules)?;
         let aliases = alias_map(alloc, &rules.aliases)?;
         if let Some(span) = end_in_rules(rules, &aliases) {
             return Err(BisonFault::EndInRule(span));

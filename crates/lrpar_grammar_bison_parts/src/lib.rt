@@ -5,6 +5,7 @@ pub mod ends;
 pub mod faults;
 pub mod grammar;
 pub mod midrules;
+pub mod numbers;
 pub mod outline;
 pub mod precedences;
 pub mod symbols;

@@ -47,6 +47,15 @@ pub fn bison_report(alloc: Global, text: &str, fault: &BisonFault) -> Result<Rep
                 label,
             )
         }
+        BisonFault::BadNumber(span) => {
+            let label = "expected a decimal number, or 0x and digits, below 2147483647";
+            about_word(alloc, text, *span, "", " is no number of a token", label)
+        }
+        BisonFault::RepeatedNumber(span) => {
+            let label = "leave it out; a literal has the number of its character";
+            let what = " is another number of its token";
+            about_word(alloc, text, *span, "", what, label)
+        }
         BisonFault::EndInRule(span) => {
             let label = "each text ends by itself after its start rule; leave it out";
             let what = " is the end of the text, which no rule can have";
