@@ -62,10 +62,10 @@ fn push_token<'a>(
     declared: &mut Declared<'a>,
     word: Word<'a>,
 ) -> Result<(), AllocError> {
-    if let Some(first) = declared.tokens.get(word.name) {
+    if let Some(first) = place_of(&declared.tokens, word.name) {
         let what = " is declared again";
         let report = again(alloc, "token ", word.name, what, word.span())?;
-        reports.push(report.label(*first, "it is declared here")?)?;
+        reports.push(report.label(first, "it is declared here")?)?;
     } else {
         declared.tokens.insert(word.name, word.span())?;
     }
@@ -80,13 +80,13 @@ fn push_text<'a>(
     token: &'a str,
     text: Word<'a>,
 ) -> Result<(), AllocError> {
-    if let Some(first) = declared.texts.get(text.name) {
+    if let Some(first) = place_of(&declared.texts, text.name) {
         let what = " is that of a token already";
         let report = again(alloc, "text ", text.name, what, text.span())?;
-        reports.push(report.label(*first, "it is declared here")?)?;
-    } else if let Some(first) = declared.named.get(token) {
+        reports.push(report.label(first, "it is declared here")?)?;
+    } else if let Some(first) = place_of(&declared.named, token) {
         let report = again(alloc, "token ", token, " has a text already", text.span())?;
-        reports.push(report.label(*first, "this is its text")?)?;
+        reports.push(report.label(first, "this is its text")?)?;
     } else if token == "error" || token == "YYUNDEF" {
         reports.push(again(alloc, "token ", token, " has a text already", text.span())?)?;
     } else {
@@ -94,6 +94,14 @@ fn push_text<'a>(
         declared.named.insert(token, text.span())?;
     }
     Ok(())
+}
+
+// The place that the map has for the name, if it has one.
+fn place_of(places: &BTreeMap<&str, Span>, name: &str) -> Option<Span> {
+    match places.get(name) {
+        Some(place) => Some(*place),
+        None => None,
+    }
 }
 
 // A warning about something that is declared again.
