@@ -1,5 +1,5 @@
 -- A piece of a text is no longer than the text.
-use Rattle.std.proofs.Common.{◌≡◌, ◌≤◌, ◌+◌, ◌-◌, ◌==◌, ◌&&◌, ◌||◌, not, ℕ, Bool, true, false, cond, zero, suc, List, [], ◌∷◌, length, length-append, drop, get_or, nat_eq, nat_lt, codes, Option, Some, None, option_map, option_and_then, ap, arith}
+use Rattle.std.proofs.Common.{◌≡◌, ◌≤◌, ◌+◌, ◌-◌, ◌==◌, ◌&&◌, ◌||◌, not, ℕ, Bool, true, false, cond, zero, suc, List, [], ◌∷◌, length, length-append, length-drop, drop, get_or, nat_eq, nat_lt, codes, Option, Some, None, option_map, option_and_then, ap, arith}
 use Rattle.std.specs.List.{starts_with, prefix_len, position_or_len}
 use Rattle.std.specs.Option.{IfSome, option_or}
 use Rattle.std.proofs.lemmas.Bool.{and_parts, cond_both, eqb-true, ltb-true}
@@ -10,8 +10,8 @@ use Rattle.lrpar_grammar_code.specs.declared.code.Run.{Run}
 use Rattle.lrpar_grammar_code.specs.declared.code.Run.TheVariants.{BracedC, PrologueC}
 use Rattle.lrpar_grammar_code.specs.Code.{c_comment_len, c_len, depth_after, end_len, end_of, is_end, is_unescaped, literal_len, more, piece_len, run_len}
 use Rattle.lrpar_grammar_bison.specs.declared.words.Piece.{Piece}
-use Rattle.lrpar_grammar_bison.specs.declared.words.WordKind.TheVariants.{Directive, Character, Text, Translated, Number, Tag, Code, Prologue, Label, Colon, Bar, Semicolon, Equals, Sections}
-use Rattle.lrpar_grammar_bison.specs.Words.{blank_piece, comment_after, ends_tag, is_blank, is_in_name, label_after, letters_after, name_after, name_piece, percent_after, piece_at, piece_from, sign_after, tag_depth, tag_len, translated_len, word_piece}
+use Rattle.lrpar_grammar_bison.specs.declared.words.WordKind.TheVariants.{Directive, Character, Text, Translated, Number, Tag, Code, Prologue, Predicate, Label, Colon, Bar, Semicolon, Equals, Sections}
+use Rattle.lrpar_grammar_bison.specs.Words.{blank_piece, comment_after, ends_tag, is_blank, is_in_name, is_space, label_after, letters_after, name_after, name_piece, percent_after, piece_at, piece_from, predicate_after, sign_after, tag_depth, tag_len, translated_len, word_piece}
 
 -- n more bytes, if there are any
 more_within : (n most limit : ℕ) (found : Option ℕ) → n + most ≤ limit → IfSome found (λ m. m ≤ most) → IfSome (more n found) (λ m. m ≤ limit)
@@ -131,6 +131,18 @@ comment_few : (s : List ℕ) → IsFew (suc (length s)) (comment_after s)
 unfolding comment_after
 comment_few s = comment_made (length s) (suc (length s)) (c_comment_len s) (omega arith) (c_comment_within s)
 
+-- a predicate
+predicate_few : (s : List ℕ) → IsFew (suc (suc (length s))) (predicate_after s)
+unfolding predicate_after
+predicate_few s =
+    let n = prefix_len is_space s in
+    let code = drop (n + 1) s in
+    cond_both (is_byte_at s n 123) (option_map (λ k. word_piece Predicate (n + k + 4)) (run_len BracedC 0 0 code)) None (IsFew (suc (suc (length s))))
+    (λ is. let end : suc n ≤ length s = byte_within s n 123 is in
+    made_few (λ k. word_piece Predicate (n + k + 4)) (suc (suc (length s))) (λ k. k + 1 ≤ length code) (run_len BracedC 0 0 code)
+    (λ k few. omega (arith, few, end, length-drop (n + 1) s)) (run_within BracedC (c_within false) 0 0 code))
+    (λ _. tt)
+
 -- what begins with a `%`
 percent_few : (s : List ℕ) → IsFew (suc (length s)) (percent_after s)
 unfolding percent_after
@@ -140,12 +152,14 @@ percent_few (c ∷ s) =
     let n = prefix_len is_in_name s in
     let prologue = option_map (λ n. word_piece Prologue (n + 4)) (run_len PrologueC 0 0 s) in
     let directive = cond (begins_name c) (Some (word_piece Directive (2 + n))) None in
-    cond_both (c == 37) (Some (word_piece Sections 2)) (cond (c == 123) prologue directive) P (λ _. omega arith)
-    (λ _. cond_both (c == 123) prologue directive P
+    let predicate = cond (c == 63) (predicate_after s) directive in
+    cond_both (c == 37) (Some (word_piece Sections 2)) (cond (c == 123) prologue predicate) P (λ _. omega arith)
+    (λ _. cond_both (c == 123) prologue predicate P
     (λ _. made_few (λ n. word_piece Prologue (n + 4)) (suc (suc (length s))) (λ n. n + 2 ≤ length s) (run_len PrologueC 0 0 s) (λ n few. omega arith)
     (run_within PrologueC (c_within true) 0 0 s))
+    (λ _. cond_both (c == 63) (predicate_after s) directive P (λ _. predicate_few s)
     (λ _. cond_both (begins_name c) (Some (word_piece Directive (2 + n))) None P
-    (λ _. let few : n ≤ length s = prefix_len-le-length is_in_name s in omega arith) (λ _. tt)))
+    (λ _. let few : n ≤ length s = prefix_len-le-length is_in_name s in omega arith) (λ _. tt))))
 
 -- a label
 label_few : (s : List ℕ) → IsFew (suc (length s)) (label_after s)

@@ -1,2 +1,4 @@
 pub mod Words
 pub mod WordList
+pub mod Numbers
+pub mod Spellings

@@ -1,5 +1,5 @@
 -- The words of a `.y` file as bison reads it. Bytes are numbers: 10 is LF, 34 `"`, 37 `%`, 39 `'`, 41 `)`, 42 `*`, 44 `,`, 45 `-`, 47 `/`,
--- 58 `:`, 59 `;`, 60 `<`, 61 `=`, 62 `>`, 91 `[`, 93 `]`, 95 `_`, 123 `{`, 124 `|`.
+-- 58 `:`, 59 `;`, 60 `<`, 61 `=`, 62 `>`, 63 `?`, 91 `[`, 93 `]`, 95 `_`, 123 `{`, 124 `|`.
 use Rattle.std.specs.Prelude.{◌<◌, ◌≤◌, ◌+◌, ◌-◌, ◌==◌, ◌&&◌, ◌||◌, not, ℕ, Bool, false, List, [], ◌∷◌, drop, nat_lt, nat_le, nat_eq, codes, slice_index, slice_range, Option, Some, None, option_map, if◌then◌else◌}
 use Rattle.std.specs.List.{prefix_len, position_or_len, starts_with}
 use Rattle.std.specs.Option.{option_and_then, option_or}
@@ -9,14 +9,18 @@ use Rattle.lrpar_grammar_code.specs.Code.{c_comment_len, literal_len, more, run_
 use Rattle.lrpar_grammar_code.specs.declared.code.Run.TheVariants.{BracedC, PrologueC}
 use Rattle.lrpar_grammar_bison.specs.declared.words.Piece.{Piece}
 use Rattle.lrpar_grammar_bison.specs.declared.words.Unread.{Unread}
-use Rattle.lrpar_grammar_bison.specs.declared.words.Unread.TheVariants.{Byte, Comment, Character as CharacterUnread, Text as TextUnread, Code as CodeUnread, Prologue as PrologueUnread, Tag as TagUnread, Label as LabelUnread}
+use Rattle.lrpar_grammar_bison.specs.declared.words.Unread.TheVariants.{Byte, Comment, Character as CharacterUnread, Text as TextUnread, Code as CodeUnread, Prologue as PrologueUnread, Predicate as PredicateUnread, Tag as TagUnread, Label as LabelUnread}
 use Rattle.lrpar_grammar_bison.specs.declared.words.Word.{Word}
 use Rattle.lrpar_grammar_bison.specs.declared.words.WordKind.{WordKind}
-use Rattle.lrpar_grammar_bison.specs.declared.words.WordKind.TheVariants.{Name, Directive, Character, Text, Translated, Number, Tag, Code, Prologue, Label, Colon, Bar, Semicolon, Equals, Sections}
+use Rattle.lrpar_grammar_bison.specs.declared.words.WordKind.TheVariants.{Name, Directive, Character, Text, Translated, Number, Tag, Code, Prologue, Predicate, Label, Colon, Bar, Semicolon, Equals, Sections}
 
 -- a space, a tab, an end of a line or of a page, or a comma
 abbrev pub is_blank : ℕ → Bool
 is_blank c = (nat_le 9 c && nat_le c 13) || (c == 32) || (c == 44)
+
+-- a space, a tab, or an end of a line or of a page
+abbrev pub is_space : ℕ → Bool
+is_space c = (nat_le 9 c && nat_le c 13) || (c == 32)
 
 -- a byte that a name may contain: a letter, a digit, `_`, `.` or `-`
 abbrev pub is_in_name : ℕ → Bool
@@ -52,13 +56,20 @@ abbrev pub tag_len : ℕ → Bool → List ℕ → Option ℕ
 tag_len depth dashed [] = None
 tag_len depth dashed (c ∷ s) = if ends_tag depth dashed c then Some 1 else more 1 (tag_len (tag_depth depth dashed c) (c == 45) s)
 
--- after a `%`: a second one, a prologue, or the name of a directive
+-- after a `%?`: code in braces, perhaps after blanks
+unfoldable pub predicate_after : List ℕ → Option Piece
+predicate_after s =
+    let n = prefix_len is_space s in
+    if is_byte_at s n 123 then option_map (λ k. word_piece Predicate (n + k + 4)) (run_len BracedC 0 0 (drop (n + 1) s)) else None
+
+-- after a `%`: a second one, a prologue, a predicate, or the name of a directive
 unfoldable pub percent_after : List ℕ → Option Piece
 percent_after [] = None
 percent_after (c ∷ s) =
     if c == 37 then Some (word_piece Sections 2)
     else (if c == 123 then option_map (λ n. word_piece Prologue (n + 4)) (run_len PrologueC 0 0 s)
-    else (if begins_name c then Some (word_piece Directive (2 + prefix_len is_in_name s)) else None))
+    else (if c == 63 then predicate_after s
+    else (if begins_name c then Some (word_piece Directive (2 + prefix_len is_in_name s)) else None)))
 
 -- after a `[`: a name that ends at a `]` of the same line
 unfoldable pub label_after : List ℕ → Option Piece
@@ -119,8 +130,9 @@ unread_from c s =
     else (if c == 34 then TextUnread
     else (if c == 123 then CodeUnread
     else (if (c == 37) && starts_with nat_eq s (codes "{") then PrologueUnread
+    else (if (c == 37) && starts_with nat_eq s (codes "?") then PredicateUnread
     else (if c == 60 then TagUnread
-    else (if c == 91 then LabelUnread else Byte))))))
+    else (if c == 91 then LabelUnread else Byte)))))))
 
 -- what begins at the start of s, if that is no piece
 abbrev pub unread_at : List ℕ → Unread
@@ -134,6 +146,7 @@ front_len Translated = 2
 front_len Tag = 1
 front_len Code = 1
 front_len Prologue = 2
+front_len Predicate = 2
 front_len Label = 1
 front_len _ = 0
 

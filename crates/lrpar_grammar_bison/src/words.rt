@@ -1,7 +1,7 @@
 //! The words of a `.y` file as bison reads it, with their places.
 ghost use Rattle.std.specs.Prelude.{false, ◌≡◌, ◌+◌, ◌-◌, ◌<◌, ◌≤◌, ◌==◌, ◌||◌, ◌^◌, ℕ, ◌∷◌, drop, length, IfSome, IsNone, IsTrue, slice_index};
 ghost use Rattle.std.specs.List.{position_or_len, prefix_len};
-ghost use Rattle.lrpar_grammar_bison.specs.Words.{IsWithin, IsWordPiece, back_len, blank_piece, closes_tag, comment_after, ends_tag, front_len, is_in_name, label_after, letters_after, marks_of, name_after, name_piece, percent_after, piece_at, piece_from, placed, sign_after, tag_depth, tag_len, translated_len, unread_at, unread_from, word_at, word_piece};
+ghost use Rattle.lrpar_grammar_bison.specs.Words.{IsWithin, IsWordPiece, back_len, blank_piece, closes_tag, comment_after, ends_tag, front_len, is_in_name, is_space, label_after, letters_after, marks_of, name_after, name_piece, percent_after, piece_at, piece_from, placed, predicate_after, sign_after, tag_depth, tag_len, translated_len, unread_at, unread_from, word_at, word_piece};
 
 use lrpar_grammar_code::code::{Run, c_comment_len, literal_len, run_len};
 use lrpar_grammar_places::span::Span;
@@ -28,6 +28,8 @@ pub enum WordKind {
     Code,
     /// C code between `%{` and `%}`.
     Prologue,
+    /// `%?` and C code in braces.
+    Predicate,
     /// A name between `[` and `]`.
     Label,
     /// `:`
@@ -47,7 +49,8 @@ pub enum WordKind {
 pub struct Word<'a> {
     /// Its kind.
     pub kind: WordKind,
-    /// Its text, without the signs around it: brackets, or the `%` of a directive. A literal keeps its quotes: `'a'` isn't `a`.
+    /// Its text, without the signs around it: brackets, or the `%` of a directive. A literal keeps its quotes: `'a'` isn't `a`. A predicate
+    /// keeps its braces.
     pub name: &'a str,
     /// Its length in bytes, with these signs.
     pub len: usize,
@@ -86,6 +89,8 @@ pub enum Unread {
     Code,
     /// A prologue without its `%}`, or with a literal or a comment that isn't closed.
     Prologue,
+    /// A `%?` without code in braces after it, or with a literal or a comment in it that isn't closed.
+    Predicate,
     /// A tag without its `>`.
     Tag,
     /// A `[` without a `]` on the same line.
@@ -132,7 +137,7 @@ impl WordKind {
     {
         match self {
             WordKind::Directive | WordKind::Tag | WordKind::Code | WordKind::Label => 1,
-            WordKind::Prologue | WordKind::Translated => 2,
+            WordKind::Prologue | WordKind::Predicate | WordKind::Translated => 2,
             _ => 0,
         }
     }
@@ -201,6 +206,7 @@ fn unread_from(first: u8, after: &[u8]) -> Unread
         b'"' => Unread::Text,
         b'{' => Unread::Code,
         b'%' if after.starts_with(b"{") => Unread::Prologue,
+        b'%' if after.starts_with(b"?") => Unread::Predicate,
         b'<' => Unread::Tag,
         b'[' => Unread::Label,
         _ => Unread::Byte,
@@ -302,12 +308,49 @@ fn percent_after(after: &[u8]) -> Option<Piece>
             WordKind::Prologue,
             run_len(Run::PrologueC, code)? + 4,
         )),
+        [b'?', code @ ..] => predicate_after(code),
         [first, name @ ..] if words::begins_name(*first) => Some(Piece::word(
             WordKind::Directive,
             2 + name_len(name),
         )),
         _ => None,
     }
+}
+
+// The predicate with its `%?` before `after`.
+#[tactic(auto, unfolding(crate::specs::Words::predicate_after))]
+fn predicate_after(after: &[u8]) -> Option<Piece>
+    ensures piece { result ≡ predicate_after after.now }
+    ensures within { IfSome result (λ piece. IsWithin piece (length after.now + 2)) }
+    ensures ascii { IfSome result (λ piece. IfSome piece.word (IsWordPiece (37 ∷ 63 ∷ after.now) piece.len)) }
+{
+    let blanks = space_len(after);
+    if blanks < after.len() && after[blanks] == b'{' {
+        let code = run_len(Run::BracedC, &after[blanks + 1..])?;
+        Some(Piece::word(WordKind::Predicate, blanks + code + 4))
+    } else {
+        None
+    }
+}
+
+// The number of bytes of blanks at the start of the text.
+fn space_len(text: &[u8]) -> usize
+    ensures len { result ≡ prefix_len is_space text.now }
+    ensures within { result ≤ length text.now }
+{
+    for (i, byte) in text.iter().enumerate() {
+        if !is_space(*byte) {
+            return i;
+        }
+    }
+    text.len()
+}
+
+// Whether the byte is a space, a tab, or an end of a line or of a page.
+fn is_space(byte: u8) -> bool
+    ensures { result ≡ is_space byte }
+{
+    matches!(byte, b'\t'..=b'\r' | b' ')
 }
 
 // The label with its `[` before `after`.

@@ -3,5 +3,5 @@ pub mod MidruleLemmas
 pub mod NameLemmas
 pub mod OutlineLemmas
 pub mod PrecedenceLemmas
-pub mod SymbolLemmas
 pub mod UnquotedLemmas
+pub mod NumberLemmas

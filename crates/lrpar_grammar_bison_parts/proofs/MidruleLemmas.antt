@@ -13,7 +13,8 @@ use Rattle.lrpar_grammar_bison.specs.Words.{PlacedWord, placed}
 use Rattle.lrpar_grammar_bison_rules.specs.declared.rules.Item.{Item}
 use Rattle.lrpar_grammar_bison_rules.specs.declared.word_order.ItemKind.{ItemKind}
 use Rattle.lrpar_grammar_bison_rules.specs.declared.word_order.ItemKind.TheVariants.{Symbol, Action, Prec, Empty}
-use Rattle.lrpar_grammar_bison_rules.specs.Rules.{FileAlias, FileItem, item_of}
+use Rattle.lrpar_grammar_bison_rules.specs.Aliases.{FileAlias}
+use Rattle.lrpar_grammar_bison_rules.specs.Rules.{FileItem, item_of}
 use Rattle.lrpar_grammar_bison_parts.specs.Midrules.{action_at, action_word, ends_action, filled, is_action, is_symbol, symbol_at, symbols_after}
 use Rattle.lrpar_grammar_bison_parts.specs.Symbols.{symbol_word}
 

@@ -16,7 +16,8 @@ use Rattle.lrpar_grammar_bison_rules.specs.declared.rules.Alternative.{Alternati
 use Rattle.lrpar_grammar_bison_rules.specs.declared.rules.RankedWord.{RankedWord}
 use Rattle.lrpar_grammar_bison_rules.specs.declared.word_order.ItemKind.{ItemKind}
 use Rattle.lrpar_grammar_bison_rules.specs.declared.word_order.ItemKind.TheVariants.{Symbol, Action, Prec, Empty}
-use Rattle.lrpar_grammar_bison_rules.specs.Rules.{AreOfDefinedRules, HaveOrderedItems, FileAlias, FileAlternative, FileItem, FileRank, Rules, alternative_of, rank_of}
+use Rattle.lrpar_grammar_bison_rules.specs.Aliases.{FileAlias}
+use Rattle.lrpar_grammar_bison_rules.specs.Rules.{AreOfDefinedRules, HaveOrderedItems, FileAlternative, FileItem, FileRank, Rules, alternative_of, rank_of}
 use Rattle.lrpar_grammar_bison_parts.specs.Midrules.{action_at, actions_in, actions_of, ends_action, filled, midrule_name, midrules_from, symbol_at, symbols_after, symbols_in}
 use Rattle.lrpar_grammar_bison_parts.specs.Outline.{file_outline, midrule_alternative, midrules_of, text_alternative, text_alternatives}
 use Rattle.lrpar_grammar_bison_parts.specs.Symbols.{symbol_word, text_word}

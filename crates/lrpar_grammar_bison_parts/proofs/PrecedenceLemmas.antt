@@ -13,7 +13,7 @@ use Rattle.lrpar_grammar_words.specs.Words.{PlacedWord as PlacedTextWord}
 use Rattle.lrpar_table_precedence.specs.declared.precedence.Precedence.{Precedence}
 use Rattle.lrpar_grammar_bison_parts.specs.declared.precedences.Rank.{Rank}
 use Rattle.lrpar_grammar_bison_parts.specs.Precedences.{MapsRanks, NamedRank, Ranking, has_rank, named_rank_of, prod_slot, prod_slots, rank_with, repeated_after}
-use Rattle.lrpar_grammar_bison_parts.proofs.SymbolLemmas.{first_more, put}
+use Rattle.lrpar_grammar_bison_rules.proofs.AliasLemmas.{first_more, put}
 
 -- whether there is a first one, and whether there is any
 any_first : {X Y : Type 0} (f : X → Y) (p : X → Bool) (xs : List X) → is_some (option_map f (find p xs)) ≡ list_any p xs

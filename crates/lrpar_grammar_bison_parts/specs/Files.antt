@@ -14,9 +14,11 @@ use Rattle.lrpar_grammar_bison_rules.specs.declared.word_order.ItemKind.{ItemKin
 use Rattle.lrpar_grammar_bison_rules.specs.declared.word_order.ItemKind.TheVariants.{Empty}
 use Rattle.lrpar_grammar_bison_rules.specs.Rules.{AreRulesOfText, IsRulesFault, FileAlternative, FileItem, Rules}
 use Rattle.lrpar_grammar_bison_parts.specs.declared.faults.BisonFault.{BisonFault}
-use Rattle.lrpar_grammar_bison_parts.specs.declared.faults.BisonFault.TheVariants.{Grammar, Memory, NotEmpty, RepeatedPrec, RepeatedPrecedence, Rules as RulesVariant}
+use Rattle.lrpar_grammar_bison_parts.specs.declared.faults.BisonFault.TheVariants.{BadNumber, EndInRule, Grammar, Memory, NotEmpty, RepeatedEmpty, RepeatedNumber, RepeatedPrec, RepeatedPrecedence, Rules as RulesVariant}
 use Rattle.lrpar_grammar_bison_parts.specs.declared.grammar.BisonGrammar.{BisonGrammar}
+use Rattle.lrpar_grammar_bison_parts.specs.Ends.{end_in_rules}
 use Rattle.lrpar_grammar_bison_parts.specs.Midrules.{actions_in, is_symbol}
+use Rattle.lrpar_grammar_bison_parts.specs.Numbers.{number_fault}
 use Rattle.lrpar_grammar_bison_parts.specs.Outline.{file_outline}
 use Rattle.lrpar_grammar_bison_parts.specs.Precedences.{NamedRank, is_prec, named_ranks, prec_words, prod_slots, repeated_rank, token_slots}
 use Rattle.lrpar_grammar_bison_parts.specs.Unquoted.{unquoted_token}
@@ -42,14 +44,14 @@ file_precedences r =
       prods = prod_slots (record { ranks = file_ranks r; slots = slots; is_default = r.has_default_prec }) (prec_words r.aliases r.alternatives) (quoted_parts r).prods;
     }
 
--- the second `%prec` among parts, if one is before them or not
-abbrev pub second_after : Bool → List FileItem → Option Extent
-second_after has [] = None
-second_after has (x ∷ xs) = if is_prec x.kind then (if has then Some x.word.span else second_after true xs) else second_after has xs
+-- the second part of some kind, if one is before these or not
+abbrev pub second_after : (ItemKind → Bool) → Bool → List FileItem → Option Extent
+second_after is has [] = None
+second_after is has (x ∷ xs) = if is x.kind then (if has then Some x.word.span else second_after is true xs) else second_after is has xs
 
 -- the second `%prec` among the parts of an alternative
 abbrev pub second_prec : List FileItem → Option Extent
-second_prec items = second_after false items
+second_prec items = second_after is_prec false items
 
 -- the first `%prec` in an alternative that has one before
 abbrev pub repeated_prec : List FileAlternative → Option Extent
@@ -60,6 +62,15 @@ repeated_prec (x ∷ xs) = option_or (second_prec x.items) (repeated_prec xs)
 abbrev pub is_empty_sign : ItemKind → Bool
 is_empty_sign Empty = true
 is_empty_sign _ = false
+
+-- the second `%empty` among the parts of an alternative
+abbrev pub second_empty : List FileItem → Option Extent
+second_empty items = second_after is_empty_sign false items
+
+-- the first `%empty` in an alternative that has one before
+abbrev pub repeated_empty : List FileAlternative → Option Extent
+repeated_empty [] = None
+repeated_empty (x ∷ xs) = option_or (second_empty x.items) (repeated_empty xs)
 
 -- a symbol is among the parts
 abbrev pub has_symbol : List FileItem → Bool
@@ -78,15 +89,19 @@ abbrev pub false_empty : List FileAlternative → Option Extent
 false_empty [] = None
 false_empty (x ∷ xs) = option_or (if is_filled x.items then empty_in x.items else None) (false_empty xs)
 
--- no alternative has a second `%prec`, or a `%empty` beside symbols
+-- no alternative has a second `%prec` or `%empty`, or a `%empty` beside symbols
 pub record HasSoundAlternatives (alternatives : List FileAlternative) : Type 0 where
   pub precs : repeated_prec alternatives ≡ None
+  pub repeated : repeated_empty alternatives ≡ None
   pub empties : false_empty alternatives ≡ None
 
--- a second `%prec` is at this place; or there is none, and a `%empty` beside symbols is at this place
+-- a second `%prec` is at this place; or there is none, and a second `%empty` is at this place; or there is none either, and a `%empty`
+-- beside symbols is at this place
 abbrev pub HasAlternativeFault : List FileAlternative → BisonFault → Type 0
 HasAlternativeFault alternatives (RepeatedPrec span) = repeated_prec alternatives ≡ Some span
-HasAlternativeFault alternatives (NotEmpty span) = (repeated_prec alternatives ≡ None) × (false_empty alternatives ≡ Some span)
+HasAlternativeFault alternatives (RepeatedEmpty span) = (repeated_prec alternatives ≡ None) × (repeated_empty alternatives ≡ Some span)
+HasAlternativeFault alternatives (NotEmpty span) =
+    (repeated_prec alternatives ≡ None) × (repeated_empty alternatives ≡ None) × (false_empty alternatives ≡ Some span)
 HasAlternativeFault alternatives _ = ⊥
 
 -- this is the fault of the alternatives, if they have one
@@ -95,17 +110,27 @@ IsAlternativeFault alternatives found = MatchOption found (HasSoundAlternatives 
 
 -- these are the parts of the grammar of a file and the precedences that it declares, if its alternatives are sound
 pub record IsGrammarWith {S : Type 0} (index : S → ℕ) (limit : ℕ) (r : Rules) (g : BisonGrammar S) : Type 0 where
+  pub numbers : number_fault r.numbers ≡ None
+  pub no_end : end_in_rules r ≡ None
   pub ranked_once : repeated_rank (file_ranks r) ≡ None
   pub clean : IsClean (file_outline r)
   pub parts : parts_of index g.parts ≡ unquoted_parts (quoted_parts r)
   pub sound : AreSound limit (parts_of index g.parts)
   pub precedences : g.precedences ≡ file_precedences r
 
--- a token that has a second precedence; or none has, and the declarations and rules have this fault
+-- the numbers of tokens have no fault, no rule is or has the token of the end, and no token has a second precedence
+abbrev pub HasSoundTokens : Rules → Type 0
+HasSoundTokens r = (number_fault r.numbers ≡ None) × (end_in_rules r ≡ None) × (repeated_rank (file_ranks r) ≡ None)
+
+-- a fault of the numbers of tokens; or there is none, but a rule is or has the token of the end; or there is none, and a token has a second precedence; or none has, and the
+-- declarations and rules have this fault
 abbrev pub IsPartsFault : ℕ → Rules → BisonFault → Type 0
-IsPartsFault limit r (RepeatedPrecedence span) = repeated_rank (file_ranks r) ≡ Some span
+IsPartsFault limit r (BadNumber span) = number_fault r.numbers ≡ Some (BadNumber span)
+IsPartsFault limit r (RepeatedNumber span) = number_fault r.numbers ≡ Some (RepeatedNumber span)
+IsPartsFault limit r (EndInRule span) = (number_fault r.numbers ≡ None) × (end_in_rules r ≡ Some span)
+IsPartsFault limit r (RepeatedPrecedence span) = (number_fault r.numbers ≡ None) × (end_in_rules r ≡ None) × (repeated_rank (file_ranks r) ≡ Some span)
 IsPartsFault limit r (Grammar GrammarMemory) = ⊥
-IsPartsFault limit r (Grammar fault) = (repeated_rank (file_ranks r) ≡ None) × IsRefusedAs limit (file_outline r) fault
+IsPartsFault limit r (Grammar fault) = HasSoundTokens r × IsRefusedAs limit (file_outline r) fault
 IsPartsFault limit r Memory = Unit {0}
 IsPartsFault limit r _ = ⊥
 
@@ -117,6 +142,7 @@ pub record IsGrammarOfRules {S : Type 0} (index : S → ℕ) (limit : ℕ) (r : 
 -- why declarations and rules make no grammar: the first of these faults
 abbrev pub IsBisonFault : ℕ → Rules → BisonFault → Type 0
 IsBisonFault limit r (RepeatedPrec span) = HasAlternativeFault r.alternatives (RepeatedPrec span)
+IsBisonFault limit r (RepeatedEmpty span) = HasAlternativeFault r.alternatives (RepeatedEmpty span)
 IsBisonFault limit r (NotEmpty span) = HasAlternativeFault r.alternatives (NotEmpty span)
 IsBisonFault limit r Memory = Unit {0}
 IsBisonFault limit r fault = HasSoundAlternatives r.alternatives × IsPartsFault limit r fault

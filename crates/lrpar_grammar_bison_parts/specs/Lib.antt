@@ -1,5 +1,7 @@
 pub mod Symbols
 pub mod Midrules
+pub mod Ends
+pub mod Numbers
 pub mod Outline
 pub mod Precedences
 pub mod Unquoted

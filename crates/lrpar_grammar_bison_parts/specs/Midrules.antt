@@ -13,8 +13,9 @@ use Rattle.lrpar_grammar_bison.specs.Words.{PlacedWord}
 use Rattle.lrpar_grammar_bison_rules.specs.declared.rules.Item.{Item}
 use Rattle.lrpar_grammar_bison_rules.specs.declared.word_order.ItemKind.{ItemKind}
 use Rattle.lrpar_grammar_bison_rules.specs.declared.word_order.ItemKind.TheVariants.{Symbol, Action}
-use Rattle.lrpar_grammar_bison_rules.specs.Rules.{FileAlias, FileAlternative, FileItem, item_of}
-use Rattle.lrpar_grammar_bison_parts.specs.Symbols.{MapsAliases, symbol_word}
+use Rattle.lrpar_grammar_bison_rules.specs.Aliases.{FileAlias, MapsAliases}
+use Rattle.lrpar_grammar_bison_rules.specs.Rules.{FileAlternative, FileItem, item_of}
+use Rattle.lrpar_grammar_bison_parts.specs.Symbols.{symbol_word}
 
 -- a symbol
 abbrev pub is_symbol : ItemKind → Bool

@@ -1,5 +1,5 @@
 -- The outline of a `.y` file: its declarations and rules as those of a grammar text.
-use Rattle.std.specs.Prelude.{◌≡◌, ◌++◌, ◌∷◌, [], Bool, true, false, ℕ, List, bytes_eq, codes, drop, filter, length, map, take, Vec}
+use Rattle.std.specs.Prelude.{◌≡◌, ◌++◌, ◌∷◌, [], Bool, true, false, ℕ, List, drop, filter, length, map, take, Vec}
 use Rattle.std.specs.BTreeMap.{BTreeMap}
 use Rattle.std.specs.Borrow.{Bor}
 use Rattle.std.specs.List.{flat_map}
@@ -11,18 +11,16 @@ use Rattle.lrpar_grammar_words.specs.Words.{PlacedWord as PlacedTextWord, placed
 use Rattle.lrpar_grammar_reader.specs.Names.{first_of_each}
 use Rattle.lrpar_grammar_bison.specs.declared.words.Word.{Word}
 use Rattle.lrpar_grammar_bison.specs.Words.{PlacedWord, placed}
-use Rattle.lrpar_grammar_bison_rules.specs.declared.rules.Alias.{Alias}
+use Rattle.lrpar_grammar_bison_rules.specs.declared.aliases.Alias.{Alias}
 use Rattle.lrpar_grammar_bison_rules.specs.declared.rules.Alternative.{Alternative}
 use Rattle.lrpar_grammar_bison_rules.specs.declared.rules.FileRules.{FileRules}
 use Rattle.lrpar_grammar_bison_rules.specs.declared.word_order.ItemKind.{ItemKind}
 use Rattle.lrpar_grammar_bison_rules.specs.declared.word_order.ItemKind.TheVariants.{Symbol, Prec}
-use Rattle.lrpar_grammar_bison_rules.specs.Rules.{FileAlias, FileAlternative, FileItem, FileRank, Rules, alias_of, alternative_of, rules_in}
+use Rattle.lrpar_grammar_bison_rules.specs.Aliases.{FileAlias, MapsAliases, alias_of, is_predefined, token_with, turned}
+use Rattle.lrpar_grammar_bison_rules.specs.Rules.{FileAlternative, FileItem, FileRank, Rules, alternative_of, rules_in}
+use Rattle.lrpar_grammar_bison_parts.specs.Ends.{end_name, without_name}
 use Rattle.lrpar_grammar_bison_parts.specs.Midrules.{actions_in, actions_of, filled, midrules_from, symbols_in}
-use Rattle.lrpar_grammar_bison_parts.specs.Symbols.{MapsAliases, symbol_word, text_word, token_with}
-
--- the text in the place of the token, and the token in that of the text
-abbrev pub turned : FileAlias → FileAlias
-turned x = record { token = x.text; text = x.token }
+use Rattle.lrpar_grammar_bison_parts.specs.Symbols.{symbol_word, text_word}
 
 -- the tokens that have a text, each once
 abbrev pub named_tokens : List FileAlias → List PlacedTextWord
@@ -32,10 +30,10 @@ named_tokens aliases = first_of_each (map (λ (x : FileAlias). text_word x.token
 abbrev pub text_of : List FileAlias → PlacedTextWord → PlacedTextWord
 text_of aliases w = option_map_or text_word (token_with (map turned aliases) w.name) w
 
--- a part of that kind with that name declares a token: the symbol of a `%prec`, or `error`
+-- a part of that kind with that name declares a token: the symbol of a `%prec`, or one that needs no declaration
 abbrev pub declares : ItemKind → List ℕ → Bool
 declares Prec name = true
-declares Symbol name = bytes_eq name (codes "error")
+declares Symbol name = is_predefined name
 declares _ name = false
 
 -- the tokens that parts of an alternative declare
@@ -46,11 +44,19 @@ declared_among items = map (λ (i : FileItem). i.word) (filter (λ (i : FileItem
 abbrev pub declared_in : FileAlternative → List PlacedWord
 declared_in x = declared_among x.items
 
--- the tokens of a file: those of `%token`, those with a precedence, those of `%prec`, and `error`
+-- the words that declare tokens: those of `%token`, those with a precedence, those of `%prec`, and those that need no declaration
 abbrev pub declared_words : Rules → List PlacedTextWord
 declared_words r =
     map text_word r.tokens
     ++ (map (symbol_word r.aliases) (map (λ (x : FileRank). x.word) r.ranked) ++ map (symbol_word r.aliases) (flat_map declared_in r.alternatives))
+
+-- the tokens of a file but for that of the end
+abbrev pub token_words : Rules → List PlacedTextWord
+token_words r = without_name (end_name r.numbers) (declared_words r)
+
+-- the tokens that have a text but for that of the end, each once
+abbrev pub epp_tokens : Rules → List PlacedTextWord
+epp_tokens r = without_name (end_name r.numbers) (named_tokens r.aliases)
 
 -- the alternative of a rule for an action
 abbrev pub midrule_alternative : PlacedTextWord → TextAlternative
@@ -76,9 +82,9 @@ text_alternatives aliases midrules (x ∷ xs) =
 abbrev pub outline_by : List PlacedTextWord → Rules → TextOutline
 outline_by midrules r = record {
   starts = map text_word r.starts;
-  declared = declared_words r;
-  epps = named_tokens r.aliases;
-  epp_texts = map (text_of r.aliases) (named_tokens r.aliases);
+  declared = token_words r;
+  epps = epp_tokens r;
+  epp_texts = map (text_of r.aliases) (epp_tokens r);
   defined = map text_word r.defined ++ midrules;
   alternatives = text_alternatives r.aliases midrules r.alternatives;
   symbols = [];
@@ -118,7 +124,15 @@ IsTextOf found token result =
 abbrev pub AreEppTexts : {A : Type 0} → List Alias → List TextWord → Vec TextWord A → Type 0
 AreEppTexts aliases tokens texts = map text_placed texts.items ≡ map (text_of (map alias_of aliases)) (map text_placed tokens)
 
--- these are the tokens of a file
+-- these are the tokens that have a text, each once, but for the one with that name
+abbrev pub AreEppTokens : {A : Type 0} → List Alias → List ℕ → Vec TextWord A → Type 0
+AreEppTokens aliases end words = map text_placed words.items ≡ without_name end (named_tokens (map alias_of aliases))
+
+-- these are the tokens of a file but for the one with that name
+abbrev pub AreTokenWords : {A : Type 0} → FileRules → List ℕ → Vec TextWord A → Type 0
+AreTokenWords rules end words = map text_placed words.items ≡ without_name end (declared_words (rules_in rules))
+
+-- these are the words of a file that declare tokens
 abbrev pub AreDeclaredWords : {A : Type 0} → FileRules → Vec TextWord A → Type 0
 AreDeclaredWords rules words = map text_placed words.items ≡ declared_words (rules_in rules)
 

@@ -23,13 +23,14 @@ use Rattle.lrpar_grammar_bison_rules.specs.declared.rules.Item.{Item}
 use Rattle.lrpar_grammar_bison_rules.specs.declared.rules.RankedWord.{RankedWord}
 use Rattle.lrpar_grammar_bison_rules.specs.declared.word_order.ItemKind.{ItemKind}
 use Rattle.lrpar_grammar_bison_rules.specs.declared.word_order.ItemKind.TheVariants.{Prec}
-use Rattle.lrpar_grammar_bison_rules.specs.Rules.{FileAlias, FileAlternative, FileItem, FileRank, alternative_of, item_of, rank_of}
+use Rattle.lrpar_grammar_bison_rules.specs.Aliases.{FileAlias, MapsAliases}
+use Rattle.lrpar_grammar_bison_rules.specs.Rules.{FileAlternative, FileItem, FileRank, alternative_of, item_of, rank_of}
 use Rattle.lrpar_grammar_bison_parts.specs.declared.faults.BisonFault.{BisonFault}
 use Rattle.lrpar_grammar_bison_parts.specs.declared.faults.BisonFault.TheVariants.{Memory, RepeatedPrecedence}
 use Rattle.lrpar_grammar_bison_parts.specs.declared.precedences.Rank.{Rank}
 use Rattle.lrpar_grammar_bison_parts.specs.declared.precedences.TokenRanks.{TokenRanks}
 use Rattle.lrpar_grammar_bison_parts.specs.Midrules.{actions_in}
-use Rattle.lrpar_grammar_bison_parts.specs.Symbols.{MapsAliases, symbol_word}
+use Rattle.lrpar_grammar_bison_parts.specs.Symbols.{symbol_word}
 
 -- a token with a precedence, as a word of a grammar text
 pub record NamedRank : Type 0 where

@@ -1,11 +1,8 @@
 -- Words of a `.y` file as words of a grammar text.
-use Rattle.std.specs.Prelude.{◌≡◌, ℕ, List, Option, option_map, bytes_eq, map}
-use Rattle.std.specs.BTreeMap.{BTreeMap, get_by}
+use Rattle.std.specs.Prelude.{◌≡◌, ℕ, List, map}
+use Rattle.std.specs.BTreeMap.{BTreeMap}
 use Rattle.std.specs.Borrow.{Bor}
-use Rattle.std.specs.Cmp.Lexicographic.{slice_cmp}
-use Rattle.std.specs.List.{find}
 use Rattle.std.specs.Option.{option_map_or}
-use Rattle.std.specs.Ordering.{nat_cmp}
 use Rattle.lrpar_grammar_words.specs.declared.words.Word.{Word as TextWord}
 use Rattle.lrpar_grammar_words.specs.declared.words.WordKind.{WordKind as TextKind}
 use Rattle.lrpar_grammar_words.specs.declared.words.WordKind.TheVariants.{Name, Quoted}
@@ -14,8 +11,8 @@ use Rattle.lrpar_grammar_bison.specs.declared.words.Word.{Word}
 use Rattle.lrpar_grammar_bison.specs.declared.words.WordKind.{WordKind}
 use Rattle.lrpar_grammar_bison.specs.declared.words.WordKind.TheVariants.{Character, Text}
 use Rattle.lrpar_grammar_bison.specs.Words.{PlacedWord, placed}
-use Rattle.lrpar_grammar_bison_rules.specs.declared.rules.Alias.{Alias}
-use Rattle.lrpar_grammar_bison_rules.specs.Rules.{FileAlias, alias_of}
+use Rattle.lrpar_grammar_bison_rules.specs.declared.aliases.Alias.{Alias}
+use Rattle.lrpar_grammar_bison_rules.specs.Aliases.{FileAlias, MapsAliases, alias_of, token_with}
 
 -- the kind of a word in a grammar text: a literal is quoted
 abbrev pub text_kind : WordKind → TextKind
@@ -27,10 +24,6 @@ text_kind _ = Name
 abbrev pub text_word : PlacedWord → PlacedTextWord
 text_word w = record { kind = text_kind w.kind; name = w.name; span = w.span }
 
--- the token that has this text, if one does: the first of such
-abbrev pub token_with : List FileAlias → List ℕ → Option PlacedWord
-token_with aliases text = option_map (λ (x : FileAlias). x.token) (find (λ (x : FileAlias). bytes_eq x.text.name text) aliases)
-
 -- the token whose text a word is, if there is one; else the word
 abbrev pub target : List FileAlias → PlacedWord → PlacedWord
 target aliases w = option_map_or (λ (token : PlacedWord). token) (token_with aliases w.name) w
@@ -38,10 +31,6 @@ target aliases w = option_map_or (λ (token : PlacedWord). token) (token_with al
 -- a symbol of a rule in a grammar text: the token whose text it is, or itself, at its place
 abbrev pub symbol_word : List FileAlias → PlacedWord → PlacedTextWord
 symbol_word aliases w = record { kind = text_kind (target aliases w).kind; name = (target aliases w).name; span = w.span }
-
--- the map gives for each text the token that has it
-abbrev pub MapsAliases : BTreeMap (Bor (List ℕ)) Word → List FileAlias → Type 0
-MapsAliases found aliases = (q : List ℕ) → option_map placed (get_by (λ k. slice_cmp nat_cmp q k.now) found) ≡ token_with aliases q
 
 -- the map has these texts
 abbrev pub HasAliases : List Alias → BTreeMap (Bor (List ℕ)) Word → Type 0

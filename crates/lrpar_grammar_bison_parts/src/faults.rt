@@ -15,8 +15,16 @@ pub enum BisonFault {
     Rules(RulesFault),
     /// A second `%prec` of one alternative.
     RepeatedPrec(Span),
+    /// A second `%empty` of one alternative.
+    RepeatedEmpty(Span),
     /// A `%empty` in an alternative that has symbols, or actions in the place of some.
     NotEmpty(Span),
+    /// A number that no token can have.
+    BadNumber(Span),
+    /// A number of a token that has another one.
+    RepeatedNumber(Span),
+    /// The token of the end of the text in a rule, or as a rule.
+    EndInRule(Span),
     /// A token whose precedence is declared a second time.
     RepeatedPrecedence(Span),
     /// A fault of the declarations and rules.

@@ -2,11 +2,13 @@
 ghost use Rattle.std.specs.Prelude.{◌≡◌, IfErr, IfOk, map};
 ghost use Rattle.lrpar_grammar_bison_rules.specs.Rules.{AreOfDefinedRules, HaveOrderedItems, alternative_of, item_of, rules_in};
 ghost use Rattle.lrpar_grammar_words.specs.Words.{placed as text_placed};
-ghost use Rattle.lrpar_grammar_bison_parts.specs.Files.{HasUnquotedTokens, IsAlternativeFault, empty_in, false_empty, has_symbol, is_empty_sign, is_filled, repeated_prec, second_prec};
+ghost use Rattle.lrpar_grammar_bison_parts.specs.Files.{HasUnquotedTokens, IsAlternativeFault, empty_in, false_empty, has_symbol, is_empty_sign, is_filled, repeated_empty, repeated_prec, second_empty, second_prec};
 ghost use Rattle.lrpar_grammar_bison_parts.specs.Outline.{midrules_of};
 
+use crate::ends::end_in_rules;
 use crate::faults::BisonFault;
 use crate::midrules::{action_count, is_symbol, midrule_actions, midrule_names, midrule_words};
+use crate::numbers::check_numbers;
 use crate::outline::outline_of_file;
 use crate::precedences::{
     TokenRanks, is_prec, prec_words, prod_slots, rank_list, rank_map, token_slots,
@@ -26,8 +28,8 @@ use std::alloc::{AllocError, Global};
 /// parts, and `TableOptions::precedences` takes the precedences.
 ///
 /// An action that isn't the last of its alternative is a rule without symbols, named `$@1` and so on. A token that is used in the place of
-/// another one's text is that one. Literals are named without their quotes, so two tokens may have one name. `error` is a token if a rule
-/// uses it.
+/// another one's text is that one. Literals are named without their quotes, so two tokens may have one name. `error` and `YYUNDEF` are
+/// tokens if a rule uses them. The token with the number 0, or else `YYEOF`, is the end token, which has no name.
 pub struct BisonGrammar<StorageT: StorageIndex> {
     /// The rules, tokens and productions. Productions are in the order of the file; those of rules for the actions of an alternative
     /// come right before it.
@@ -42,8 +44,8 @@ impl<StorageT: StorageIndex> BisonGrammar<StorageT> {
     /// The grammar of a file.
     ///
     /// Fails with `Rules` if its declarations and rules can't be read; else with the first of these that holds: `RepeatedPrec`,
-    /// `NotEmpty`, `RepeatedPrecedence`, each at its first place, and then the faults of a grammar text, as `Grammar`; or with
-    /// `Memory`. Takes memory linear in the text, and time linear in it but for names: each is looked up in logarithmic time.
+    /// `RepeatedEmpty`, `NotEmpty`, `BadNumber` or `RepeatedNumber`, `EndInRule`, `RepeatedPrecedence`, each at its first place, and then the
+    /// faults of a grammar text, as `Grammar`; or with `Memory`. Takes memory linear in the text, and time linear in it but for names: each is looked up in logarithmic time.
     pub fn read(alloc: Global, text: &str) -> Result<Self, BisonFault>
         ensures grammar { IfOk result (IsGrammarOfFile StorageT.index StorageT.limit text.now) }
         ensures fault { IfErr result (IsFileFault StorageT.limit text.now) }
@@ -80,7 +82,11 @@ impl<StorageT: StorageIndex> BisonGrammar<StorageT> {
         ensures grammar { IfOk result (IsGrammarWith StorageT.index StorageT.limit (rules_in rules.now)) }
         ensures fault { IfErr result (IsPartsFault StorageT.limit (rules_in rules.now)) }
     {
+        check_numbers(alloc, rules)?;
         let aliases = alias_map(alloc, &rules.aliases)?;
+        if let Some(span) = end_in_rules(rules, &aliases) {
+            return Err(BisonFault::EndInRule(span));
+        }
         let ranks = rank_list(alloc, &rules.ranked, &aliases)?;
         let by_name = rank_map(alloc, &ranks)?;
         let outline = outline_of_file(alloc, rules, &aliases, midrules)?;
@@ -121,12 +127,15 @@ fn with_unquoted_tokens<StorageT: StorageIndex>(
     })
 }
 
-// A second `%prec` of an alternative, else a `%empty` beside symbols.
+// A second `%prec` of an alternative, else a second `%empty`, else a `%empty` beside symbols.
 fn alternative_fault(alternatives: &[Alternative]) -> Option<BisonFault>
     ensures { IsAlternativeFault (map alternative_of alternatives.now) result }
 {
     if let Some(span) = repeated_prec(alternatives) {
         return Some(BisonFault::RepeatedPrec(span));
+    }
+    if let Some(span) = repeated_empty(alternatives) {
+        return Some(BisonFault::RepeatedEmpty(span));
     }
     match false_empty(alternatives) {
         Some(span) => Some(BisonFault::NotEmpty(span)),
@@ -157,6 +166,34 @@ fn second_prec(items: &[Item]) -> Option<Span>
                 return Some(item.word.span());
             }
             has_prec = true;
+        }
+    }
+    None
+}
+
+// The first `%empty` in an alternative that has one before.
+fn repeated_empty(alternatives: &[Alternative]) -> Option<Span>
+    ensures { result ≡ repeated_empty (map alternative_of alternatives.now) }
+{
+    for alternative in alternatives {
+        if let Some(span) = second_empty(&alternative.items) {
+            return Some(span);
+        }
+    }
+    None
+}
+
+// The second `%empty` among the parts of an alternative.
+fn second_empty(items: &[Item]) -> Option<Span>
+    ensures { result ≡ second_empty (map item_of items.now) }
+{
+    let mut has_empty = false;
+    for item in items {
+        if is_empty_sign(item.kind) {
+            if has_empty {
+                return Some(item.word.span());
+            }
+            has_empty = true;
         }
     }
     None

@@ -2,17 +2,20 @@
 ghost use Rattle.std.specs.Prelude.{◌≡◌, ◌++◌, ◌≤◌, IfOk, OnOk, length, map};
 ghost use Rattle.std.specs.List.{flat_map};
 ghost use Rattle.lrpar_grammar_bison.specs.Words.{placed as file_placed};
-ghost use Rattle.lrpar_grammar_bison_rules.specs.Rules.{alternative_of as file_alternative_of, alias_of, item_of, rank_of, rules_in};
+ghost use Rattle.lrpar_grammar_bison_rules.specs.Aliases.{alias_of};
+ghost use Rattle.lrpar_grammar_bison_rules.specs.Rules.{alternative_of as file_alternative_of, item_of, rank_of, rules_in};
 ghost use Rattle.lrpar_grammar_words.specs.Outline.{alternative_of, outline_of};
 ghost use Rattle.lrpar_grammar_words.specs.Words.{placed};
 ghost use Rattle.lrpar_grammar_bison_parts.specs.Midrules.{actions_in, actions_of};
-ghost use Rattle.lrpar_grammar_bison_parts.specs.Outline.{AppendsMidrules, AppendsSymbols, AreDeclaredWords, AreEpps, AreEppTexts, AreTextAlternatives, AreTextWords, AreTurned, IsTextAlternative, IsTextOf, declared_among, declared_in, declares, outline_by};
+ghost use Rattle.lrpar_grammar_bison_parts.specs.Outline.{AppendsMidrules, AppendsSymbols, AreDeclaredWords, AreEpps, AreEppTexts, AreEppTokens, AreTokenWords, AreTextAlternatives, AreTextWords, AreTurned, IsTextAlternative, IsTextOf, declared_among, declared_in, declares, outline_by};
 ghost use Rattle.lrpar_grammar_bison_parts.specs.Symbols.{HasAliases, text_word};
 
+use crate::ends::{end_name, without_name};
 use crate::midrules::{action_count, filled};
 use crate::symbols::{alias_map, symbol_word, text_word};
 use lrpar_grammar_bison::words::Word;
-use lrpar_grammar_bison_rules::rules::{Alias, Alternative, FileRules, Item, RankedWord};
+use lrpar_grammar_bison_rules::aliases::{Alias, is_predefined};
+use lrpar_grammar_bison_rules::rules::{Alternative, FileRules, Item, RankedWord};
 use lrpar_grammar_bison_rules::word_order::ItemKind;
 use lrpar_grammar_reader::names::Names;
 use lrpar_grammar_words::outline::Outline;
@@ -31,12 +34,13 @@ pub fn outline_of_file<'a>(
     requires midrules { length (actions_of (rules_in rules.now).alternatives) ≤ length midrules.now }
     ensures { IfOk result (λ o. outline_of o ≡ outline_by (map placed midrules.now) (rules_in rules.now)) }
 {
-    let epps = named_tokens(alloc, &rules.aliases)?;
-    let epp_texts = texts_of(alloc, &rules.aliases, epps.words())?;
+    let end = end_name(&rules.numbers);
+    let epps = epp_tokens(alloc, &rules.aliases, end)?;
+    let epp_texts = texts_of(alloc, &rules.aliases, &epps)?;
     Ok(Outline {
         starts: text_words(alloc, &rules.starts)?,
-        declared: declared_words(alloc, rules, aliases)?,
-        epps: Vec::from_slice(alloc, epps.words())?,
+        declared: token_words(alloc, rules, aliases, end)?,
+        epps,
         epp_texts,
         defined: defined(alloc, &rules.defined, midrules)?,
         alternatives: text_alternatives(alloc, &rules.alternatives, aliases, midrules)?,
@@ -68,6 +72,18 @@ fn defined<'a>(
         rules.push(*midrule)?;
     }
     Ok(rules)
+}
+
+// The tokens that have a text, each once, but not the one with that name.
+fn epp_tokens<'a>(
+    alloc: Global,
+    aliases: &[Alias<'a>],
+    end: &str,
+) -> Result<Vec<text::Word<'a>>, AllocError>
+    ensures { IfOk result (AreEppTokens aliases.now end.now) }
+{
+    let names = named_tokens(alloc, aliases)?;
+    without_name(alloc, names.words(), end)
 }
 
 // The tokens that have a text, each once.
@@ -122,7 +138,21 @@ fn turned<'a>(alloc: Global, aliases: &[Alias<'a>]) -> Result<Vec<Alias<'a>>, Al
     Ok(others)
 }
 
-// The words that declare tokens: those of `%token`, those with a precedence, those of `%prec`, and `error`.
+// The words that declare tokens, but for the token with that name.
+fn token_words<'a>(
+    alloc: Global,
+    rules: &FileRules<'a>,
+    aliases: &BTreeMap<&'a str, Word<'a>>,
+    end: &str,
+) -> Result<Vec<text::Word<'a>>, AllocError>
+    requires { HasAliases rules.now.aliases.items aliases.now }
+    ensures { IfOk result (AreTokenWords rules.now end.now) }
+{
+    let words = declared_words(alloc, rules, aliases)?;
+    without_name(alloc, &words, end)
+}
+
+// The words that declare tokens: those of `%token`, those with a precedence, those of `%prec`, `error` and `YYUNDEF`.
 fn declared_words<'a>(
     alloc: Global,
     rules: &FileRules<'a>,
@@ -165,7 +195,7 @@ fn push_all_declared<'a>(
     Ok(())
 }
 
-// Appends the words of `%prec` and those that are `error`.
+// Appends the words of `%prec` and those that are `error` or `YYUNDEF`.
 fn push_declared<'a>(
     words: &mut Vec<text::Word<'a>>,
     items: &[Item<'a>],
@@ -187,7 +217,7 @@ fn declares(kind: ItemKind, name: &str) -> bool
 {
     match kind {
         ItemKind::Prec => true,
-        ItemKind::Symbol => name == "error",
+        ItemKind::Symbol => is_predefined(name),
         _ => false,
     }
 }

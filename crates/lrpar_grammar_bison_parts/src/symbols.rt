@@ -5,7 +5,7 @@ ghost use Rattle.lrpar_grammar_words.specs.Words.{placed as text_placed};
 ghost use Rattle.lrpar_grammar_bison_parts.specs.Symbols.{HasAliases, HasTarget, IsSymbolWord, text_kind, text_word};
 
 use lrpar_grammar_bison::words::{Word, WordKind};
-use lrpar_grammar_bison_rules::rules::Alias;
+use lrpar_grammar_bison_rules::aliases::Alias;
 use lrpar_grammar_words::words as text;
 use std::alloc::{AllocError, Global};
 use std::collections::BTreeMap;

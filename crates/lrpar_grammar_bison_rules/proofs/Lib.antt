@@ -1,2 +1,3 @@
 pub mod RulesLemmas
 pub mod OrderLemmas
+pub mod AliasLemmas

@@ -1,8 +1,9 @@
 -- Each alternative is of a defined rule, and has its parts in the order of the text.
-use Rattle.std.proofs.Common.{◌≡◌, ◌≤◌, ◌-◌, ◌++◌, ℕ, List, [], ◌∷◌, length, get_or, Option, Some, None, option_map, refl, sym, subst, arith}
+use Rattle.std.proofs.Common.{◌≡◌, ◌<◌, ◌≤◌, ◌-◌, ◌++◌, ℕ, List, [], ◌∷◌, length, map, get_or, Option, Some, None, option_map, refl, sym, subst, arith}
 use Rattle.std.specs.List.{All, AllPairs, Contains}
 use Rattle.std.specs.Option.{option_map_or, option_to_list}
 use Rattle.std.proofs.lemmas.Bool.{cond_both}
+use Rattle.std.proofs.lemmas.List.{get_or-map, length-map}
 use Rattle.std.proofs.lemmas.List.Elements.{All-append, All-cons, All-head, All-nil, All-push, All-weaker, Contains-append_left}
 use Rattle.std.proofs.lemmas.List.Quantifiers.{all_pairs_push}
 use Rattle.std.proofs.lemmas.Option.{get_or_from_slice_get, slice_get_within}
@@ -12,10 +13,11 @@ use Rattle.lrpar_grammar_bison.proofs.OrderLemmas.{AreInOrder, LiesBetween, othe
 use Rattle.lrpar_grammar_bison_rules.specs.declared.word_order.Expected.{Expected}
 use Rattle.lrpar_grammar_bison_rules.specs.declared.word_order.Expected.TheVariants.{Declaration}
 use Rattle.lrpar_grammar_bison_rules.specs.declared.word_order.Role.{Role}
-use Rattle.lrpar_grammar_bison_rules.specs.declared.word_order.Role.TheVariants.{Nothing, Start, Token, Alias, Level, LevelName, Expected as ExpectedRole, ExpectedRr, Glr, DefaultPrec, Defined, Item}
+use Rattle.lrpar_grammar_bison_rules.specs.declared.word_order.Role.TheVariants.{Nothing, Start, Token, Alias, Number, LevelNumber, Level, LevelName, Expected as ExpectedRole, ExpectedRr, Glr, DefaultPrec, Defined, Item}
 use Rattle.lrpar_grammar_bison_rules.specs.declared.word_order.Step.{Step}
-use Rattle.lrpar_grammar_bison_rules.specs.Rules.{AreOfDefinedRules, AreRulesOfText, HaveOrderedItems, FileAlternative, FileItem, Rules, RulesRead, end_word, ended, finished, last_of, no_rules, read_on, rules_read, with_closed, with_role, with_step}
+use Rattle.lrpar_grammar_bison_rules.specs.Rules.{AreOfDefinedRules, AreRulesOfText, HaveOrderedItems, FileAlternative, FileItem, Rules, RulesRead, end_word, ended, finished, last_of, no_rules, read_on, rules_read, with_closed, with_first_aliases, with_role, with_step, words_in}
 use Rattle.lrpar_grammar_bison_rules.specs.Signs.{sign_of}
+use Rattle.lrpar_grammar_bison.specs.Spellings.{CharacterName, respelled, spellings_of}
 use Rattle.lrpar_grammar_bison_rules.specs.WordOrder.{after, is_in_alternative}
 
 -- each part ends at or before the start of the next
@@ -77,6 +79,8 @@ role_sound place later r Nothing w from to le sound = later_sound place later r 
 role_sound place later r Start w from to le sound = let h = later_sound place later r le sound in record { defined = h.defined; before = h.before; apart = h.apart; ended = h.ended }
 role_sound place later r Token w from to le sound = let h = later_sound place later r le sound in record { defined = h.defined; before = h.before; apart = h.apart; ended = h.ended }
 role_sound place later r Alias w from to le sound = let h = later_sound place later r le sound in record { defined = h.defined; before = h.before; apart = h.apart; ended = h.ended }
+role_sound place later r Number w from to le sound = let h = later_sound place later r le sound in record { defined = h.defined; before = h.before; apart = h.apart; ended = h.ended }
+role_sound place later r LevelNumber w from to le sound = let h = later_sound place later r le sound in record { defined = h.defined; before = h.before; apart = h.apart; ended = h.ended }
 role_sound place later r (Level kind) w from to le sound = let h = later_sound place later r le sound in record { defined = h.defined; before = h.before; apart = h.apart; ended = h.ended }
 role_sound place later r LevelName w from to le sound = let h = later_sound place later r le sound in record { defined = h.defined; before = h.before; apart = h.apart; ended = h.ended }
 role_sound place later r ExpectedRole w from to le sound = let h = later_sound place later r le sound in record { defined = h.defined; before = h.before; apart = h.apart; ended = h.ended }
@@ -126,17 +130,39 @@ read_sound place to next r (w ∷ ws) le order sound =
     by_step place to next r w ws (after next (sign_of w ws)) lies sound
     (λ n q kept. read_sound w.span.end to n q ws lies.end (others_in_order place to w ws order) kept)
 
+-- a word with the one name of its symbol lies where the word does
+respelled_lies : (spellings : List CharacterName) (from to : ℕ) (w : PlacedWord) → LiesBetween from to w → LiesBetween from to (respelled spellings w)
+respelled_lies spellings from to w lies = record { start = lies.start; whole = lies.whole; end = lies.end }
+
+-- so do all
+respelled_in_order : (spellings : List CharacterName) (from to : ℕ) (ws : List PlacedWord) → AreInOrder from to ws → AreInOrder from to (map (respelled spellings) ws)
+respelled_in_order spellings from to ws order = record {
+  each = λ k d within.
+      let inside : k < length ws = omega (arith, within, length-map ws (respelled spellings)) in
+      subst (LiesBetween from to) (sym (get_or-map (respelled spellings) ws k d d inside)) (respelled_lies spellings from to (get_or ws k d) (order.each k d inside));
+  apart = λ i j d before within.
+      let inside : j < length ws = omega (arith, within, length-map ws (respelled spellings)) in
+      let first = get_or-map (respelled spellings) ws i d d (omega (arith, before, inside)) in
+      let second = get_or-map (respelled spellings) ws j d d inside in
+      rw (first, second) (order.apart i j d before inside);
+}
+
 -- the same with the last alternative ended
 finished_sound : (place len : ℕ) (x : RulesRead) → AreSoundTo place x.rules → AreSoundTo place (finished len x)
 finished_sound place len x sound =
     cond_both (is_in_alternative x.next) (with_closed x.rules (end_word len)) x.rules (AreSoundTo place) (λ _. closed_sound place x.rules (end_word len) sound) (λ _. sound)
 
+-- the same with those texts alone that are names of tokens
+first_sound : (place : ℕ) (r : Rules) → AreSoundTo place r → AreSoundTo place (with_first_aliases r)
+first_sound place r sound = record { defined = sound.defined; before = sound.before; apart = sound.apart; ended = sound.ended }
+
 -- the declarations and rules of a text
 text_sound : (text : List ℕ) (r : Rules) → AreRulesOfText text r → AreSoundTo (length text) r
 text_sound text r are =
-    let x = rules_read (read text).words in
-    subst (AreSoundTo (length text)) (sym are.whole.is)
-    (finished_sound (length text) (length text) x (read_sound 0 (length text) Declaration no_rules (read text).words (omega arith) (words_in_order text) none_sound))
+    let order = respelled_in_order (spellings_of (read text).words) 0 (length text) (read text).words (words_in_order text) in
+    subst (AreSoundTo (length text)) (sym are.is)
+    (first_sound (length text) are.all (subst (AreSoundTo (length text)) (sym are.whole.is)
+    (finished_sound (length text) (length text) (rules_read (words_in text)) (read_sound 0 (length text) Declaration no_rules (words_in text) (omega arith) order none_sound))))
 
 -- each alternative of a text is of a defined rule
 pub text_defined : (text : List ℕ) (r : Rules) → AreRulesOfText text r → AreOfDefinedRules r

@@ -9,8 +9,9 @@ use Rattle.lrpar_grammar_bison_rules.specs.declared.word_order.Step.{Step}
 use Rattle.lrpar_grammar_bison.specs.WordList.{Reading, read}
 use Rattle.lrpar_grammar_bison_rules.specs.declared.rules.RulesFault.{RulesFault}
 use Rattle.lrpar_grammar_bison_rules.specs.declared.rules.RulesFault.TheVariants.{Unread, Unexpected, End, Memory}
-use Rattle.lrpar_grammar_bison_rules.specs.Rules.{HasOrderFault, IsOrderFault, IsReadFault, IsRulesFault, Rules, RulesRead, alias_by, ended, last_of, read_on, rules_read, with_step}
+use Rattle.lrpar_grammar_bison_rules.specs.Rules.{AreRulesOfText, AreRulesOfWords, HasOrderFault, IsOrderFault, IsReadFault, IsRulesFault, IsWhole, Rules, RulesRead, alias_by, ended, last_of, numbered, read_on, rules_read, with_first_aliases, with_step, words_in}
 use Rattle.lrpar_grammar_bison_rules.specs.Signs.{sign_of}
+use Rattle.lrpar_grammar_bison.specs.Spellings.{all_respelled}
 use Rattle.lrpar_grammar_bison_rules.specs.WordOrder.{after}
 
 -- the alternative that a word ends, if a rule is defined
@@ -55,15 +56,34 @@ read_fault text (Unexpected span expected) is = absurd is
 read_fault text (End expected) is = absurd is
 read_fault text Memory is = tt
 
--- so is what is wrong with the order of words that can be read
-pub order_fault : (text : List ℕ) (words : List Word) (fault : RulesFault) → read text ≡ record { words = map placed words; stuck = None }
-    → IsOrderFault words fault → IsRulesFault text fault
-order_fault text words (Unread place what) reads is = absurd is
-order_fault text words (Unexpected span expected) reads is =
-    (ap (λ (x : Reading). x.stuck) reads, subst (λ (ws : List PlacedWord). HasOrderFault (rules_read ws) (Unexpected span expected)) (sym (ap (λ (x : Reading). x.words) reads)) is)
-order_fault text words (End expected) reads is =
-    (ap (λ (x : Reading). x.stuck) reads, subst (λ (ws : List PlacedWord). HasOrderFault (rules_read ws) (End expected)) (sym (ap (λ (x : Reading). x.words) reads)) is)
-order_fault text words Memory reads is = tt
+-- the words of a text that can be read, with one name for each symbol
+pub words_are : (text : List ℕ) (words others : List Word) → read text ≡ record { words = map placed words; stuck = None }
+    → map placed others ≡ all_respelled (map placed words) → map placed others ≡ words_in text
+words_are text words others reads same = same ∙ sym (ap (λ (x : Reading). all_respelled x.words) reads)
+
+-- what is wrong with the order of these words is why their text has no declarations and rules
+pub order_fault : (text : List ℕ) (words others : List Word) (fault : RulesFault) → read text ≡ record { words = map placed words; stuck = None }
+    → map placed others ≡ all_respelled (map placed words) → IsOrderFault others fault → IsRulesFault text fault
+order_fault text words others (Unread place what) reads same is = absurd is
+order_fault text words others (Unexpected span expected) reads same is =
+    (ap (λ (x : Reading). x.stuck) reads, subst (λ (ws : List PlacedWord). HasOrderFault (rules_read ws) (Unexpected span expected)) (words_are text words others reads same) is)
+order_fault text words others (End expected) reads same is =
+    (ap (λ (x : Reading). x.stuck) reads, subst (λ (ws : List PlacedWord). HasOrderFault (rules_read ws) (End expected)) (words_are text words others reads same) is)
+order_fault text words others Memory reads same is = tt
+
+-- these words make the declarations and rules of their text
+pub text_rules : (text : List ℕ) (words others : List Word) (all r : Rules) → read text ≡ record { words = map placed words; stuck = None }
+    → map placed others ≡ all_respelled (map placed words) → AreRulesOfWords (length text) others all → r ≡ with_first_aliases all → AreRulesOfText text r
+text_rules text words others all r reads same are is = record {
+  all = all;
+  readable = ap (λ (x : Reading). x.stuck) reads;
+  whole = subst (λ (ws : List PlacedWord). IsWhole (length text) (rules_read ws) all) (words_are text words others reads same) are;
+  is = is;
+}
+
+-- the number of a token, if there is one
+pub numbered_is : (found : Option PlacedWord) (w token : PlacedWord) → found ≡ Some token → numbered found w ≡ record { token = token; number = w } ∷ []
+numbered_is found w token is = ap (λ t. option_to_list (option_map (λ x. record { token = x; number = w }) t)) is
 
 -- the words after one of them, as plain data
 after_word : (words : List Word) (i : ℕ) → map placed (take (length words - (i + 1)) (drop (i + 1) words)) ≡ drop (i + 1) (map placed words)

@@ -1,4 +1,5 @@
 pub mod Directives
 pub mod Signs
 pub mod WordOrder
+pub mod Aliases
 pub mod Rules

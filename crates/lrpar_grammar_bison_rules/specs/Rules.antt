@@ -9,20 +9,22 @@ use Rattle.lrpar_grammar_bison.specs.declared.words.Word.{Word}
 use Rattle.lrpar_grammar_bison.specs.declared.words.WordKind.TheVariants.{Semicolon}
 use Rattle.lrpar_grammar_bison.specs.Words.{PlacedWord, placed}
 use Rattle.lrpar_grammar_bison.specs.WordList.{AreWordsOf, IsWordsFault, read}
-use Rattle.lrpar_grammar_bison_rules.specs.declared.rules.Alias.{Alias}
 use Rattle.lrpar_grammar_bison_rules.specs.declared.rules.Alternative.{Alternative}
 use Rattle.lrpar_grammar_bison_rules.specs.declared.rules.FileRules.{FileRules}
 use Rattle.lrpar_grammar_bison_rules.specs.declared.rules.Item.{Item}
 use Rattle.lrpar_grammar_bison_rules.specs.declared.rules.RankedWord.{RankedWord}
+use Rattle.lrpar_grammar_bison_rules.specs.declared.rules.TokenNumber.{TokenNumber}
 use Rattle.lrpar_grammar_bison_rules.specs.declared.rules.RulesFault.{RulesFault}
 use Rattle.lrpar_grammar_bison_rules.specs.declared.rules.RulesFault.TheVariants.{Unread, Unexpected, End, Memory}
 use Rattle.lrpar_grammar_bison_rules.specs.declared.word_order.Expected.{Expected}
 use Rattle.lrpar_grammar_bison_rules.specs.declared.word_order.Expected.TheVariants.{Declaration}
 use Rattle.lrpar_grammar_bison_rules.specs.declared.word_order.ItemKind.{ItemKind}
 use Rattle.lrpar_grammar_bison_rules.specs.declared.word_order.Role.{Role}
-use Rattle.lrpar_grammar_bison_rules.specs.declared.word_order.Role.TheVariants.{Nothing, Start, Token, Alias as AliasRole, Level, LevelName, Expected as ExpectedRole, ExpectedRr, Glr, DefaultPrec, Defined, Item as ItemRole}
+use Rattle.lrpar_grammar_bison_rules.specs.declared.word_order.Role.TheVariants.{Nothing, Start, Token, Alias as AliasRole, Number as NumberRole, LevelNumber, Level, LevelName, Expected as ExpectedRole, ExpectedRr, Glr, DefaultPrec, Defined, Item as ItemRole}
 use Rattle.lrpar_grammar_bison_rules.specs.declared.word_order.Step.{Step}
+use Rattle.lrpar_grammar_bison_rules.specs.Aliases.{FileAlias, alias_of, first_aliases}
 use Rattle.lrpar_grammar_bison_rules.specs.Signs.{sign_of}
+use Rattle.lrpar_grammar_bison.specs.Spellings.{all_respelled}
 use Rattle.lrpar_grammar_bison_rules.specs.WordOrder.{after, is_in_alternative, may_end}
 
 -- a part of an alternative
@@ -36,23 +38,24 @@ pub record FileAlternative : Type 0 where
   pub items : List FileItem
   pub end : PlacedWord
 
--- a token and its text
-pub record FileAlias : Type 0 where
+-- a token and its number
+pub record FileNumber : Type 0 where
   pub token : PlacedWord
-  pub text : PlacedWord
+  pub number : PlacedWord
 
 -- a token with a precedence
 pub record FileRank : Type 0 where
   pub word : PlacedWord
   pub precedence : Precedence
 
--- The start rules; the tokens that are declared, and the texts of some; the levels of precedence, and their tokens; the numbers of
+-- The start rules; the tokens that are declared, and the texts and numbers of some; the levels of precedence, and their tokens; the numbers of
 -- conflicts that are expected; whether the parser follows each way out of a conflict; whether a production has the precedence of its
 -- last token; the rules that are defined; the alternatives that have ended, and the parts after the last of them.
 pub record Rules : Type 0 where
   pub starts : List PlacedWord
   pub tokens : List PlacedWord
   pub aliases : List FileAlias
+  pub numbers : List FileNumber
   pub levels : List AssocKind
   pub ranked : List FileRank
   pub expected : List PlacedWord
@@ -71,9 +74,9 @@ item_of x = record { kind = x.kind; word = placed x.word }
 abbrev pub alternative_of : Alternative → FileAlternative
 alternative_of x = record { rule = placed x.rule; items = map item_of x.items.items; end = placed x.end }
 
--- a token and its text as plain data
-abbrev pub alias_of : Alias → FileAlias
-alias_of x = record { token = placed x.token; text = placed x.text }
+-- a token and its number as plain data
+abbrev pub number_of : TokenNumber → FileNumber
+number_of x = record { token = placed x.token; number = placed x.number }
 
 -- a token with a precedence as plain data
 abbrev pub rank_of : RankedWord → FileRank
@@ -85,6 +88,7 @@ rules_in x = record {
   starts = map placed x.starts.items;
   tokens = map placed x.tokens.items;
   aliases = map alias_of x.aliases.items;
+  numbers = map number_of x.numbers.items;
   levels = x.levels.items;
   ranked = map rank_of x.ranked.items;
   expected = map placed x.expected.items;
@@ -102,6 +106,7 @@ no_rules = record {
   starts = [];
   tokens = [];
   aliases = [];
+  numbers = [];
   levels = [];
   ranked = [];
   expected = [];
@@ -129,6 +134,18 @@ with_closed r w = record r { alternatives = r.alternatives ++ ended r w; items =
 abbrev pub alias_by : Rules → PlacedWord → List FileAlias
 alias_by r w = option_to_list (option_map (λ token. record { token = token; text = w }) (last_of r.tokens))
 
+-- the number of a token, if there is one
+abbrev pub numbered : Option PlacedWord → PlacedWord → List FileNumber
+numbered found w = option_to_list (option_map (λ token. record { token = token; number = w }) found)
+
+-- the number of the last token
+abbrev pub number_by : Rules → PlacedWord → List FileNumber
+number_by r w = numbered (last_of r.tokens) w
+
+-- the number of the last token of a level
+abbrev pub level_number_by : Rules → PlacedWord → List FileNumber
+level_number_by r w = numbered (option_map (λ (x : FileRank). x.word) (last_of r.ranked)) w
+
 -- a token of the last level
 abbrev pub rank_by : Rules → PlacedWord → List FileRank
 rank_by r w = option_to_list (option_map (λ kind. record { word = w; precedence = record { level = length r.levels - 1; kind = kind } }) (last_of r.levels))
@@ -139,6 +156,8 @@ with_role r Nothing w = r
 with_role r Start w = record r { starts = r.starts ++ w ∷ [] }
 with_role r Token w = record r { tokens = r.tokens ++ w ∷ [] }
 with_role r AliasRole w = record r { aliases = r.aliases ++ alias_by r w }
+with_role r NumberRole w = record r { numbers = r.numbers ++ number_by r w }
+with_role r LevelNumber w = record r { numbers = r.numbers ++ level_number_by r w }
 with_role r (Level kind) w = record r { levels = r.levels ++ kind ∷ [] }
 with_role r LevelName w = record r { ranked = r.ranked ++ rank_by r w }
 with_role r ExpectedRole w = record r { expected = r.expected ++ w ∷ [] }
@@ -186,10 +205,20 @@ pub record IsWhole (len : ℕ) (x : RulesRead) (r : Rules) : Type 0 where
 abbrev pub AreRulesOfWords : ℕ → List Word → Rules → Type 0
 AreRulesOfWords len words r = IsWhole len (rules_read (map placed words)) r
 
--- the text can be read, and these are its declarations and rules
+-- the words of a text, with one name for each symbol
+abbrev pub words_in : List ℕ → List PlacedWord
+words_in text = all_respelled (read text).words
+
+-- with those texts alone that are names of tokens
+abbrev pub with_first_aliases : Rules → Rules
+with_first_aliases r = record r { aliases = first_aliases r.aliases }
+
+-- the text can be read, and these are its declarations and rules: `all` are those with all texts of tokens
 pub record AreRulesOfText (text : List ℕ) (r : Rules) : Type 0 where
+  pub all : Rules
   pub readable : (read text).stuck ≡ None
-  pub whole : IsWhole (length text) (rules_read (read text).words) r
+  pub whole : IsWhole (length text) (rules_read (words_in text)) all
+  pub is : r ≡ with_first_aliases all
 
 -- each alternative is of a rule that is defined
 abbrev pub AreOfDefinedRules : Rules → Type 0
@@ -223,6 +252,6 @@ IsReadFault text _ = ⊥
 -- Why a text has no declarations and rules: reading is stuck at a place; else a word isn't allowed where it is, or the end comes too
 -- early; or an allocation failed.
 abbrev pub IsRulesFault : List ℕ → RulesFault → Type 0
-IsRulesFault text (Unexpected span expected) = ((read text).stuck ≡ None) × HasOrderFault (rules_read (read text).words) (Unexpected span expected)
-IsRulesFault text (End expected) = ((read text).stuck ≡ None) × HasOrderFault (rules_read (read text).words) (End expected)
+IsRulesFault text (Unexpected span expected) = ((read text).stuck ≡ None) × HasOrderFault (rules_read (words_in text)) (Unexpected span expected)
+IsRulesFault text (End expected) = ((read text).stuck ≡ None) × HasOrderFault (rules_read (words_in text)) (End expected)
 IsRulesFault text fault = IsReadFault text fault

@@ -1,7 +1,7 @@
 -- The shape of a `.y` file, as a finite automaton over its words. Its start state is `Declaration`.
 use Rattle.std.specs.Prelude.{Bool, true, false, Option, Some, None, option_map}
 use Rattle.std.specs.Option.{option_map_or, option_or}
-use Rattle.lrpar_grammar_bison.specs.declared.words.WordKind.TheVariants.{Name, Character, Text, Translated, Number, Tag, Code, Prologue, Label, Colon, Bar, Semicolon, Equals, Sections}
+use Rattle.lrpar_grammar_bison.specs.declared.words.WordKind.TheVariants.{Name, Character, Text, Translated, Number, Tag, Code, Prologue, Predicate, Label, Colon, Bar, Semicolon, Equals, Sections}
 use Rattle.lrpar_grammar_bison_rules.specs.declared.directives.Directive.{Directive}
 use Rattle.lrpar_grammar_bison_rules.specs.declared.directives.Directive.TheVariants.{Start as StartSign, Token as TokenSign, Nonterminal as NonterminalSign, Types as TypesSign, Level as LevelSign, Properties as PropertiesSign, NamedCode as NamedCodeSign, Code as CodeSign, Params as ParamsSign, Define as DefineSign, Text as TextSign, Prefix as PrefixSign, Header as HeaderSign, Flag as FlagSign, Glr as GlrSign, DefaultPrec as DefaultPrecSign, Expect as ExpectSign, ExpectRr as ExpectRrSign, Prec as PrecSign, Empty as EmptySign, Dprec as DprecSign, Merge as MergeSign}
 use Rattle.lrpar_grammar_bison_rules.specs.declared.signs.Sign.{Sign}
@@ -12,7 +12,7 @@ use Rattle.lrpar_grammar_bison_rules.specs.declared.word_order.Expected.{Expecte
 use Rattle.lrpar_grammar_bison_rules.specs.declared.word_order.Expected.TheVariants.{Declaration, List as InList, PropertiesCode, NameOrCode, Code as CodeNext, FirstParam, MoreParams, DefineName, DefineValue, TextOrEquals, PlainText, OptionalText, ExpectNumber, ExpectRrNumber, DeclarationEnd, Rule, RuleOrAlternative, RuleColon, Symbol, SymbolOrLabel, TypedAction, PrecName, Number as NumberNext, MergeType, End}
 use Rattle.lrpar_grammar_bison_rules.specs.declared.word_order.ItemKind.TheVariants.{Symbol as SymbolItem, Action, Prec, Empty}
 use Rattle.lrpar_grammar_bison_rules.specs.declared.word_order.Role.{Role}
-use Rattle.lrpar_grammar_bison_rules.specs.declared.word_order.Role.TheVariants.{Nothing, Start, Token, Alias, Level, LevelName, Expected as ExpectedRole, ExpectedRr, Glr, DefaultPrec, Defined, Item}
+use Rattle.lrpar_grammar_bison_rules.specs.declared.word_order.Role.TheVariants.{Nothing, Start, Token, Alias, Number as NumberRole, LevelNumber, Level, LevelName, Expected as ExpectedRole, ExpectedRr, Glr, DefaultPrec, Defined, Item}
 use Rattle.lrpar_grammar_bison_rules.specs.declared.word_order.Section.{Section}
 use Rattle.lrpar_grammar_bison_rules.specs.declared.word_order.Section.TheVariants.{Declarations, Rules}
 use Rattle.lrpar_grammar_bison_rules.specs.declared.word_order.Step.{Step}
@@ -135,6 +135,11 @@ token (Other Name) role = Some (role, AfterSymbol)
 token (Other Character) role = Some (role, AfterSymbol)
 token _ role = None
 
+-- a name of a rule
+abbrev pub rule_name : Sign → Option (Role × Before)
+rule_name (Other Name) = Some (Nothing, AfterAll)
+rule_name _ = None
+
 -- a name, a character or a text
 abbrev pub any_symbol : Sign → Role → Option (Role × Before)
 any_symbol (Other Name) role = Some (role, AfterAll)
@@ -158,42 +163,42 @@ type_after AfterType sign = None
 type_after _ sign = symbols_type sign
 
 -- the number of a symbol
-abbrev pub symbol_number : Sign → Option (Role × Before)
-symbol_number (Other Number) = Some (Nothing, AfterNumber)
-symbol_number _ = None
+abbrev pub symbol_number : Sign → Role → Option (Role × Before)
+symbol_number (Other Number) role = Some (role, AfterNumber)
+symbol_number _ role = None
 
 -- the number of a symbol, after the symbol
-abbrev pub number_after : Before → Sign → Option (Role × Before)
-number_after AfterSymbol sign = symbol_number sign
-number_after _ sign = None
+abbrev pub number_after : Before → Sign → Role → Option (Role × Before)
+number_after AfterSymbol sign role = symbol_number sign role
+number_after _ sign role = None
 
 -- the text of a token
-abbrev pub token_text : Sign → Role → Option (Role × Before)
-token_text (Other Text) role = Some (role, AfterAll)
-token_text (Other Translated) role = Some (role, AfterAll)
-token_text _ role = None
+abbrev pub token_text : Sign → Option (Role × Before)
+token_text (Other Text) = Some (Alias, AfterAll)
+token_text (Other Translated) = Some (Alias, AfterAll)
+token_text _ = None
 
 -- the text of a token, after the token or its number
-abbrev pub alias_after : Before → Sign → Role → Option (Role × Before)
-alias_after AfterSymbol sign role = token_text sign role
-alias_after AfterNumber sign role = token_text sign role
-alias_after _ sign role = None
+abbrev pub alias_after : Before → Sign → Option (Role × Before)
+alias_after AfterSymbol sign = token_text sign
+alias_after AfterNumber sign = token_text sign
+alias_after _ sign = None
 
 -- a token, its number or text, or a type
-abbrev pub token_member : Before → Sign → Role → Role → Option (Role × Before)
-token_member before sign role alias =
-    option_or (option_or (option_or (token sign role) (type_after before sign)) (number_after before sign)) (alias_after before sign alias)
+abbrev pub token_member : Before → Sign → Option (Role × Before)
+token_member before sign =
+    option_or (option_or (option_or (token sign Token) (type_after before sign)) (number_after before sign NumberRole)) (alias_after before sign)
 
 -- a token of a level, its number, or a type
 abbrev pub level_member : Before → Sign → Option (Role × Before)
 level_member before sign =
-    option_or (option_or (option_or (token sign LevelName) (any_symbol sign LevelName)) (type_after before sign)) (number_after before sign)
+    option_or (option_or (option_or (token sign LevelName) (any_symbol sign LevelName)) (type_after before sign)) (number_after before sign LevelNumber)
 
 -- the role of a word of a list of symbols, and what it is to the next word
 abbrev pub member : SymbolList → Before → Sign → Option (Role × Before)
 member Starts before sign = any_symbol sign Start
-member Tokens before sign = token_member before sign Token Alias
-member Nonterminals before sign = token_member before sign Nothing Nothing
+member Tokens before sign = token_member before sign
+member Nonterminals before sign = option_or (rule_name sign) (type_after before sign)
 member Types before sign = option_or (any_symbol sign Nothing) (type_after before sign)
 member LevelList before sign = level_member before sign
 member Properties before sign = option_or (any_symbol sign Nothing) (any_type sign)
@@ -245,6 +250,7 @@ part (Other Name) = step_to (Item SymbolItem) SymbolOrLabel
 part (Other Character) = step_to (Item SymbolItem) SymbolOrLabel
 part (Other Text) = step_to (Item SymbolItem) SymbolOrLabel
 part (Other Code) = step_to (Item Action) SymbolOrLabel
+part (Other Predicate) = step_to (Item Action) Symbol
 part (Other Tag) = step_to Nothing TypedAction
 part _ = None
 

@@ -4,8 +4,10 @@ ghost use Rattle.lrpar_grammar_bison.specs.Words.{placed};
 ghost use Rattle.lrpar_grammar_bison_rules.specs.declared.rules.RulesFault.TheVariants.{Memory};
 ghost use Rattle.lrpar_grammar_bison_rules.specs.Rules.{AreReadWords, AreRulesOfText, IsReadFault, IsRulesFault, end_word};
 
+use crate::aliases::{Alias, first_aliases};
 use crate::signs::sign_of;
 use crate::word_order::{Expected, ItemKind, Role, Step};
+use lrpar_grammar_bison::spellings::with_one_spelling;
 use lrpar_grammar_bison::word_list::{WordsFault, read_words};
 use lrpar_grammar_bison::words::{Unread, Word, WordKind};
 use lrpar_grammar_places::span::Span;
@@ -31,11 +33,11 @@ pub struct Alternative<'a> {
     pub end: Word<'a>,
 }
 
-/// A token and its text.
+/// A token and its number.
 #[derive(Clone, Copy, Debug)]
-pub struct Alias<'a> {
+pub struct TokenNumber<'a> {
     pub token: Word<'a>,
-    pub text: Word<'a>,
+    pub number: Word<'a>,
 }
 
 /// A token with a precedence. The levels are counted from 0, the weakest first.
@@ -45,14 +47,17 @@ pub struct RankedWord<'a> {
     pub precedence: Precedence,
 }
 
-/// The declarations and rules of a `.y` file, each list in the order of the text.
+/// The declarations and rules of a `.y` file, each list in the order of the text. Each symbol has one name: a literal between single
+/// quotes is spelled as the first one of its character is, and `YYerror` is `error`.
 pub struct FileRules<'a> {
     /// The start rules.
     pub starts: Vec<Word<'a>>,
     /// The tokens of `%token`.
     pub tokens: Vec<Word<'a>>,
-    /// The tokens that have a text.
+    /// The tokens that have a text. A token has one text, and a text is that of one token: the first.
     pub aliases: Vec<Alias<'a>>,
+    /// The tokens that have a number.
+    pub numbers: Vec<TokenNumber<'a>>,
     /// How the tokens of each level of precedence associate, the weakest level first.
     pub levels: Vec<AssocKind>,
     /// The tokens of these levels.
@@ -80,6 +85,7 @@ impl<'a> Drop for FileRules<'a> {
             starts,
             tokens,
             aliases,
+            numbers,
             levels,
             ranked,
             expected,
@@ -93,6 +99,7 @@ impl<'a> Drop for FileRules<'a> {
         drop(starts);
         drop(tokens);
         drop(aliases);
+        drop(numbers);
         drop(levels);
         drop(ranked);
         drop(expected);
@@ -133,12 +140,13 @@ impl<T: Drop> From<AllocFailed<T>> for RulesFault {
 }
 
 impl<'a> FileRules<'a> {
-    ghost use Rattle.lrpar_grammar_bison_rules.specs.Rules.{AreOfDefinedRules, AreRulesOfWords, HaveOrderedItems, IsOrderFault, no_rules, rules_in, with_closed, with_role, with_step};
+    ghost use Rattle.lrpar_grammar_bison_rules.specs.Rules.{AreOfDefinedRules, AreRulesOfWords, HaveOrderedItems, IsOrderFault, no_rules, rules_in, with_closed, with_first_aliases, with_role, with_step};
 
     /// The declarations and rules of a file.
     ///
     /// Fails with `Unread` at the first place where no word and no blanks begin; else with `Unexpected` at the first word that isn't
-    /// allowed where it is, or with `End` if the file ends too early; or with `Memory`. Takes time and memory linear in the text.
+    /// allowed where it is, or with `End` if the file ends too early; or with `Memory`. Takes memory linear in the text, and time linear
+    /// in it but for texts of tokens: each is looked up in logarithmic time.
     pub fn read(alloc: Global, text: &'a str) -> Result<Self, RulesFault>
         ensures rules { IfOk result (λ r. AreRulesOfText text.now (rules_in r)) }
         ensures defined { IfOk result (λ r. AreOfDefinedRules (rules_in r)) }
@@ -146,7 +154,18 @@ impl<'a> FileRules<'a> {
         ensures fault { IfErr result (IsRulesFault text.now) }
     {
         let words = words_of(alloc, text)?;
-        FileRules::of_words(alloc, &words, text.len())
+        let words = with_one_spelling(alloc, &words)?;
+        let mut rules = FileRules::of_words(alloc, &words, text.len())?;
+        rules.keep_first_aliases(alloc)?;
+        Ok(rules)
+    }
+
+    // Leaves out the texts that are no names of tokens.
+    fn keep_first_aliases(&mut self, alloc: Global) -> Result<(), AllocError>
+        ensures { OnOk result (rules_in self.new ≡ with_first_aliases (rules_in self.old)) }
+    {
+        self.aliases = first_aliases(alloc, &self.aliases)?;
+        Ok(())
     }
 
     // The declarations and rules that the words of a text make, which has that length in bytes.
@@ -180,6 +199,7 @@ impl<'a> FileRules<'a> {
             starts: Vec::new(alloc),
             tokens: Vec::new(alloc),
             aliases: Vec::new(alloc),
+            numbers: Vec::new(alloc),
             levels: Vec::new(alloc),
             ranked: Vec::new(alloc),
             expected: Vec::new(alloc),
@@ -212,6 +232,8 @@ impl<'a> FileRules<'a> {
             Role::Start => push(&mut self.starts, word),
             Role::Token => push(&mut self.tokens, word),
             Role::Alias => self.add_alias(word),
+            Role::Number => self.add_number(word),
+            Role::LevelNumber => self.add_level_number(word),
             Role::Level(kind) => push(&mut self.levels, kind),
             Role::LevelName => self.add_ranked(word),
             Role::Expected => push(&mut self.expected, word),
@@ -237,6 +259,30 @@ impl<'a> FileRules<'a> {
         if let Some(token) = self.tokens.last() {
             let token = *token;
             self.aliases.push(Alias { token, text })?;
+        }
+        Ok(())
+    }
+
+    // Adds the number of the last token.
+    #[tactic(auto, unfolding(crate::specs::Rules::with_role))]
+    fn add_number(&mut self, number: Word<'a>) -> Result<(), AllocError>
+        ensures { OnOk result (rules_in self.new ≡ with_role (rules_in self.old) Role.Number (placed number.entry)) }
+    {
+        if let Some(last) = self.tokens.last() {
+            let token = *last;
+            self.numbers.push(TokenNumber { token, number })?;
+        }
+        Ok(())
+    }
+
+    // Adds the number of the last token of a level.
+    #[tactic(auto, unfolding(crate::specs::Rules::with_role))]
+    fn add_level_number(&mut self, number: Word<'a>) -> Result<(), AllocError>
+        ensures { OnOk result (rules_in self.new ≡ with_role (rules_in self.old) Role.LevelNumber (placed number.entry)) }
+    {
+        if let Some(last) = self.ranked.last() {
+            let token = last.word;
+            self.numbers.push(TokenNumber { token, number })?;
         }
         Ok(())
     }

@@ -1,6 +1,6 @@
 //! The shape of a `.y` file: declarations, `%%`, rules and declarations, an optional second `%%`.
 ghost use Rattle.std.specs.Prelude.{◌≡◌};
-ghost use Rattle.lrpar_grammar_bison_rules.specs.WordOrder.{action, after, after_declaration, alias_after, any_symbol, any_type, closing, code, colon, declaration, declaration_directive, declaration_end, end_of, in_alternative, is_in_alternative, label, level_member, list_end, list_of, list_step, may_end, member, name, name_or_code, next_rule, number, number_after, part, part_directive, rule_or_alternative, shared_directive, step_to, symbol, tag, text, text_or_equals, token, token_member, type_after, value};
+ghost use Rattle.lrpar_grammar_bison_rules.specs.WordOrder.{action, after, after_declaration, alias_after, any_symbol, any_type, closing, code, colon, declaration, declaration_directive, declaration_end, end_of, in_alternative, is_in_alternative, label, level_member, list_end, list_of, list_step, may_end, member, name, name_or_code, next_rule, number, number_after, part, part_directive, rule_name, rule_or_alternative, shared_directive, step_to, symbol, tag, text, text_or_equals, token, token_member, type_after, value};
 
 use crate::directives::Directive;
 use crate::signs::Sign;
@@ -23,7 +23,7 @@ pub enum SymbolList {
     Starts,
     /// Tokens, each perhaps with a number and a text.
     Tokens,
-    /// Rules, which may be written as tokens are.
+    /// Rules.
     Nonterminals,
     /// Symbols of a type.
     Types,
@@ -114,6 +114,10 @@ pub enum Role {
     Token,
     /// The text of the token before.
     Alias,
+    /// The number of the token before.
+    Number,
+    /// The number of the token of a level before.
+    LevelNumber,
     /// It begins a level of precedence.
     Level(AssocKind),
     /// A token of the last level.
@@ -137,7 +141,7 @@ pub enum Role {
 pub enum ItemKind {
     /// A symbol.
     Symbol,
-    /// An action.
+    /// An action, or a predicate.
     Action,
     /// The symbol of a `%prec`.
     Prec,
@@ -339,8 +343,8 @@ fn member(list: SymbolList, before: Before, sign: Sign) -> Option<(Role, Before)
 {
     match list {
         SymbolList::Starts => any_symbol(sign, Role::Start),
-        SymbolList::Tokens => token_member(before, sign, Role::Token, Role::Alias),
-        SymbolList::Nonterminals => token_member(before, sign, Role::Nothing, Role::Nothing),
+        SymbolList::Tokens => token_member(before, sign),
+        SymbolList::Nonterminals => rule_name(sign).or(type_after(before, sign)),
         SymbolList::Types => any_symbol(sign, Role::Nothing).or(type_after(before, sign)),
         SymbolList::Level => level_member(before, sign),
         SymbolList::Properties => any_symbol(sign, Role::Nothing).or(any_type(sign)),
@@ -348,13 +352,13 @@ fn member(list: SymbolList, before: Before, sign: Sign) -> Option<(Role, Before)
 }
 
 // A token, its number or text, or a type.
-fn token_member(before: Before, sign: Sign, role: Role, alias: Role) -> Option<(Role, Before)>
-    ensures { result ≡ token_member before sign role alias }
+fn token_member(before: Before, sign: Sign) -> Option<(Role, Before)>
+    ensures { result ≡ token_member before sign }
 {
-    token(sign, role)
+    token(sign, Role::Token)
         .or(type_after(before, sign))
-        .or(number_after(before, sign))
-        .or(alias_after(before, sign, alias))
+        .or(number_after(before, sign, Role::Number))
+        .or(alias_after(before, sign))
 }
 
 // A token of a level, its number, or a type.
@@ -364,7 +368,7 @@ fn level_member(before: Before, sign: Sign) -> Option<(Role, Before)>
     token(sign, Role::LevelName)
         .or(any_symbol(sign, Role::LevelName))
         .or(type_after(before, sign))
-        .or(number_after(before, sign))
+        .or(number_after(before, sign, Role::LevelNumber))
 }
 
 // A name or a character.
@@ -373,6 +377,16 @@ fn token(sign: Sign, role: Role) -> Option<(Role, Before)>
 {
     match sign {
         Sign::Other(WordKind::Name | WordKind::Character) => Some((role, Before::Symbol)),
+        _ => None,
+    }
+}
+
+// A name of a rule.
+fn rule_name(sign: Sign) -> Option<(Role, Before)>
+    ensures { result ≡ rule_name sign }
+{
+    match sign {
+        Sign::Other(WordKind::Name) => Some((Role::Nothing, Before::All)),
         _ => None,
     }
 }
@@ -411,22 +425,22 @@ fn type_after(before: Before, sign: Sign) -> Option<(Role, Before)>
 }
 
 // The number of the symbol before.
-fn number_after(before: Before, sign: Sign) -> Option<(Role, Before)>
-    ensures { result ≡ number_after before sign }
+fn number_after(before: Before, sign: Sign, role: Role) -> Option<(Role, Before)>
+    ensures { result ≡ number_after before sign role }
 {
     match (before, sign) {
-        (Before::Symbol, Sign::Other(WordKind::Number)) => Some((Role::Nothing, Before::Number)),
+        (Before::Symbol, Sign::Other(WordKind::Number)) => Some((role, Before::Number)),
         _ => None,
     }
 }
 
 // The text of the token before.
-fn alias_after(before: Before, sign: Sign, role: Role) -> Option<(Role, Before)>
-    ensures { result ≡ alias_after before sign role }
+fn alias_after(before: Before, sign: Sign) -> Option<(Role, Before)>
+    ensures { result ≡ alias_after before sign }
 {
     match (before, sign) {
         (Before::Symbol | Before::Number, Sign::Other(WordKind::Text | WordKind::Translated)) =>
-            Some((role, Before::All)),
+            Some((Role::Alias, Before::All)),
         _ => None,
     }
 }
@@ -584,6 +598,9 @@ fn part(sign: Sign) -> Option<Step>
         }
         Sign::Other(WordKind::Code) => {
             step_to(Role::Item(ItemKind::Action), Expected::SymbolOrLabel)
+        }
+        Sign::Other(WordKind::Predicate) => {
+            step_to(Role::Item(ItemKind::Action), Expected::Symbol)
         }
         Sign::Other(WordKind::Tag) => step_to(Role::Nothing, Expected::TypedAction),
         Sign::Directive(directive) => part_directive(directive),

@@ -3,9 +3,9 @@ use Rattle.std.specs.Prelude.{◌≡◌, ◌<◌, ◌≤◌, ◌+◌, ◌∷◌,
 use Rattle.std.specs.Option.{option_to_list}
 use Rattle.lrpar_grammar_places.specs.Span.{Extent}
 use Rattle.lrpar_grammar_bison.specs.declared.words.Unread.{Unread}
-use Rattle.lrpar_grammar_bison.specs.declared.words.Unread.TheVariants.{Byte, Character, Code, Comment, Label, Prologue, Tag, Text}
+use Rattle.lrpar_grammar_bison.specs.declared.words.Unread.TheVariants.{Byte, Character, Code, Comment, Label, Predicate, Prologue, Tag, Text}
 use Rattle.lrpar_grammar_bison_parts.specs.declared.faults.BisonFault.{BisonFault}
-use Rattle.lrpar_grammar_bison_parts.specs.declared.faults.BisonFault.TheVariants.{Grammar, Memory, NotEmpty, RepeatedPrec, RepeatedPrecedence, Rules}
+use Rattle.lrpar_grammar_bison_parts.specs.declared.faults.BisonFault.TheVariants.{BadNumber, EndInRule, Grammar, Memory, NotEmpty, RepeatedEmpty, RepeatedNumber, RepeatedPrec, RepeatedPrecedence, Rules}
 use Rattle.lrpar_grammar_bison_rules.specs.declared.rules.RulesFault.{RulesFault}
 use Rattle.lrpar_grammar_bison_rules.specs.declared.rules.RulesFault.TheVariants.{End, Memory as RulesMemory, Unexpected, Unread as UnreadAt}
 use Rattle.lrpar_grammar_reader.specs.declared.parts.GrammarFault.{GrammarFault}
@@ -16,6 +16,7 @@ use Rattle.lrpar_report.specs.FaultPlaces.{AreGrammarSpans, IsOne}
 abbrev pub opening_len : Unread → ℕ
 opening_len Comment = 2
 opening_len Prologue = 2
+opening_len Predicate = 2
 opening_len Character = 1
 opening_len Text = 1
 opening_len Code = 1
@@ -61,7 +62,11 @@ AreNamesSpans text fault spans = AreGrammarSpans text fault spans
 abbrev pub AreBisonSpans : List ℕ → BisonFault → List Extent → Type 0
 AreBisonSpans text (Rules fault) spans = AreRulesSpans text fault spans
 AreBisonSpans text (RepeatedPrec span) spans = spans ≡ span ∷ []
+AreBisonSpans text (RepeatedEmpty span) spans = spans ≡ span ∷ []
 AreBisonSpans text (NotEmpty span) spans = spans ≡ span ∷ []
+AreBisonSpans text (BadNumber span) spans = spans ≡ span ∷ []
+AreBisonSpans text (RepeatedNumber span) spans = spans ≡ span ∷ []
+AreBisonSpans text (EndInRule span) spans = spans ≡ span ∷ []
 AreBisonSpans text (RepeatedPrecedence span) spans = AreWithEarlier span spans
 AreBisonSpans text (Grammar fault) spans = AreNamesSpans text fault spans
 AreBisonSpans text Memory spans = ⊥

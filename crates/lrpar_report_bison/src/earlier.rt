@@ -52,9 +52,22 @@ fn earlier_level(alloc: Global, text: &str, span: Span) -> Result<Option<Span>, 
     ensures { IfOk result (λ place. IfSome place (λ earlier. earlier.end ≤ span.start)) }
 {
     match rules_of(alloc, text)? {
-        Some(rules) => Ok(ranked_before(&rules.ranked, part(text, span), span)),
+        Some(rules) => {
+            let name = ranked_name(&rules.ranked, text, span);
+            Ok(ranked_before(&rules.ranked, name, span))
+        }
         None => Ok(None),
     }
+}
+
+// The name of the token of a level at the place, which may be spelled in another way there.
+fn ranked_name<'a>(words: &[RankedWord<'a>], text: &'a str, span: Span) -> &'a str {
+    for ranked in words {
+        if ranked.word.span() == span {
+            return ranked.word.name;
+        }
+    }
+    part(text, span)
 }
 
 // The place where the token at the place is declared before.

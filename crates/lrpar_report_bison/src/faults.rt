@@ -33,6 +33,11 @@ pub fn bison_report(alloc: Global, text: &str, fault: &BisonFault) -> Result<Rep
             let what = " is the second of its production";
             about_word(alloc, text, *span, "%prec ", what, label)
         }
+        BisonFault::RepeatedEmpty(span) => {
+            let label = "there can be one %empty; leave this one out";
+            let what = "%empty is the second of its production";
+            labelled(alloc, what, *span, label)
+        }
         BisonFault::NotEmpty(span) => {
             let label = "leave it out, or leave out the symbols";
             labelled(
@@ -41,6 +46,20 @@ pub fn bison_report(alloc: Global, text: &str, fault: &BisonFault) -> Result<Rep
                 *span,
                 label,
             )
+        }
+        BisonFault::BadNumber(span) => {
+            let label = "expected a decimal number, or 0x and digits, below 2147483647";
+            about_word(alloc, text, *span, "", " is no number of a token", label)
+        }
+        BisonFault::RepeatedNumber(span) => {
+            let label = "leave it out; a literal has the number of its character";
+            let what = " is another number of its token";
+            about_word(alloc, text, *span, "", what, label)
+        }
+        BisonFault::EndInRule(span) => {
+            let label = "each text ends by itself after its start rule; leave it out";
+            let what = " is the end of the text, which no rule can have";
+            about_word(alloc, text, *span, "", what, label)
         }
         BisonFault::RepeatedPrecedence(span) => repeated_level(alloc, text, *span),
         BisonFault::Grammar(fault) => names_report(alloc, text, fault),

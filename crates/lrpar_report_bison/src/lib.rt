@@ -6,8 +6,12 @@ mod earlier;
 mod expected;
 mod faults;
 mod names;
+mod repeated;
+mod seen;
 mod unclosed;
+mod warnings;
 mod word_order;
 mod words;
 
 pub use faults::bison_report;
+pub use warnings::bison_warnings;

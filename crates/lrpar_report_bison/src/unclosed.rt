@@ -42,7 +42,7 @@ fn opening_len(what: Unread) -> usize
     ensures { result ≡ opening_len what }
 {
     match what {
-        Unread::Comment | Unread::Prologue => 2,
+        Unread::Comment | Unread::Prologue | Unread::Predicate => 2,
         _ => 1,
     }
 }
@@ -54,6 +54,7 @@ fn unclosed(what: Unread) -> &'static str {
         Unread::Character | Unread::Text => "quote that isn't closed",
         Unread::Code => "code without its '}'",
         Unread::Prologue => "prologue without its '%}'",
+        Unread::Predicate => "predicate without its code",
         Unread::Tag => "type without its '>'",
         Unread::Label => "name in brackets without its ']'",
         Unread::Byte => "unexpected character",
@@ -66,6 +67,7 @@ fn closed(what: Unread) -> &'static str {
         Unread::Comment => "it goes to the end of the file",
         Unread::Character | Unread::Text => "it has to be closed on the same line",
         Unread::Code | Unread::Prologue => "quotes and comments in it have to be closed, too",
+        Unread::Predicate => "expected code in braces, with quotes and comments that are closed",
         Unread::Tag => "a type is between '<' and '>', and a '>' after a '-' doesn't close it",
         Unread::Label => "it has to be closed on the same line",
         Unread::Byte => "",

@@ -80,6 +80,7 @@ fn unexpected_kind(
     match kind {
         WordKind::Code => labelled(alloc, "unexpected code", front(span, 1), label),
         WordKind::Prologue => labelled(alloc, "unexpected prologue", front(span, 2), label),
+        WordKind::Predicate => labelled(alloc, "unexpected predicate", front(span, 2), label),
         _ => about_word(alloc, text, span, "unexpected ", "", label),
     }
 }

@@ -26,6 +26,8 @@ pub(crate) struct Declared<'a> {
     pub(crate) expected: Option<Number>,
     /// How many conflicts between reductions are expected.
     pub(crate) expected_rr: Option<Number>,
+    /// Whether the file is one of bison.
+    pub(crate) is_bison: bool,
     /// Whether the parser is to follow each way out of a conflict.
     pub(crate) is_glr: bool,
     /// The token that no lexer gives: `error` in a file of bison.
@@ -43,6 +45,7 @@ impl<'a> Drop for Declared<'a> {
             prec_names,
             expected: _,
             expected_rr: _,
+            is_bison: _,
             is_glr: _,
             hidden: _,
         } = self;
@@ -73,6 +76,7 @@ impl<'a> Declared<'a> {
             prec_names: Vec::new(alloc),
             expected: None,
             expected_rr: None,
+            is_bison: false,
             is_glr: false,
             hidden: None,
         }
@@ -124,18 +128,19 @@ impl<'a> Declared<'a> {
         for alternative in &rules.alternatives {
             push_prec_names(&mut declared.prec_names, &alternative.items)?;
         }
+        declared.is_bison = true;
         declared.is_glr = rules.is_glr;
         declared.hidden = grm.token_idx("error");
         Ok(declared.with_numbers(rules))
     }
 
-    // With the numbers of conflicts that are expected; or the one that is none.
+    // With the numbers of conflicts that are expected; or the one that is none. Only a GLR parser expects conflicts between reductions.
     fn with_numbers(self, rules: &FileRules<'a>) -> Result<Declared<'a>, Word<'a>> {
         let expected = last_number(&rules.expected)?;
         let expected_rr = last_number(&rules.expected_rr)?;
         let mut declared = self;
         declared.expected = expected;
-        declared.expected_rr = expected_rr;
+        declared.expected_rr = if rules.is_glr { expected_rr } else { None };
         Ok(declared)
     }
 }

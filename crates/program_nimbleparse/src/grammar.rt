@@ -13,6 +13,7 @@ use crate::useless::useless_reports;
 use lrpar_grammar::grammar::YaccGrammar;
 use lrpar_grammar::span::TIdx;
 use lrpar_report::{Level, Report, Reporter, build_report, chain_report};
+use lrpar_report_bison::bison_warnings;
 use lrpar_table::build::BuildFault;
 use lrpar_table::check::{CheckFault, ParserData, Refused};
 use lrpar_table::table::{StateGraph, StateTable};
@@ -115,11 +116,11 @@ fn build_table<O: Write, E: Write>(
     err: &mut E,
 ) -> Result<GrammarTable, Fault> {
     let Source { grammar, declared } = source_of(alloc, reporter, text, asked.kind)?;
-    let useless = useless_reports(alloc, &grammar, &declared, asked.is_looked_at)?;
+    let warnings = warnings_of(alloc, text, &grammar, &declared, asked)?;
     let data = build_data(
-        alloc, reporter, grammar, &declared, &useless, asked, out, err,
+        alloc, reporter, grammar, &declared, &warnings, asked, out, err,
     )?;
-    let has_warnings = !useless.is_empty() || !has_expected(&declared, data.stable());
+    let has_warnings = !warnings.is_empty() || !has_expected(&declared, data.stable());
     Ok(GrammarTable {
         data,
         avoided: Vec::from_slice(alloc, &declared.avoided)?,
@@ -128,6 +129,25 @@ fn build_table<O: Write, E: Write>(
         expects_conflicts: expects_conflicts(&declared),
         has_warnings,
     })
+}
+
+// Warnings of what is of no use, and before them, if the grammar is looked at, those of bison about its file.
+fn warnings_of(
+    alloc: Global,
+    text: &str,
+    grm: &YaccGrammar<u32>,
+    declared: &Declared<'_>,
+    asked: Asked,
+) -> Result<Vec<Report>, AllocError> {
+    let mut warnings = if asked.is_looked_at && declared.is_bison {
+        bison_warnings(alloc, text)?
+    } else {
+        Vec::new(alloc)
+    };
+    for report in useless_reports(alloc, grm, declared, asked.is_looked_at)? {
+        warnings.push(report)?;
+    }
+    Ok(warnings)
 }
 
 // A table that was built, its grammar, and its item sets.
@@ -144,7 +164,7 @@ fn build_data<O: Write, E: Write>(
     reporter: &Reporter<'_>,
     grm: YaccGrammar<u32>,
     declared: &Declared<'_>,
-    useless: &[Report],
+    warnings: &[Report],
     asked: Asked,
     out: &mut O,
     err: &mut E,
@@ -160,7 +180,7 @@ fn build_data<O: Write, E: Write>(
                 sgraph: &sgraph,
                 stable: &stable,
             };
-            write_notes(alloc, reporter, built, declared, useless, asked, out, err)?;
+            write_notes(alloc, reporter, built, declared, warnings, asked, out, err)?;
             expect(alloc, reporter, declared, &stable)?;
             check_chains(alloc, reporter, grm, sgraph, stable)
         }
@@ -168,14 +188,14 @@ fn build_data<O: Write, E: Write>(
     }
 }
 
-// Writes warnings of what is of no use and of conflicts, and the states of the table if they are asked for; or nothing, if the program is to
+// Writes the warnings and those of conflicts, and the states of the table if they are asked for; or nothing, if the program is to
 // be quiet.
 fn write_notes<O: Write, E: Write>(
     alloc: Global,
     reporter: &Reporter<'_>,
     built: Built<'_>,
     declared: &Declared<'_>,
-    useless: &[Report],
+    warnings: &[Report],
     asked: Asked,
     out: &mut O,
     err: &mut E,
@@ -183,7 +203,7 @@ fn write_notes<O: Write, E: Write>(
     if asked.is_quiet {
         return Ok(());
     }
-    let notes = notes_of(alloc, reporter, built, declared, useless)?;
+    let notes = notes_of(alloc, reporter, built, declared, warnings)?;
     write_messages(out, err, notes.as_str())?;
     if asked.shows_states {
         write_states(alloc, built, asked, out, err)?;
@@ -191,17 +211,17 @@ fn write_notes<O: Write, E: Write>(
     Ok(())
 }
 
-// Warnings of what is of no use, and of conflicts, unless these are what the file expects.
+// The warnings, and those of conflicts, unless these are what the file expects.
 fn notes_of(
     alloc: Global,
     reporter: &Reporter<'_>,
     built: Built<'_>,
     declared: &Declared<'_>,
-    useless: &[Report],
+    warnings: &[Report],
 ) -> Result<String, AllocError> {
     let Built { grm, stable, .. } = built;
     let mut notes = String::new(alloc);
-    push_reports(&mut notes, alloc, reporter, useless)?;
+    push_reports(&mut notes, alloc, reporter, warnings)?;
     if declared.is_glr {
         push_reports(&mut notes, alloc, reporter, &[glr_note(alloc)?])?;
     }

@@ -1,8 +1,8 @@
 use Rattle.std.proofs.Common.{◌≡◌, ◌≤◌, ◌+◌, ◌++◌, List, map, drop, length}
 use Rattle.lrpar_grammar_words.specs.Words.{placed as text_placed}
-use Rattle.lrpar_grammar_bison_rules.specs.Rules.{FileAlias, item_of}
+use Rattle.lrpar_grammar_bison_rules.specs.Aliases.{FileAlias, MapsAliases}
+use Rattle.lrpar_grammar_bison_rules.specs.Rules.{item_of}
 use Rattle.lrpar_grammar_bison_parts.specs.Midrules.{filled, symbols_after, symbols_in}
-use Rattle.lrpar_grammar_bison_parts.specs.Symbols.{MapsAliases}
 use Rattle.lrpar_grammar_bison_parts.proofs.MidruleLemmas.{actions_after, any_action}
 use Rattle.lrpar_grammar_bison_parts.proofs.midrules.filled.Given as goal
 

@@ -1,9 +1,10 @@
 use Rattle.std.proofs.Common.{◌≡◌, ◌++◌, List, map, take}
 use Rattle.std.specs.List.{flat_map}
 use Rattle.lrpar_grammar_words.specs.Words.{placed as text_placed}
-use Rattle.lrpar_grammar_bison_rules.specs.Rules.{FileAlias, alternative_of}
+use Rattle.lrpar_grammar_bison_rules.specs.Aliases.{FileAlias, MapsAliases}
+use Rattle.lrpar_grammar_bison_rules.specs.Rules.{alternative_of}
 use Rattle.lrpar_grammar_bison_parts.specs.Outline.{declared_in}
-use Rattle.lrpar_grammar_bison_parts.specs.Symbols.{MapsAliases, symbol_word}
+use Rattle.lrpar_grammar_bison_parts.specs.Symbols.{symbol_word}
 use Rattle.lrpar_grammar_bison_parts.proofs.outline.push_all_declared.Given as goal
 
 -- the words of the alternatives so far are appended

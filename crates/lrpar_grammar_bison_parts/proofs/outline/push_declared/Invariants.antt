@@ -1,8 +1,9 @@
 use Rattle.std.proofs.Common.{◌≡◌, ◌++◌, List, map, take}
 use Rattle.lrpar_grammar_words.specs.Words.{placed as text_placed}
-use Rattle.lrpar_grammar_bison_rules.specs.Rules.{FileAlias, item_of}
+use Rattle.lrpar_grammar_bison_rules.specs.Aliases.{FileAlias, MapsAliases}
+use Rattle.lrpar_grammar_bison_rules.specs.Rules.{item_of}
 use Rattle.lrpar_grammar_bison_parts.specs.Outline.{declared_among}
-use Rattle.lrpar_grammar_bison_parts.specs.Symbols.{MapsAliases, symbol_word}
+use Rattle.lrpar_grammar_bison_parts.specs.Symbols.{symbol_word}
 use Rattle.lrpar_grammar_bison_parts.proofs.outline.push_declared.Given as goal
 
 -- the words of the parts so far are appended

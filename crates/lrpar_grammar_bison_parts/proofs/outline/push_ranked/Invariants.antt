@@ -1,7 +1,8 @@
 use Rattle.std.proofs.Common.{◌≡◌, ◌++◌, List, map, take}
 use Rattle.lrpar_grammar_words.specs.Words.{placed as text_placed}
-use Rattle.lrpar_grammar_bison_rules.specs.Rules.{FileAlias, rank_of}
-use Rattle.lrpar_grammar_bison_parts.specs.Symbols.{MapsAliases, symbol_word}
+use Rattle.lrpar_grammar_bison_rules.specs.Aliases.{FileAlias, MapsAliases}
+use Rattle.lrpar_grammar_bison_rules.specs.Rules.{rank_of}
+use Rattle.lrpar_grammar_bison_parts.specs.Symbols.{symbol_word}
 use Rattle.lrpar_grammar_bison_parts.proofs.outline.push_ranked.Given as goal
 
 -- the words so far are appended

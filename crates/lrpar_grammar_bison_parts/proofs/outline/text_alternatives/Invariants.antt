@@ -1,10 +1,10 @@
 use Rattle.std.proofs.Common.{◌≡◌, ◌≤◌, ◌+◌, ◌++◌, List, map, drop, length}
 use Rattle.lrpar_grammar_words.specs.Words.{placed as text_placed}
 use Rattle.lrpar_grammar_words.specs.Outline.{alternative_of as text_alternative_of}
-use Rattle.lrpar_grammar_bison_rules.specs.Rules.{FileAlias, alternative_of}
+use Rattle.lrpar_grammar_bison_rules.specs.Aliases.{FileAlias, MapsAliases}
+use Rattle.lrpar_grammar_bison_rules.specs.Rules.{alternative_of}
 use Rattle.lrpar_grammar_bison_parts.specs.Midrules.{actions_of}
 use Rattle.lrpar_grammar_bison_parts.specs.Outline.{text_alternatives}
-use Rattle.lrpar_grammar_bison_parts.specs.Symbols.{MapsAliases}
 use Rattle.lrpar_grammar_bison_parts.proofs.outline.text_alternatives.Given as goal
 
 -- the alternatives so far, and those that are left, are all; and there are rules for the actions that are left

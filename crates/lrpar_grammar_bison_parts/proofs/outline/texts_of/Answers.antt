@@ -1,10 +1,10 @@
 use Rattle.std.proofs.Common.{◌≡◌, ◌∙◌, ap, get_or, map}
 use Rattle.std.specs.Option.{option_map_or}
 use Rattle.lrpar_grammar_words.specs.Words.{placed as text_placed}
-use Rattle.lrpar_grammar_bison_rules.specs.Rules.{alias_of}
+use Rattle.lrpar_grammar_bison_rules.specs.Aliases.{alias_of, token_with, turned}
 use Rattle.lrpar_grammar_reader.proofs.GrowthLemmas.{made_more}
-use Rattle.lrpar_grammar_bison_parts.specs.Outline.{text_of, turned}
-use Rattle.lrpar_grammar_bison_parts.specs.Symbols.{text_word, token_with}
+use Rattle.lrpar_grammar_bison_parts.specs.Outline.{text_of}
+use Rattle.lrpar_grammar_bison_parts.specs.Symbols.{text_word}
 use Rattle.lrpar_grammar_bison_parts.proofs.MidruleLemmas.{no_rule}
 use Rattle.lrpar_grammar_bison_parts.proofs.outline.texts_of.Goals as goal
 

@@ -1,6 +1,6 @@
 use Rattle.std.proofs.Common.{◌≡◌, map, take}
 use Rattle.lrpar_grammar_words.specs.Words.{placed as text_placed}
-use Rattle.lrpar_grammar_bison_rules.specs.Rules.{alias_of}
+use Rattle.lrpar_grammar_bison_rules.specs.Aliases.{alias_of}
 use Rattle.lrpar_grammar_bison_parts.specs.Outline.{text_of}
 use Rattle.lrpar_grammar_bison_parts.proofs.outline.texts_of.Given as goal
 

@@ -1,6 +1,5 @@
 use Rattle.std.proofs.Common.{◌≡◌, map, take}
-use Rattle.lrpar_grammar_bison_rules.specs.Rules.{alias_of}
-use Rattle.lrpar_grammar_bison_parts.specs.Outline.{turned}
+use Rattle.lrpar_grammar_bison_rules.specs.Aliases.{alias_of, turned}
 use Rattle.lrpar_grammar_bison_parts.proofs.outline.turned.Given as goal
 
 -- the aliases so far

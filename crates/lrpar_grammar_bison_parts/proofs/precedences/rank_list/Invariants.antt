@@ -1,7 +1,7 @@
 use Rattle.std.proofs.Common.{◌≡◌, map, take, List}
-use Rattle.lrpar_grammar_bison_rules.specs.Rules.{FileAlias, rank_of}
+use Rattle.lrpar_grammar_bison_rules.specs.Aliases.{FileAlias, MapsAliases}
+use Rattle.lrpar_grammar_bison_rules.specs.Rules.{rank_of}
 use Rattle.lrpar_grammar_bison_parts.specs.Precedences.{named_rank_of, named_ranks}
-use Rattle.lrpar_grammar_bison_parts.specs.Symbols.{MapsAliases}
 use Rattle.lrpar_grammar_bison_parts.proofs.precedences.rank_list.Given as goal
 
 -- the tokens so far

@@ -1,11 +1,10 @@
 use Rattle.std.proofs.Common.{◌++◌, ◌∷◌, [], get_or, map, take, sym, subst, refl, Some, ◌∙◌}
 use Rattle.std.proofs.lemmas.List.{map_more}
 use Rattle.std.proofs.lemmas.Map.Text.{btree_map_updates_str}
-use Rattle.lrpar_grammar_bison_rules.specs.declared.rules.Alias.{Alias}
-use Rattle.lrpar_grammar_bison_rules.specs.Rules.{alias_of}
-use Rattle.lrpar_grammar_bison_parts.specs.Symbols.{MapsAliases}
+use Rattle.lrpar_grammar_bison_rules.specs.declared.aliases.Alias.{Alias}
+use Rattle.lrpar_grammar_bison_rules.specs.Aliases.{MapsAliases, alias_of}
 use Rattle.lrpar_grammar_bison_parts.proofs.MidruleLemmas.{no_word}
-use Rattle.lrpar_grammar_bison_parts.proofs.SymbolLemmas.{alias_had, alias_more}
+use Rattle.lrpar_grammar_bison_rules.proofs.AliasLemmas.{alias_had, alias_more}
 use Rattle.lrpar_grammar_bison_parts.proofs.symbols.alias_map.Goals as goal
 use Rattle.lrpar_grammar_bison_parts.proofs.symbols.alias_map.Goals.{then-not-contains_key+in_ok-insert, else-not-contains_key}
 

@@ -1,6 +1,5 @@
 use Rattle.std.proofs.Common.{map, take}
-use Rattle.lrpar_grammar_bison_rules.specs.Rules.{alias_of}
-use Rattle.lrpar_grammar_bison_parts.specs.Symbols.{MapsAliases}
+use Rattle.lrpar_grammar_bison_rules.specs.Aliases.{MapsAliases, alias_of}
 use Rattle.lrpar_grammar_bison_parts.proofs.symbols.alias_map.Given as goal
 
 -- the map has the texts so far

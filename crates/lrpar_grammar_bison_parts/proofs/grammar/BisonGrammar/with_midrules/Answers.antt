@@ -6,12 +6,12 @@ use Rattle.lrpar_grammar_words.specs.Outline.{AreOfDefinedRules, HasOrderedSymbo
 use Rattle.lrpar_grammar_words.specs.Words.{placed as text_placed}
 use Rattle.lrpar_table_precedence.specs.declared.precedence.Precedence.{Precedence}
 use Rattle.lrpar_table_precedence.specs.Precedence.{PrecedenceLists}
-use Rattle.lrpar_grammar_bison_rules.specs.Rules.{alias_of, alternative_of, rank_of, rules_in}
+use Rattle.lrpar_grammar_bison_rules.specs.Aliases.{MapsAliases, alias_of}
+use Rattle.lrpar_grammar_bison_rules.specs.Rules.{alternative_of, rank_of, rules_in}
 use Rattle.lrpar_grammar_bison_parts.specs.Files.{file_ranks}
 use Rattle.lrpar_grammar_bison_parts.specs.Midrules.{actions_of}
 use Rattle.lrpar_grammar_bison_parts.specs.Outline.{file_outline, outline_by}
 use Rattle.lrpar_grammar_bison_parts.specs.Precedences.{MapsRanks, Ranking, named_rank_of, named_ranks, prec_words, prod_slots, repeated_rank, token_slots}
-use Rattle.lrpar_grammar_bison_parts.specs.Symbols.{MapsAliases}
 use Rattle.lrpar_grammar_bison_parts.proofs.GrammarLemmas.{grammar_with}
 use Rattle.lrpar_grammar_bison_parts.proofs.OutlineLemmas.{midrules_length, outline_defined, outline_ordered}
 use Rattle.lrpar_grammar_bison_parts.proofs.grammar.BisonGrammar.with_midrules.Goals as goal
@@ -71,6 +71,6 @@ returns-clause-grammar g c =
     ∙ ap (λ s. prod_slots (by (token_slots (file_ranks r) x.tokens)) (map (option_map text_placed) s) (map (prod_of index) c.deref-7.result.now)) c.deref-8.ensures.value
     ∙ ap (λ s. prod_slots (by (token_slots (file_ranks r) x.tokens)) s (map (prod_of index) c.deref-7.result.now)) words
     ∙ ap (λ s. prod_slots (by (token_slots (file_ranks r) x.tokens)) (prec_words r.aliases r.alternatives) (map (prod_of index) s)) c.deref-7.ensures.value in
-    grammar_with index limit r _ x (sym (ap repeated_rank named) ∙ c.in_ok-by_name.ensures.distinct)
+    grammar_with index limit r _ x c.in_ok-check_numbers.ensures.sound (sym c.end_in_rules.ensures ∙ c.in_default.is) (sym (ap repeated_rank named) ∙ c.in_ok-by_name.ensures.distinct)
     (subst (λ o. AreSpelled limit o x) same c.in_ok-parts.ensures.parts) c.in_ok-with_unquoted_tokens.ensures
     (lists_are c.from_slots.result (c.from_slots.ensures.tokens ∙ slots) (c.from_slots.ensures.prods ∙ prods))

@@ -3,7 +3,8 @@ use Rattle.std.specs.List.{slice_get}
 use Rattle.std.proofs.lemmas.List.{length-map, map-append}
 use Rattle.std.proofs.lemmas.Option.{slice_get-map}
 use Rattle.lrpar_grammar_bison.specs.Words.{PlacedWord, placed}
-use Rattle.lrpar_grammar_bison_rules.specs.Rules.{alias_by, alias_of, last_of, rules_in, with_role}
+use Rattle.lrpar_grammar_bison_rules.specs.Aliases.{alias_of}
+use Rattle.lrpar_grammar_bison_rules.specs.Rules.{alias_by, last_of, rules_in, with_role}
 use Rattle.lrpar_grammar_bison_rules.proofs.RulesLemmas.{alias_is}
 use Rattle.lrpar_grammar_bison_rules.proofs.rules.FileRules.add_alias.Goals as goal
 

@@ -1,16 +1,18 @@
 -- Texts of tokens, one after another.
-use Rattle.std.proofs.Common.{◌≡◌, [], ◌∷◌, ◌++◌, ℕ, List, Bool, true, false, cond, bytes_eq, nat_cmp, Bor, Option, Some, None, option_map, refl, ap, sym, subst, ◌∙◌}
+use Rattle.std.proofs.Common.{◌≡◌, ◌<◌, ◌+◌, ◌&&◌, [], ◌∷◌, ◌++◌, ℕ, List, Bool, true, false, not, cond, drop, get_or, length, map, bytes_eq, nat_cmp, Bor, Option, Some, None, option_map, refl, ap, sym, subst, ◌∙◌}
 use Rattle.std.specs.BTreeMap.{BTreeMap, get_by}
 use Rattle.std.specs.Cmp.Lexicographic.{slice_cmp}
 use Rattle.std.specs.List.{find}
 use Rattle.std.specs.Map.{update}
 use Rattle.std.specs.Option.{is_some, option_or}
+use Rattle.std.proofs.lemmas.Bool.{and_parts}
+use Rattle.std.proofs.lemmas.List.{drop_more}
 use Rattle.std.proofs.lemmas.List.Folds.{find-append}
 use Rattle.std.proofs.lemmas.Slice.Eq.{bytes_eq-Decides}
 use Rattle.lrpar_grammar_bison.specs.declared.words.Word.{Word}
 use Rattle.lrpar_grammar_bison.specs.Words.{PlacedWord, placed}
-use Rattle.lrpar_grammar_bison_rules.specs.Rules.{FileAlias}
-use Rattle.lrpar_grammar_bison_parts.specs.Symbols.{MapsAliases, token_with}
+use Rattle.lrpar_grammar_bison_rules.specs.Aliases.{FileAlias, MapsAliases, alias_of, has_text, is_new, is_predefined, token_with, turned, with_aliases}
+use Rattle.lrpar_grammar_bison_rules.specs.declared.aliases.Alias.{Alias}
 
 -- what the first element with a property gives, with one more element
 pub first_more : {X Y : Type 0} (f : X → Y) (p : X → Bool) (before : List X) (x : X)
@@ -73,3 +75,34 @@ alias_more m n before x token is maps new puts q =
     ∙ put (token_with before q) (bytes_eq x.text.name q) x.token
     (λ same. subst (λ s. is_some (token_with before s) ≡ false) ((bytes_eq-Decides x.text.name q).0 same) absent)
     ∙ sym (token_more before x q)
+
+-- a map has a text if a token has it
+pub among_texts : (m : BTreeMap (Bor (List ℕ)) Word) (aliases : List FileAlias) (text : List ℕ) → MapsAliases m aliases
+    → is_some (get_by (λ k. slice_cmp nat_cmp text k.now) m) ≡ has_text aliases text
+among_texts m aliases text maps = sym (found_some (get_by (λ k. slice_cmp nat_cmp text k.now) m)) ∙ ap is_some (maps text)
+
+-- what isn't so
+not_true : (b : Bool) → not b ≡ true → b ≡ false
+not_true true is = absurd (let no = is in cc)
+not_true false is = refl
+
+-- the text of a new one is no token's
+pub text_absent : (aliases : List FileAlias) (x : FileAlias) → is_new aliases x ≡ true → has_text aliases x.text.name ≡ false
+text_absent aliases x new =
+    let others = (and_parts (not (is_predefined x.token.name)) (not (has_text aliases x.text.name) && not (has_text (map turned aliases) x.token.name)) new).1 in
+    not_true (has_text aliases x.text.name) (and_parts (not (has_text aliases x.text.name)) (not (has_text (map turned aliases) x.token.name)) others).0
+
+-- and its token has no text
+pub token_absent : (aliases : List FileAlias) (x : FileAlias) → is_new aliases x ≡ true → has_text (map turned aliases) x.token.name ≡ false
+token_absent aliases x new =
+    let others = (and_parts (not (is_predefined x.token.name)) (not (has_text aliases x.text.name) && not (has_text (map turned aliases) x.token.name)) new).1 in
+    not_true (has_text (map turned aliases) x.token.name) (and_parts (not (has_text aliases x.text.name)) (not (has_text (map turned aliases) x.token.name)) others).1
+
+-- one more text
+pub aliases_step : (kept : List FileAlias) (aliases : List Alias) (i : ℕ) (d : Alias) (b : Bool) → i < length aliases → is_new kept (alias_of (get_or aliases i d)) ≡ b
+    → with_aliases kept (map alias_of (drop i aliases))
+    ≡ with_aliases (cond b (kept ++ alias_of (get_or aliases i d) ∷ []) kept) (map alias_of (drop (i + 1) aliases))
+aliases_step kept aliases i d b within is =
+    let x = alias_of (get_or aliases i d) in
+    ap (λ s. with_aliases kept (map alias_of s)) (drop_more aliases i d within)
+    ∙ ap (λ b. with_aliases (cond b (kept ++ x ∷ []) kept) (map alias_of (drop (i + 1) aliases))) is
