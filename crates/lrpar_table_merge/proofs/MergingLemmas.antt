@@ -126,11 +126,11 @@ module _ {S : Type 0} (index : S → ℕ) where
 
   -- one more list of cores
   pub rows_push : {A : Type 0} (g : Grammar) (kernels more : List (Vec (CoreItems S) A)) (kernel : Vec (CoreItems S) A) → more ≡ kernels ++ kernel ∷ []
-      → AreCoreRows g (kernel_rows index kernels) → IsKernel g (map (core_set index) kernel.items) → AreCoreRows g (kernel_rows index more)
+      → AreCoreRows g (kernel_rows index kernels) → All (IsCoreOf g) (map (core_set index) kernel.items) → AreCoreRows g (kernel_rows index more)
   rows_push g kernels more kernel is rows one =
       let all = ap (kernel_rows index) is ∙ map_push (λ (v : Vec (CoreItems S) _). map (core_set index) v.items) kernels kernel in
       subst (AreCoreRows g) (sym all)
-      (All-push (All (IsCoreOf g)) (kernel_rows index kernels) (map (core_set index) kernel.items) rows one.cores.of_grammar)
+      (All-push (All (IsCoreOf g)) (kernel_rows index kernels) (map (core_set index) kernel.items) rows one)
 
   -- nothing is merged at first
   pub merging_none : (g : Grammar) (max limit : ℕ) (merging : Merging S) → merging.states.items ≡ [] → length merging.by_prod.items ≡ prods_len g

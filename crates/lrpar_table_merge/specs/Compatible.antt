@@ -1,6 +1,6 @@
 -- Kernels with the same LR(0) cores, and whether they are weakly compatible: the test by which states are merged. That merging such states
 -- makes no new reduce/reduce conflict is not proved here.
-use Rattle.std.specs.Prelude.{◌≡◌, ◌≢◌, ◌<◌, ◌⊎◌, ℕ, Bool, IsTrue, List, [], length, map, slice_index_or}
+use Rattle.std.specs.Prelude.{◌≡◌, ◌≢◌, ◌<◌, ◌⊎◌, ℕ, Bool, List, [], length, map, slice_index_or}
 use Rattle.lrpar_grammar.specs.Tokens.{HaveCommon}
 use Rattle.lrpar_table_items.specs.Cores.{CoreSet}
 

@@ -90,10 +90,6 @@ module _ {S : Type 0} (index : S → ℕ) where
   abbrev pub HaveKernels : Grammar → List (MergedState S) → Type 0
   HaveKernels g states = All (IsKernel g) (kernels_of index states)
 
-  -- the states keep their kernels
-  abbrev pub KeepKernels : List (MergedState S) → List (MergedState S) → Type 0
-  KeepKernels old new = kernels_of index new ≡ kernels_of index old
-
   -- two of the states have the same LR(0) cores only if they have grown from kernels that aren't weakly compatible
   abbrev pub AreSplitStates : Grammar → List (MergedState S) → Type 0
   AreSplitStates g states = AreSplit g (kernels_of index states)

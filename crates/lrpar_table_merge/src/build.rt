@@ -98,8 +98,8 @@ fn states_of<StorageT: StorageIndex>(
 {
     let _lemma = grm.start_prod();
     let mut sets = Sets::new(alloc, grm)?;
-    let mut merged = merge(alloc, grm, &mut sets, max_states)?;
-    match make_distinct_states(alloc, grm, &mut sets, &mut merged) {
+    let merged = merge(alloc, grm, &mut sets, max_states)?;
+    match make_distinct_states(alloc, grm, &mut sets, merged) {
         Ok(states) => Ok(Some(states)),
         Err(HeldFault::Misfit) => Ok(None),
         Err(HeldFault::Memory) => Err(BuildFault::Memory),

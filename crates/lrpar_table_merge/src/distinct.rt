@@ -4,19 +4,19 @@ ghost use Rattle.lrpar_grammar.specs.Grammar.{IsWellFormed};
 ghost use Rattle.lrpar_table_items.specs.StoredStates.{HasAtMost};
 ghost use Rattle.lrpar_table_items.specs.Working.{AreSets};
 ghost use Rattle.lrpar_table_merge.specs.StoredKernels.{AreDistinctKernels, AreTwins, HaveCores, IsNewAt, IsTwinOf};
-ghost use Rattle.lrpar_table_merge.specs.StoredStates.{AreStatesOf, HaveKernels, KeepKernels};
+ghost use Rattle.lrpar_table_merge.specs.StoredStates.{AreStatesOf, HaveCoresOf, HaveKernels};
 
 use crate::held::{HeldFault, Transitions};
 use crate::merge::MergedState;
 use crate::merged_states::make_merged_states;
 use crate::propagate::propagate;
-use crate::reached::{marked_kernels, marked_transitions, reached};
+use crate::reached::{keep_marked, marked_kernels, reached};
 use lrpar_grammar::grammar::YaccGrammar;
 use lrpar_grammar::span::StorageIndex;
 use lrpar_table_items::cores::{CoreItems, are_same};
 use lrpar_table_items::item_set::State;
 use lrpar_table_items::sets::Sets;
-use std::alloc::Global;
+use std::alloc::{AllocError, Global};
 
 /// The states to which transitions lead, with the lookaheads worked out anew from the start. Merging can leave two states with the same
 /// items, if kernels grow late: then the transitions to the later one lead to the earlier one, and all is worked out again.
@@ -26,28 +26,46 @@ pub(crate) fn make_distinct_states<StorageT: StorageIndex>(
     alloc: Global,
     grm: &YaccGrammar<StorageT>,
     sets: &mut Sets,
-    states: &mut [MergedState<StorageT>],
+    states: Vec<MergedState<StorageT>>,
 ) -> Result<Vec<State<StorageT>>, HeldFault>
     requires well_formed { IsWellFormed grm.now }
     requires sets { AreSets grm.now sets.old }
-    requires kernels { HaveKernels StorageT.index grm.now states.old }
-    requires fit { length states.old ≤ StorageT.limit }
+    requires kernels { HaveKernels StorageT.index grm.now states.items }
+    requires fit { length states.items ≤ StorageT.limit }
     ensures states { IfOk result (AreStatesOf StorageT.index grm.now) }
-    ensures len { IfOk result (HasAtMost (length states.old)) }
+    ensures len { IfOk result (HasAtMost (length states.items)) }
 {
+    let rounds = states.len();
+    let (mut kernels, mut all) = split_states(alloc, states)?;
     // Each round leaves out a state.
-    for _ in 0..states.len() {
-        let marks = reached(alloc, states)?;
-        let mut kernels = marked_kernels(alloc, states, &marks)?;
-        let all = marked_transitions(alloc, states, &marks)?;
+    for _ in 0..rounds {
+        let marks = reached(alloc, &all)?;
+        kernels = marked_kernels(alloc, &kernels, &marks)?;
+        keep_marked(alloc, &mut all, &marks)?;
         match propagate_states(alloc, grm, sets, &all, &mut kernels)? {
             Ok(made) => return Ok(made),
-            Err((first, second)) => {
-                redirect(states, number_at(&marks, second), number_at(&marks, first));
-            }
+            Err((first, second)) => redirect(&mut all, second, first),
         }
     }
     Err(HeldFault::Misfit)
+}
+
+// The kernels of the states, and their transitions.
+fn split_states<StorageT: StorageIndex>(
+    alloc: Global,
+    states: Vec<MergedState<StorageT>>,
+) -> Result<(Vec<Vec<CoreItems<StorageT>>>, Vec<Transitions>), AllocError>
+    ensures cores { IfOk result (λ parts. HaveCoresOf StorageT.index states.items parts.0.items) }
+    ensures len { IfOk result (λ parts. length parts.0.items ≡ length states.items) }
+{
+    let mut kernels = Vec::with_capacity(alloc, states.len())?;
+    let mut all = Vec::with_capacity(alloc, states.len())?;
+    for state in states {
+        let (kernel, transitions) = state.into_parts();
+        kernels.push(kernel)?;
+        all.push(transitions)?;
+    }
+    Ok((kernels, all))
 }
 
 // The states of the kernels, whose lookaheads are worked out anew from the start; or two of the kernels, if they are then the same.
@@ -66,6 +84,8 @@ fn propagate_states<StorageT: StorageIndex>(
     ensures states { IfOk result (λ made. IfOk made (AreStatesOf StorageT.index grm.now)) }
     ensures len { IfOk result (λ made. IfOk made (HasAtMost (length kernels.old))) }
     ensures twins { IfOk result (λ made. IfErr made (AreTwins StorageT.index kernels.new)) }
+    ensures cores { IfOk result (λ made. IfErr made (λ _. HaveCores StorageT.index grm.now kernels.new)) }
+    ensures count { length kernels.new ≡ length kernels.old }
 {
     propagate(alloc, grm, sets, all, kernels)?;
     match find_twins(kernels) {
@@ -106,35 +126,12 @@ fn find_twin<StorageT: StorageIndex>(
     None
 }
 
-// The place of a mark, of which so many are before it; if there are fewer, 0.
-fn number_at(marks: &[bool], count: usize) -> usize {
-    let mut left = count;
-    for number in 0..marks.len() {
-        if marks[number] {
-            if left == 0 {
-                return number;
-            }
-            left -= 1;
-        }
-    }
-    0
-}
-
 // Makes the transitions to a state lead to another one.
-fn redirect<StorageT: StorageIndex>(states: &mut [MergedState<StorageT>], from: usize, to: usize)
-    ensures { KeepKernels StorageT.index states.old states.new }
-{
-    for number in 0..states.len() {
-        redirect_state(&mut states[number], from, to);
+fn redirect(all: &mut Vec<Transitions>, from: usize, to: usize) {
+    for number in 0..all.len() {
+        redirect_row(&mut all[number].rules, from, to);
+        redirect_row(&mut all[number].tokens, from, to);
     }
-}
-
-// Makes the transitions of the state to one state lead to another one.
-fn redirect_state<StorageT: StorageIndex>(state: &mut MergedState<StorageT>, from: usize, to: usize)
-    ensures { state.new.kernel ≡ state.old.kernel }
-{
-    redirect_row(&mut state.transitions.rules, from, to);
-    redirect_row(&mut state.transitions.tokens, from, to);
 }
 
 // Makes the entries of the row that lead to one state lead to another one.

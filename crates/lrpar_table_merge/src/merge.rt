@@ -42,6 +42,20 @@ impl<StorageT: StorageIndex> Drop for MergedState<StorageT> {
     }
 }
 
+impl<StorageT: StorageIndex> MergedState<StorageT> {
+    /// Its kernel, and where it goes.
+    pub(crate) fn into_parts(self) -> (Vec<CoreItems<StorageT>>, Transitions)
+        ensures { result.0 ≡ self.kernel }
+    {
+        let MergedState {
+            kernel,
+            transitions,
+            waits: _waits,
+        } = self;
+        (kernel, transitions)
+    }
+}
+
 /// The states so far; and for each production the states whose kernels begin with a core of it, ascending.
 pub struct Merging<StorageT: StorageIndex> {
     pub states: Vec<MergedState<StorageT>>,

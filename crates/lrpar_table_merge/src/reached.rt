@@ -1,26 +1,22 @@
-//! The states to which transitions lead, with their kernels and their transitions.
+//! The states to which transitions lead: their kernels and their transitions are kept.
 ghost use Rattle.std.specs.Prelude.{◌≡◌, ◌≤◌, IfOk, length};
-ghost use Rattle.lrpar_table_merge.specs.StoredStates.{HaveCoresOf};
+ghost use Rattle.lrpar_table_merge.specs.StoredKernels.{KeepCores};
 
 use crate::held::Transitions;
-use crate::merge::MergedState;
 use lrpar_grammar::span::StorageIndex;
 use lrpar_table_items::cores::{CoreItems, copied};
 use std::alloc::{AllocError, Global};
 
 /// Which states transitions lead to, from state 0.
-pub(crate) fn reached<StorageT: StorageIndex>(
-    alloc: Global,
-    states: &[MergedState<StorageT>],
-) -> Result<Vec<bool>, AllocError>
-    ensures { IfOk result (λ marks. length marks.items ≡ length states.now) }
+pub(crate) fn reached(alloc: Global, all: &[Transitions]) -> Result<Vec<bool>, AllocError>
+    ensures { IfOk result (λ marks. length marks.items ≡ length all.now) }
 {
-    let mut marks = vec![in alloc; false; states.len()]?;
+    let mut marks = vec![in alloc; false; all.len()]?;
     if let Some(start) = marks.get_mut(0) {
         *start = true;
     }
-    for _ in 0..states.len() {
-        if !mark_all(states, &mut marks) {
+    for _ in 0..all.len() {
+        if !mark_all(all, &mut marks) {
             break;
         }
     }
@@ -28,16 +24,15 @@ pub(crate) fn reached<StorageT: StorageIndex>(
 }
 
 // Marks the states to which those with a mark go. Returns whether any of them had none.
-fn mark_all<StorageT: StorageIndex>(states: &[MergedState<StorageT>], marks: &mut Vec<bool>) -> bool
-    requires { length marks.old.items ≡ length states.now }
-    ensures { length marks.new.items ≡ length states.now }
+fn mark_all(all: &[Transitions], marks: &mut Vec<bool>) -> bool
+    requires { length marks.old.items ≡ length all.now }
+    ensures { length marks.new.items ≡ length all.now }
 {
     let mut marked = false;
-    for number in 0..states.len() {
+    for number in 0..all.len() {
         if marks[number] {
-            let transitions = &states[number].transitions;
-            let by_rules = mark_row(&transitions.rules, marks);
-            let by_tokens = mark_row(&transitions.tokens, marks);
+            let by_rules = mark_row(&all[number].rules, marks);
+            let by_tokens = mark_row(&all[number].tokens, marks);
             marked = marked || by_rules || by_tokens;
         }
     }
@@ -60,44 +55,51 @@ fn mark_row(row: &[Option<usize>], marks: &mut Vec<bool>) -> bool
     marked
 }
 
-/// The kernels of the states with a mark.
+/// Copies of the kernels with a mark.
 pub(crate) fn marked_kernels<StorageT: StorageIndex>(
     alloc: Global,
-    states: &[MergedState<StorageT>],
+    kernels: &[Vec<CoreItems<StorageT>>],
     marks: &[bool],
 ) -> Result<Vec<Vec<CoreItems<StorageT>>>, AllocError>
-    requires { length marks.now ≡ length states.now }
-    ensures cores { IfOk result (λ kernels. HaveCoresOf StorageT.index states.now kernels.items) }
-    ensures len { IfOk result (λ kernels. length kernels.items ≤ length states.now) }
+    ensures cores { IfOk result (λ marked. KeepCores StorageT.index kernels.now marked.items) }
+    ensures len { IfOk result (λ marked. length marked.items ≤ length kernels.now) }
 {
-    let mut kernels = Vec::new(alloc);
-    for number in 0..states.len() {
-        if marks[number] {
-            let state = &states[number];
-            let kernel = copied(alloc, &state.kernel)?;
-            kernels.push(kernel)?;
+    let mut marked = Vec::new(alloc);
+    for number in 0..kernels.len() {
+        if has_mark(marks, number) {
+            let kernel = copied(alloc, &kernels[number])?;
+            marked.push(kernel)?;
         }
     }
-    Ok(kernels)
+    Ok(marked)
 }
 
-/// The transitions of the states with a mark, which are numbered anew.
-pub(crate) fn marked_transitions<StorageT: StorageIndex>(
+// Whether there is a mark at the place.
+fn has_mark(marks: &[bool], place: usize) -> bool {
+    match marks.get(place) {
+        Some(mark) => *mark,
+        None => false,
+    }
+}
+
+/// Keeps the transitions with a mark, with the new numbers of their states. After an `Err` all are as they were.
+pub(crate) fn keep_marked(
     alloc: Global,
-    states: &[MergedState<StorageT>],
+    all: &mut Vec<Transitions>,
     marks: &[bool],
-) -> Result<Vec<Transitions>, AllocError>
-    requires { length marks.now ≡ length states.now }
-{
+) -> Result<(), AllocError> {
     let numbers = numbers_of(alloc, marks)?;
-    let mut all = Vec::new(alloc);
-    for number in 0..states.len() {
-        if marks[number] {
-            let transitions = renumbered(alloc, &states[number].transitions, &numbers)?;
-            all.push(transitions)?;
+    let mut kept = 0;
+    for number in 0..all.len() {
+        if has_mark(marks, number) {
+            renumber_row(&mut all[number].rules, &numbers);
+            renumber_row(&mut all[number].tokens, &numbers);
+            all.swap(kept, number);
+            kept += 1;
         }
     }
-    Ok(all)
+    all.truncate(kept);
+    Ok(())
 }
 
 // For each mark, how many there are before it.
@@ -113,30 +115,11 @@ fn numbers_of(alloc: Global, marks: &[bool]) -> Result<Vec<usize>, AllocError> {
     Ok(numbers)
 }
 
-// The transitions with the new numbers of the states.
-fn renumbered(
-    alloc: Global,
-    transitions: &Transitions,
-    numbers: &[usize],
-) -> Result<Transitions, AllocError> {
-    let rules = renumbered_row(alloc, &transitions.rules, numbers)?;
-    let tokens = renumbered_row(alloc, &transitions.tokens, numbers)?;
-    Ok(Transitions { rules, tokens })
-}
-
-// The row with the new numbers of its states.
-fn renumbered_row(
-    alloc: Global,
-    row: &[Option<usize>],
-    numbers: &[usize],
-) -> Result<Vec<Option<usize>>, AllocError> {
-    let mut renumbered = Vec::with_capacity(alloc, row.len())?;
-    for entry in row {
-        let next = match *entry {
-            Some(state) => numbers.get(state).copied(),
-            None => None,
-        };
-        renumbered.push(next)?;
+// Gives the states of the row their new numbers.
+fn renumber_row(row: &mut Vec<Option<usize>>, numbers: &[usize]) {
+    for place in 0..row.len() {
+        if let Some(state) = row[place] {
+            row[place] = numbers.get(state).copied();
+        }
     }
-    Ok(renumbered)
 }

@@ -1,10 +1,35 @@
-use Rattle.std.proofs.Common.{sym, subst}
-use Rattle.lrpar_table_items.specs.Next.{kernel_rows}
-use Rattle.lrpar_table_merge.specs.Merging.{AreCoreRows}
+use Rattle.std.proofs.Common.{◌≡◌, ◌∙◌, IfErr, sym, ap, subst, arith, length}
+use Rattle.lrpar_table_first.proofs.GrowthLemmas.{lent_back}
+use Rattle.lrpar_table_merge.specs.StoredKernels.{HaveCores}
 use Rattle.lrpar_table_merge.proofs.distinct.make_distinct_states.Goals as goal
+
+pub loop-init : goal.loop-init
+loop-init g c = record {
+  sets = c.requires.sets;
+  cores = c.in_ok-kernels.ensures.cores c.args.grm.now c.requires.kernels;
+  len = (let len = c.in_ok-kernels.ensures.len in omega (arith, len, c.len-rounds.ensures));
+}
 
 pub propagate_states-requires-clause-cores : goal.propagate_states-requires-clause-cores
 propagate_states-requires-clause-cores g c =
+    let index = g.StorageT.StorageIndex.index in
     let grm = c.args.grm.now in
-    subst (λ kernels. AreCoreRows grm (kernel_rows g.StorageT.StorageIndex.index kernels)) (sym c.deref_mut.ensures.value)
-    (c.in_ok-kernels.ensures.cores grm c.loop.invariant.kernels)
+    subst (HaveCores index grm) (sym c.deref_mut.ensures.value)
+    (c.in_ok-kernels-2.ensures.cores grm (subst (HaveCores index grm) (sym c.deref-in-loop.ensures.value) c.loop.invariant.cores))
+
+pub loop-preserved : goal.loop-preserved
+loop-preserved g c =
+    let index = g.StorageT.StorageIndex.index in
+    let grm = c.args.grm.now in
+    let old = c.in_ok-kernels-2.kernels.items in
+    let new = c.propagate_states.new.kernels in
+    let full : c.in_ok-kernels-2.kernels.len ≡ length old = c.in_ok-kernels-2.kernels.ok.0 in
+    let count : length new ≡ length old = c.in_ok-made.ensures.count ∙ ap (λ kernels. length kernels) c.deref_mut.ensures.value in
+    let back = lent_back old new c.in_ok-kernels-2.kernels.len (sym full) (count ∙ sym full) in
+    let fewer = c.in_ok-kernels-2.ensures.len in
+    let before = ap (λ kernels. length kernels) c.deref-in-loop.ensures.value in
+    let most = c.loop.invariant.len in record {
+      sets = c.in_ok-made.ensures.sets;
+      cores = subst (HaveCores index grm) (sym back) (subst (λ made. IfErr made (λ _. HaveCores index grm new)) c.in-Err.is c.in_ok-made.ensures.cores);
+      len = (let same = ap (λ kernels. length kernels) back in omega (arith, same, count, fewer, before, most));
+    }

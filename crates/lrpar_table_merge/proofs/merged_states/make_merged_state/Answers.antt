@@ -2,7 +2,7 @@ use Rattle.std.proofs.Common.{◌≡◌, ◌∙◌, [], arith, ap, map, subst, s
 use Rattle.lrpar_grammar.specs.Grammar.{Nonterminal, Terminal, rules_len, tokens_len}
 use Rattle.lrpar_table_rows.specs.PlainRows.{goto_entry}
 use Rattle.lrpar_table_items.specs.Canonical.{AreSame}
-use Rattle.lrpar_table_items.specs.CoreOrder.{AreCores, IsKernel}
+use Rattle.lrpar_table_items.specs.CoreOrder.{IsKernel}
 use Rattle.lrpar_table_items.specs.Cores.{IsAmong, core_set}
 use Rattle.lrpar_table_items.specs.ItemSets.{IsInClosure}
 use Rattle.lrpar_table_items.specs.Next.{kernel_at, kernel_rows}

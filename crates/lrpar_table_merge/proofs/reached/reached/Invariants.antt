@@ -3,4 +3,4 @@ use Rattle.lrpar_table_merge.proofs.reached.reached.Given as goal
 
 -- there is a mark for each state
 abbrev pub invariant-loop : goal.invariant-loop
-invariant-loop g l = length l.marks.items ≡ length l.states
+invariant-loop l = length l.marks.items ≡ length l.all
