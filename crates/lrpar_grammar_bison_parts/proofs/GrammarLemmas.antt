@@ -6,7 +6,6 @@ use Rattle.lrpar_grammar_reader.specs.TextNames.{AreSpelled}
 use Rattle.lrpar_table_precedence.specs.Precedence.{PrecedenceLists}
 use Rattle.lrpar_grammar_bison_rules.specs.Rules.{Rules}
 use Rattle.lrpar_grammar_bison_parts.specs.declared.grammar.BisonGrammar.{BisonGrammar}
-use Rattle.lrpar_grammar_bison_parts.specs.Ends.{end_in_rules}
 use Rattle.lrpar_grammar_bison_parts.specs.Files.{IsGrammarWith, file_ranks, unquoted_parts}
 use Rattle.lrpar_grammar_bison_parts.specs.Numbers.{number_fault}
 use Rattle.lrpar_grammar_bison_parts.specs.Outline.{file_outline}
@@ -39,12 +38,11 @@ module _ {S : Type 0} (index : S → ℕ) (limit : ℕ) (r : Rules) where
       }
 
   -- the grammar of a file, if its parts are those of the file's outline, without quotes
-  pub grammar_with : (g : BisonGrammar S) (x : Parts) → number_fault r.numbers ≡ None → end_in_rules r ≡ None → repeated_rank (file_ranks r) ≡ None → AreSpelled limit (file_outline r) x
+  pub grammar_with : (g : BisonGrammar S) (x : Parts) → number_fault r.numbers ≡ None → repeated_rank (file_ranks r) ≡ None → AreSpelled limit (file_outline r) x
       → parts_of index g.parts ≡ unquoted_parts x → g.precedences ≡ precedences_by x → IsGrammarWith index limit r g
-  grammar_with g x numbered none once spelled parts precedences =
+  grammar_with g x numbered once spelled parts precedences =
       record {
         numbers = numbered;
-        no_end = none;
         ranked_once = once;
         clean = spelled.clean;
         parts = parts ∙ ap unquoted_parts spelled.is;

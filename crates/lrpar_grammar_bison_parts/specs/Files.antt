@@ -14,9 +14,8 @@ use Rattle.lrpar_grammar_bison_rules.specs.declared.word_order.ItemKind.{ItemKin
 use Rattle.lrpar_grammar_bison_rules.specs.declared.word_order.ItemKind.TheVariants.{Empty}
 use Rattle.lrpar_grammar_bison_rules.specs.Rules.{AreRulesOfText, IsRulesFault, FileAlternative, FileItem, Rules}
 use Rattle.lrpar_grammar_bison_parts.specs.declared.faults.BisonFault.{BisonFault}
-use Rattle.lrpar_grammar_bison_parts.specs.declared.faults.BisonFault.TheVariants.{BadNumber, EndInRule, Grammar, Memory, NotEmpty, RepeatedEmpty, RepeatedNumber, RepeatedPrec, RepeatedPrecedence, Rules as RulesVariant}
+use Rattle.lrpar_grammar_bison_parts.specs.declared.faults.BisonFault.TheVariants.{BadNumber, Grammar, Memory, NotEmpty, RepeatedEmpty, RepeatedNumber, RepeatedPrec, RepeatedPrecedence, Rules as RulesVariant}
 use Rattle.lrpar_grammar_bison_parts.specs.declared.grammar.BisonGrammar.{BisonGrammar}
-use Rattle.lrpar_grammar_bison_parts.specs.Ends.{end_in_rules}
 use Rattle.lrpar_grammar_bison_parts.specs.Midrules.{actions_in, is_symbol}
 use Rattle.lrpar_grammar_bison_parts.specs.Numbers.{number_fault}
 use Rattle.lrpar_grammar_bison_parts.specs.Outline.{file_outline}
@@ -111,24 +110,22 @@ IsAlternativeFault alternatives found = MatchOption found (HasSoundAlternatives 
 -- these are the parts of the grammar of a file and the precedences that it declares, if its alternatives are sound
 pub record IsGrammarWith {S : Type 0} (index : S → ℕ) (limit : ℕ) (r : Rules) (g : BisonGrammar S) : Type 0 where
   pub numbers : number_fault r.numbers ≡ None
-  pub no_end : end_in_rules r ≡ None
   pub ranked_once : repeated_rank (file_ranks r) ≡ None
   pub clean : IsClean (file_outline r)
   pub parts : parts_of index g.parts ≡ unquoted_parts (quoted_parts r)
   pub sound : AreSound limit (parts_of index g.parts)
   pub precedences : g.precedences ≡ file_precedences r
 
--- the numbers of tokens have no fault, no rule is or has the token of the end, and no token has a second precedence
+-- the numbers of tokens have no fault, and no token has a second precedence
 abbrev pub HasSoundTokens : Rules → Type 0
-HasSoundTokens r = (number_fault r.numbers ≡ None) × (end_in_rules r ≡ None) × (repeated_rank (file_ranks r) ≡ None)
+HasSoundTokens r = (number_fault r.numbers ≡ None) × (repeated_rank (file_ranks r) ≡ None)
 
--- a fault of the numbers of tokens; or there is none, but a rule is or has the token of the end; or there is none, and a token has a second precedence; or none has, and the
--- declarations and rules have this fault
+-- a fault of the numbers of tokens; or there is none, and a token has a second precedence; or none has, and the declarations and rules
+-- have this fault
 abbrev pub IsPartsFault : ℕ → Rules → BisonFault → Type 0
 IsPartsFault limit r (BadNumber span) = number_fault r.numbers ≡ Some (BadNumber span)
 IsPartsFault limit r (RepeatedNumber span) = number_fault r.numbers ≡ Some (RepeatedNumber span)
-IsPartsFault limit r (EndInRule span) = (number_fault r.numbers ≡ None) × (end_in_rules r ≡ Some span)
-IsPartsFault limit r (RepeatedPrecedence span) = (number_fault r.numbers ≡ None) × (end_in_rules r ≡ None) × (repeated_rank (file_ranks r) ≡ Some span)
+IsPartsFault limit r (RepeatedPrecedence span) = (number_fault r.numbers ≡ None) × (repeated_rank (file_ranks r) ≡ Some span)
 IsPartsFault limit r (Grammar GrammarMemory) = ⊥
 IsPartsFault limit r (Grammar fault) = HasSoundTokens r × IsRefusedAs limit (file_outline r) fault
 IsPartsFault limit r Memory = Unit {0}

@@ -1,5 +1,5 @@
 -- The outline of a `.y` file: its declarations and rules as those of a grammar text.
-use Rattle.std.specs.Prelude.{◌≡◌, ◌++◌, ◌∷◌, [], Bool, true, false, ℕ, List, drop, filter, length, map, take, Vec}
+use Rattle.std.specs.Prelude.{◌≡◌, ◌++◌, ◌∷◌, [], Bool, true, false, ℕ, List, drop, filter, length, map, option_map, take, Option, Vec}
 use Rattle.std.specs.BTreeMap.{BTreeMap}
 use Rattle.std.specs.Borrow.{Bor}
 use Rattle.std.specs.List.{flat_map}
@@ -18,7 +18,7 @@ use Rattle.lrpar_grammar_bison_rules.specs.declared.word_order.ItemKind.{ItemKin
 use Rattle.lrpar_grammar_bison_rules.specs.declared.word_order.ItemKind.TheVariants.{Symbol, Prec}
 use Rattle.lrpar_grammar_bison_rules.specs.Aliases.{FileAlias, MapsAliases, alias_of, is_predefined, token_with, turned}
 use Rattle.lrpar_grammar_bison_rules.specs.Rules.{FileAlternative, FileItem, FileRank, Rules, alternative_of, rules_in}
-use Rattle.lrpar_grammar_bison_parts.specs.Ends.{end_name, without_name}
+use Rattle.lrpar_grammar_bison_parts.specs.Ends.{end_in_rules, end_name, without_name}
 use Rattle.lrpar_grammar_bison_parts.specs.Midrules.{actions_in, actions_of, filled, midrules_from, symbols_in}
 use Rattle.lrpar_grammar_bison_parts.specs.Symbols.{symbol_word, text_word}
 
@@ -50,13 +50,14 @@ declared_words r =
     map text_word r.tokens
     ++ (map (symbol_word r.aliases) (map (λ (x : FileRank). x.word) r.ranked) ++ map (symbol_word r.aliases) (flat_map declared_in r.alternatives))
 
--- the tokens of a file but for that of the end
-abbrev pub token_words : Rules → List PlacedTextWord
-token_words r = without_name (end_name r.numbers) (declared_words r)
+-- the words that declare tokens and the one that uses the token of the end; without such a one, those that don't declare that token
+abbrev pub token_words : Rules → Option PlacedWord → List PlacedTextWord
+token_words r end =
+    option_map_or (λ (w : PlacedWord). declared_words r ++ (symbol_word r.aliases w ∷ [])) end (without_name (end_name r.numbers) (declared_words r))
 
--- the tokens that have a text but for that of the end, each once
-abbrev pub epp_tokens : Rules → List PlacedTextWord
-epp_tokens r = without_name (end_name r.numbers) (named_tokens r.aliases)
+-- the tokens that have a text, each once; that of the end only if a word uses it
+abbrev pub epp_tokens : Rules → Option PlacedWord → List PlacedTextWord
+epp_tokens r end = option_map_or (λ (w : PlacedWord). named_tokens r.aliases) end (without_name (end_name r.numbers) (named_tokens r.aliases))
 
 -- the alternative of a rule for an action
 abbrev pub midrule_alternative : PlacedTextWord → TextAlternative
@@ -82,9 +83,9 @@ text_alternatives aliases midrules (x ∷ xs) =
 abbrev pub outline_by : List PlacedTextWord → Rules → TextOutline
 outline_by midrules r = record {
   starts = map text_word r.starts;
-  declared = token_words r;
-  epps = epp_tokens r;
-  epp_texts = map (text_of r.aliases) (epp_tokens r);
+  declared = token_words r (end_in_rules r);
+  epps = epp_tokens r (end_in_rules r);
+  epp_texts = map (text_of r.aliases) (epp_tokens r (end_in_rules r));
   defined = map text_word r.defined ++ midrules;
   alternatives = text_alternatives r.aliases midrules r.alternatives;
   symbols = [];
@@ -124,13 +125,13 @@ IsTextOf found token result =
 abbrev pub AreEppTexts : {A : Type 0} → List Alias → List TextWord → Vec TextWord A → Type 0
 AreEppTexts aliases tokens texts = map text_placed texts.items ≡ map (text_of (map alias_of aliases)) (map text_placed tokens)
 
--- these are the tokens that have a text, each once, but for the one with that name
-abbrev pub AreEppTokens : {A : Type 0} → List Alias → List ℕ → Vec TextWord A → Type 0
-AreEppTokens aliases end words = map text_placed words.items ≡ without_name end (named_tokens (map alias_of aliases))
+-- these are the tokens of a file that have a text, if this word uses that of the end
+abbrev pub AreEppTokens : {A : Type 0} → FileRules → Option Word → Vec TextWord A → Type 0
+AreEppTokens rules end words = map text_placed words.items ≡ epp_tokens (rules_in rules) (option_map placed end)
 
--- these are the tokens of a file but for the one with that name
-abbrev pub AreTokenWords : {A : Type 0} → FileRules → List ℕ → Vec TextWord A → Type 0
-AreTokenWords rules end words = map text_placed words.items ≡ without_name end (declared_words (rules_in rules))
+-- these are the tokens of a file, if this word uses that of the end
+abbrev pub AreTokenWords : {A : Type 0} → FileRules → Option Word → Vec TextWord A → Type 0
+AreTokenWords rules end words = map text_placed words.items ≡ token_words (rules_in rules) (option_map placed end)
 
 -- these are the words of a file that declare tokens
 abbrev pub AreDeclaredWords : {A : Type 0} → FileRules → Vec TextWord A → Type 0

@@ -1,5 +1,5 @@
-//! The token of the end of the text. Each grammar has one already, so rules can't have it.
-ghost use Rattle.std.specs.Prelude.{◌≡◌, IfOk, map};
+//! The token of the end of the text. Each grammar has one already, so it is another one only if rules use it.
+ghost use Rattle.std.specs.Prelude.{◌≡◌, IfOk, map, option_map};
 ghost use Rattle.lrpar_grammar_bison.specs.Words.{placed};
 ghost use Rattle.lrpar_grammar_words.specs.Words.{placed as text_placed};
 ghost use Rattle.lrpar_grammar_bison_rules.specs.Rules.{number_of, rules_in};
@@ -11,7 +11,6 @@ use crate::symbols::symbol_word;
 use lrpar_grammar_bison::numbers::token_number;
 use lrpar_grammar_bison::words::Word;
 use lrpar_grammar_bison_rules::rules::{Alternative, FileRules, Item, TokenNumber};
-use lrpar_grammar_places::span::Span;
 use lrpar_grammar_words::words as text;
 use std::alloc::{AllocError, Global};
 use std::collections::BTreeMap;
@@ -35,28 +34,29 @@ fn is_zero(number: &str) -> bool
     token_number(number.as_bytes()) == Some(0)
 }
 
-/// The first rule that has the name of the token of the end, or else the first symbol of a rule that is this token.
+/// The first rule that has the name of the token of the end, or else the first symbol of a rule that is this token, by its name or by its
+/// text.
 pub fn end_in_rules<'a>(
     rules: &FileRules<'a>,
     aliases: &BTreeMap<&'a str, Word<'a>>,
-) -> Option<Span>
+) -> Option<Word<'a>>
     requires { HasAliases rules.now.aliases.items aliases.now }
-    ensures { result ≡ end_in_rules (rules_in rules.now) }
+    ensures { option_map placed result ≡ end_in_rules (rules_in rules.now) }
 {
     let end = end_name(&rules.numbers);
     match rule_named(&rules.defined, end) {
-        Some(span) => Some(span),
+        Some(word) => Some(word),
         None => end_in_alternatives(&rules.alternatives, aliases, end),
     }
 }
 
 // The first of these rules with that name.
-fn rule_named(words: &[Word], name: &str) -> Option<Span>
-    ensures { result ≡ rule_named name.now (map placed words.now) }
+fn rule_named<'a>(words: &[Word<'a>], name: &str) -> Option<Word<'a>>
+    ensures { option_map placed result ≡ rule_named name.now (map placed words.now) }
 {
     for word in words {
         if word.name == name {
-            return Some(word.span());
+            return Some(*word);
         }
     }
     None
@@ -67,12 +67,12 @@ fn end_in_alternatives<'a>(
     alternatives: &[Alternative<'a>],
     aliases: &BTreeMap<&'a str, Word<'a>>,
     end: &str,
-) -> Option<Span>
+) -> Option<Word<'a>>
     ensures { HasEndInAlternatives aliases.now end.now alternatives.now result }
 {
     for alternative in alternatives {
-        if let Some(span) = end_among(&alternative.items, aliases, end) {
-            return Some(span);
+        if let Some(word) = end_among(&alternative.items, aliases, end) {
+            return Some(word);
         }
     }
     None
@@ -83,12 +83,12 @@ fn end_among<'a>(
     items: &[Item<'a>],
     aliases: &BTreeMap<&'a str, Word<'a>>,
     end: &str,
-) -> Option<Span>
+) -> Option<Word<'a>>
     ensures { HasEndAmong aliases.now end.now items.now result }
 {
     for item in items {
         if is_symbol(item.kind) && symbol_word(item.word, aliases).name == end {
-            return Some(item.word.span());
+            return Some(item.word);
         }
     }
     None

@@ -23,8 +23,6 @@ pub enum BisonFault {
     BadNumber(Span),
     /// A number of a token that has another one.
     RepeatedNumber(Span),
-    /// The token of the end of the text in a rule, or as a rule.
-    EndInRule(Span),
     /// A token whose precedence is declared a second time.
     RepeatedPrecedence(Span),
     /// A fault of the declarations and rules.

@@ -5,7 +5,6 @@ ghost use Rattle.lrpar_grammar_words.specs.Words.{placed as text_placed};
 ghost use Rattle.lrpar_grammar_bison_parts.specs.Files.{HasUnquotedTokens, IsAlternativeFault, empty_in, false_empty, has_symbol, is_empty_sign, is_filled, repeated_empty, repeated_prec, second_empty, second_prec};
 ghost use Rattle.lrpar_grammar_bison_parts.specs.Outline.{midrules_of};
 
-use crate::ends::end_in_rules;
 use crate::faults::BisonFault;
 use crate::midrules::{action_count, is_symbol, midrule_actions, midrule_names, midrule_words};
 use crate::numbers::check_numbers;
@@ -29,7 +28,8 @@ use std::alloc::{AllocError, Global};
 ///
 /// An action that isn't the last of its alternative is a rule without symbols, named `$@1` and so on. A token that is used in the place of
 /// another one's text is that one. Literals are named without their quotes, so two tokens may have one name. `error` and `YYUNDEF` are
-/// tokens if a rule uses them. The token with the number 0, or else `YYEOF`, is the end token, which has no name.
+/// tokens if a rule uses them. The token with the number 0, or else `YYEOF`, is the end token, which has no name; but if a rule uses it,
+/// it is a token like others, beside the end token.
 pub struct BisonGrammar<StorageT: StorageIndex> {
     /// The rules, tokens and productions. Productions are in the order of the file; those of rules for the actions of an alternative
     /// come right before it.
@@ -44,8 +44,9 @@ impl<StorageT: StorageIndex> BisonGrammar<StorageT> {
     /// The grammar of a file.
     ///
     /// Fails with `Rules` if its declarations and rules can't be read; else with the first of these that holds: `RepeatedPrec`,
-    /// `RepeatedEmpty`, `NotEmpty`, `BadNumber` or `RepeatedNumber`, `EndInRule`, `RepeatedPrecedence`, each at its first place, and then the
-    /// faults of a grammar text, as `Grammar`; or with `Memory`. Takes memory linear in the text, and time linear in it but for names: each is looked up in logarithmic time.
+    /// `RepeatedEmpty`, `NotEmpty`, `BadNumber` or `RepeatedNumber`, `RepeatedPrecedence`, each at its first place, and then the faults
+    /// of a grammar text, as `Grammar`; or with `Memory`. Takes memory linear in the text, and time linear in it but for names: each is
+    /// looked up in logarithmic time.
     pub fn read(alloc: Global, text: &str) -> Result<Self, BisonFault>
         ensures grammar { IfOk result (IsGrammarOfFile StorageT.index StorageT.limit text.now) }
         ensures fault { IfErr result (IsFileFault StorageT.limit text.now) }
@@ -84,9 +85,6 @@ impl<StorageT: StorageIndex> BisonGrammar<StorageT> {
     {
         check_numbers(alloc, rules)?;
         let aliases = alias_map(alloc, &rules.aliases)?;
-        if let Some(span) = end_in_rules(rules, &aliases) {
-            return Err(BisonFault::EndInRule(span));
-        }
         let ranks = rank_list(alloc, &rules.ranked, &aliases)?;
         let by_name = rank_map(alloc, &ranks)?;
         let outline = outline_of_file(alloc, rules, &aliases, midrules)?;

@@ -10,7 +10,7 @@ ghost use Rattle.lrpar_grammar_bison_parts.specs.Midrules.{actions_in, actions_o
 ghost use Rattle.lrpar_grammar_bison_parts.specs.Outline.{AppendsMidrules, AppendsSymbols, AreDeclaredWords, AreEpps, AreEppTexts, AreEppTokens, AreTokenWords, AreTextAlternatives, AreTextWords, AreTurned, IsTextAlternative, IsTextOf, declared_among, declared_in, declares, outline_by};
 ghost use Rattle.lrpar_grammar_bison_parts.specs.Symbols.{HasAliases, text_word};
 
-use crate::ends::{end_name, without_name};
+use crate::ends::{end_in_rules, end_name, without_name};
 use crate::midrules::{action_count, filled};
 use crate::symbols::{alias_map, symbol_word, text_word};
 use lrpar_grammar_bison::words::Word;
@@ -34,8 +34,8 @@ pub fn outline_of_file<'a>(
     requires midrules { length (actions_of (rules_in rules.now).alternatives) ≤ length midrules.now }
     ensures { IfOk result (λ o. outline_of o ≡ outline_by (map placed midrules.now) (rules_in rules.now)) }
 {
-    let end = end_name(&rules.numbers);
-    let epps = epp_tokens(alloc, &rules.aliases, end)?;
+    let end = end_in_rules(rules, aliases);
+    let epps = epp_tokens(alloc, rules, end)?;
     let epp_texts = texts_of(alloc, &rules.aliases, &epps)?;
     Ok(Outline {
         starts: text_words(alloc, &rules.starts)?,
@@ -74,16 +74,19 @@ fn defined<'a>(
     Ok(rules)
 }
 
-// The tokens that have a text, each once, but not the one with that name.
+// The tokens that have a text, each once; that of the end only if it is used.
 fn epp_tokens<'a>(
     alloc: Global,
-    aliases: &[Alias<'a>],
-    end: &str,
+    rules: &FileRules<'a>,
+    end: Option<Word<'a>>,
 ) -> Result<Vec<text::Word<'a>>, AllocError>
-    ensures { IfOk result (AreEppTokens aliases.now end.now) }
+    ensures { IfOk result (AreEppTokens rules.now end.entry) }
 {
-    let names = named_tokens(alloc, aliases)?;
-    without_name(alloc, names.words(), end)
+    let names = named_tokens(alloc, &rules.aliases)?;
+    match end {
+        Some(_) => Vec::from_slice(alloc, names.words()),
+        None => without_name(alloc, names.words(), end_name(&rules.numbers)),
+    }
 }
 
 // The tokens that have a text, each once.
@@ -138,18 +141,24 @@ fn turned<'a>(alloc: Global, aliases: &[Alias<'a>]) -> Result<Vec<Alias<'a>>, Al
     Ok(others)
 }
 
-// The words that declare tokens, but for the token with that name.
+// The words that declare tokens, and the one that uses the token of the end; without such a one, not those that declare it.
 fn token_words<'a>(
     alloc: Global,
     rules: &FileRules<'a>,
     aliases: &BTreeMap<&'a str, Word<'a>>,
-    end: &str,
+    end: Option<Word<'a>>,
 ) -> Result<Vec<text::Word<'a>>, AllocError>
     requires { HasAliases rules.now.aliases.items aliases.now }
-    ensures { IfOk result (AreTokenWords rules.now end.now) }
+    ensures { IfOk result (AreTokenWords rules.now end.entry) }
 {
-    let words = declared_words(alloc, rules, aliases)?;
-    without_name(alloc, &words, end)
+    let mut words = declared_words(alloc, rules, aliases)?;
+    match end {
+        Some(word) => {
+            words.push(symbol_word(word, aliases))?;
+            Ok(words)
+        }
+        None => without_name(alloc, &words, end_name(&rules.numbers)),
+    }
 }
 
 // The words that declare tokens: those of `%token`, those with a precedence, those of `%prec`, `error` and `YYUNDEF`.

@@ -5,7 +5,7 @@ use Rattle.lrpar_grammar_places.specs.Span.{Extent}
 use Rattle.lrpar_grammar_bison.specs.declared.words.Unread.{Unread}
 use Rattle.lrpar_grammar_bison.specs.declared.words.Unread.TheVariants.{Byte, Character, Code, Comment, Label, Predicate, Prologue, Tag, Text}
 use Rattle.lrpar_grammar_bison_parts.specs.declared.faults.BisonFault.{BisonFault}
-use Rattle.lrpar_grammar_bison_parts.specs.declared.faults.BisonFault.TheVariants.{BadNumber, EndInRule, Grammar, Memory, NotEmpty, RepeatedEmpty, RepeatedNumber, RepeatedPrec, RepeatedPrecedence, Rules}
+use Rattle.lrpar_grammar_bison_parts.specs.declared.faults.BisonFault.TheVariants.{BadNumber, Grammar, Memory, NotEmpty, RepeatedEmpty, RepeatedNumber, RepeatedPrec, RepeatedPrecedence, Rules}
 use Rattle.lrpar_grammar_bison_rules.specs.declared.rules.RulesFault.{RulesFault}
 use Rattle.lrpar_grammar_bison_rules.specs.declared.rules.RulesFault.TheVariants.{End, Memory as RulesMemory, Unexpected, Unread as UnreadAt}
 use Rattle.lrpar_grammar_reader.specs.declared.parts.GrammarFault.{GrammarFault}
@@ -66,7 +66,6 @@ AreBisonSpans text (RepeatedEmpty span) spans = spans ≡ span ∷ []
 AreBisonSpans text (NotEmpty span) spans = spans ≡ span ∷ []
 AreBisonSpans text (BadNumber span) spans = spans ≡ span ∷ []
 AreBisonSpans text (RepeatedNumber span) spans = spans ≡ span ∷ []
-AreBisonSpans text (EndInRule span) spans = spans ≡ span ∷ []
 AreBisonSpans text (RepeatedPrecedence span) spans = AreWithEarlier span spans
 AreBisonSpans text (Grammar fault) spans = AreNamesSpans text fault spans
 AreBisonSpans text Memory spans = ⊥

@@ -30,7 +30,11 @@ pub(crate) fn token_is_rule(alloc: Global, text: &str, span: Span) -> Result<Rep
     ensures spans { IfOk result (λ report. AreWithEarlier span (label_spans report)) }
 {
     let earlier = earlier_token(alloc, text, span)?;
-    let label = "a name is a token if it is in %token, %left and the like, or %prec";
+    let label = if earlier.is_none() && part(text, span) == "YYEOF" {
+        "this is the token of the end, also without a declaration"
+    } else {
+        "a name is a token if it is in %token, %left and the like, or %prec"
+    };
     let what = " has the name of a token";
     let report = about_word(alloc, text, span, "rule ", what, label)?;
     with_earlier(report, earlier, "it is declared here")

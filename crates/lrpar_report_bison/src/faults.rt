@@ -56,11 +56,6 @@ pub fn bison_report(alloc: Global, text: &str, fault: &BisonFault) -> Result<Rep
             let what = " is another number of its token";
             about_word(alloc, text, *span, "", what, label)
         }
-        BisonFault::EndInRule(span) => {
-            let label = "each text ends by itself after its start rule; leave it out";
-            let what = " is the end of the text, which no rule can have";
-            about_word(alloc, text, *span, "", what, label)
-        }
         BisonFault::RepeatedPrecedence(span) => repeated_level(alloc, text, *span),
         BisonFault::Grammar(fault) => names_report(alloc, text, fault),
         BisonFault::Memory => Err(AllocError),

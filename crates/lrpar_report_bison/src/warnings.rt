@@ -1,9 +1,13 @@
-//! What bison warns of in `.y` files that it takes.
+//! What to warn of in `.y` files that bison takes.
+use crate::names::rules_of;
 use crate::repeated::push_repeated;
 use crate::seen::{Seen, words_seen};
 use crate::words::push_word;
-use lrpar_grammar_bison::words::WordKind;
+use lrpar_grammar_bison::words::{Word, WordKind};
+use lrpar_grammar_bison_parts::ends::end_in_rules;
+use lrpar_grammar_bison_parts::symbols::alias_map;
 use lrpar_grammar_bison_rules::directives::Directive;
+use lrpar_grammar_bison_rules::rules::FileRules;
 use lrpar_grammar_bison_rules::signs::Sign;
 use lrpar_grammar_bison_rules::word_order::{Expected, Role, SymbolList};
 use lrpar_report_lines::Report;
@@ -12,7 +16,7 @@ use std::collections::BTreeMap;
 
 /// A warning for each thing in a `.y` file that bison takes and warns of: old directives, those that only a GLR parser has a use for, tokens
 /// and texts that are declared again, and declared names that are no symbols. Conflicts and rules of no use aren't among them, nor is what
-/// depends on types.
+/// depends on types. One more is of the token of the end in a rule, which for bison is the end itself.
 ///
 /// Takes time linear in the text, but for names: each is looked up in logarithmic time. `Err`: out of memory.
 pub fn bison_warnings(alloc: Global, text: &str) -> Result<Vec<Report>, AllocError> {
@@ -21,6 +25,7 @@ pub fn bison_warnings(alloc: Global, text: &str) -> Result<Vec<Report>, AllocErr
     push_directives(&mut reports, alloc, &seen)?;
     push_repeated(&mut reports, alloc, &seen)?;
     push_unknown_names(&mut reports, alloc, &seen)?;
+    push_end(&mut reports, alloc, text)?;
     Ok(reports)
 }
 
@@ -158,4 +163,30 @@ fn unknown_name(alloc: Global, one: &Seen<'_>) -> Result<Report, AllocError> {
     message.push_str(" is declared, but isn't used")?;
     let label = "it is no token, and no rule has this name";
     Report::warning(alloc, message.as_str())?.label(one.word.span(), label)
+}
+
+// Adds a warning for the first symbol of a rule that is the token of the end, if there is one.
+fn push_end(reports: &mut Vec<Report>, alloc: Global, text: &str) -> Result<(), AllocError> {
+    let Some(rules) = rules_of(alloc, text)? else {
+        return Ok(());
+    };
+    if let Some(word) = end_word(alloc, &rules)? {
+        reports.push(end_in_rule(alloc, word)?)?;
+    }
+    Ok(())
+}
+
+// The first symbol of a rule that is the token of the end.
+fn end_word<'a>(alloc: Global, rules: &FileRules<'a>) -> Result<Option<Word<'a>>, AllocError> {
+    let aliases = alias_map(alloc, &rules.aliases)?;
+    Ok(end_in_rules(rules, &aliases))
+}
+
+// The warning of a symbol that is the token of the end.
+fn end_in_rule(alloc: Global, word: Word<'_>) -> Result<Report, AllocError> {
+    let mut message = String::new(alloc);
+    push_word(&mut message, word.name)?;
+    message.push_str(" is the end of the text, but a rule uses it")?;
+    let label = "the parser needs it as a lexeme here";
+    Report::warning(alloc, message.as_str())?.label(word.span(), label)
 }

@@ -71,6 +71,6 @@ returns-clause-grammar g c =
     ∙ ap (λ s. prod_slots (by (token_slots (file_ranks r) x.tokens)) (map (option_map text_placed) s) (map (prod_of index) c.deref-7.result.now)) c.deref-8.ensures.value
     ∙ ap (λ s. prod_slots (by (token_slots (file_ranks r) x.tokens)) s (map (prod_of index) c.deref-7.result.now)) words
     ∙ ap (λ s. prod_slots (by (token_slots (file_ranks r) x.tokens)) (prec_words r.aliases r.alternatives) (map (prod_of index) s)) c.deref-7.ensures.value in
-    grammar_with index limit r _ x c.in_ok-check_numbers.ensures.sound (sym c.end_in_rules.ensures ∙ c.in_default.is) (sym (ap repeated_rank named) ∙ c.in_ok-by_name.ensures.distinct)
+    grammar_with index limit r _ x c.in_ok-check_numbers.ensures.sound (sym (ap repeated_rank named) ∙ c.in_ok-by_name.ensures.distinct)
     (subst (λ o. AreSpelled limit o x) same c.in_ok-parts.ensures.parts) c.in_ok-with_unquoted_tokens.ensures
     (lists_are c.from_slots.result (c.from_slots.ensures.tokens ∙ slots) (c.from_slots.ensures.prods ∙ prods))
