@@ -1,42 +1,20 @@
 //! The numbers of conflicts that a file expects.
+use crate::counts::Counts;
 use crate::declared::Declared;
 use crate::show::fault_of_report;
 use lrpar_grammar::span::Span;
 use lrpar_grammar_yacc::declarations::Number;
 use lrpar_report::{Report, Reporter};
-use lrpar_table::table::StateTable;
 use program_files::fault::Fault;
 use std::alloc::{AllocError, Global};
-
-/// How many conflicts of each kind a table has.
-#[derive(Clone, Copy)]
-pub(crate) struct Counts {
-    pub(crate) shift_reduce: usize,
-    pub(crate) reduce_reduce: usize,
-}
-
-/// The conflicts of a table.
-pub(crate) fn counts_of(stable: &StateTable<u32>) -> Counts {
-    match stable.conflicts() {
-        Some(conflicts) => Counts {
-            shift_reduce: conflicts.sr_len(),
-            reduce_reduce: conflicts.rr_len(),
-        },
-        None => Counts {
-            shift_reduce: 0,
-            reduce_reduce: 0,
-        },
-    }
-}
 
 /// Whether a file says how many conflicts it expects.
 pub(crate) fn expects_conflicts(declared: &Declared<'_>) -> bool {
     declared.expected.is_some() || declared.expected_rr.is_some()
 }
 
-/// Whether the table has the conflicts that its file expects, and no others. A file that expects nothing expects none.
-pub(crate) fn has_expected(declared: &Declared<'_>, stable: &StateTable<u32>) -> bool {
-    let counts = counts_of(stable);
+/// Whether these are the conflicts that the file expects. A file that expects nothing expects none.
+pub(crate) fn has_expected(declared: &Declared<'_>, counts: Counts) -> bool {
     number_in(declared.expected) == counts.shift_reduce
         && number_in(declared.expected_rr) == counts.reduce_reduce
 }
@@ -49,15 +27,14 @@ fn number_in(number: Option<Number>) -> usize {
     }
 }
 
-/// Refuses a table with another number of conflicts than its file expects. A file that expects conflicts of one kind alone expects none of
+/// Refuses other numbers of conflicts than the file expects. A file that expects conflicts of one kind alone expects none of
 /// the other kind; if it says nothing, any number of conflicts is right.
 pub(crate) fn expect(
     alloc: Global,
     reporter: &Reporter<'_>,
     declared: &Declared<'_>,
-    stable: &StateTable<u32>,
+    counts: Counts,
 ) -> Result<(), Fault> {
-    let counts = counts_of(stable);
     expect_number(
         alloc,
         reporter,

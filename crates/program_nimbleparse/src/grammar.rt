@@ -2,6 +2,7 @@
 ghost use Rattle.lrpar_table_rows.specs.Safe.{IsSafe};
 
 use crate::conflicts::push_conflicts;
+use crate::counts::{Counts, counts_of};
 use crate::declared::Declared;
 use crate::expects::{expect, expects_conflicts, has_expected};
 use crate::kind::GrammarKind;
@@ -69,6 +70,8 @@ pub struct GrammarTable {
     pub hidden: Option<TIdx<u32>>,
     /// Whether the file declares precedences.
     pub has_precedences: bool,
+    /// How many conflicts are left.
+    pub(crate) counts: Counts,
     /// Whether the file says how many conflicts it expects.
     pub expects_conflicts: bool,
     /// Whether something is warned of, or would be if the program weren't to be quiet.
@@ -83,6 +86,7 @@ impl Drop for GrammarTable {
             avoided,
             hidden: _,
             has_precedences: _,
+            counts: _,
             expects_conflicts: _,
             has_warnings: _,
         } = self;
@@ -117,15 +121,16 @@ fn build_table<O: Write, E: Write>(
 ) -> Result<GrammarTable, Fault> {
     let Source { grammar, declared } = source_of(alloc, reporter, text, asked.kind)?;
     let warnings = warnings_of(alloc, text, &grammar, &declared, asked)?;
-    let data = build_data(
+    let (data, counts) = build_data(
         alloc, reporter, grammar, &declared, &warnings, asked, out, err,
     )?;
-    let has_warnings = !warnings.is_empty() || !has_expected(&declared, data.stable());
+    let has_warnings = !warnings.is_empty() || !has_expected(&declared, counts);
     Ok(GrammarTable {
         data,
         avoided: Vec::from_slice(alloc, &declared.avoided)?,
         hidden: declared.hidden,
         has_precedences: declared.has_precedences,
+        counts,
         expects_conflicts: expects_conflicts(&declared),
         has_warnings,
     })
@@ -156,6 +161,7 @@ struct Built<'a> {
     grm: &'a YaccGrammar<u32>,
     sgraph: &'a StateGraph<u32>,
     stable: &'a StateTable<u32>,
+    counts: Counts,
 }
 
 // The checked table of a grammar whose conflicts are resolved by the precedences that its file declares, if it declares any.
@@ -168,21 +174,24 @@ fn build_data<O: Write, E: Write>(
     asked: Asked,
     out: &mut O,
     err: &mut E,
-) -> Result<ParserData<u32>, Fault> {
+) -> Result<(ParserData<u32>, Counts), Fault> {
     let options = TableOptions::new()
         .precedences(&declared.precedences)
         .minimiser(asked.minimiser)
         .max_states(MAX_STATES);
     match options.state_table(alloc, &grm) {
         Ok((sgraph, stable)) => {
+            let counts = counts_of(alloc, declared, &stable)?;
             let built = Built {
                 grm: &grm,
                 sgraph: &sgraph,
                 stable: &stable,
+                counts,
             };
             write_notes(alloc, reporter, built, declared, warnings, asked, out, err)?;
-            expect(alloc, reporter, declared, &stable)?;
-            check_chains(alloc, reporter, grm, sgraph, stable)
+            expect(alloc, reporter, declared, counts)?;
+            let data = check_chains(alloc, reporter, grm, sgraph, stable)?;
+            Ok((data, counts))
         }
         Err(fault) => Err(fault_of_build(alloc, reporter, &grm, fault)),
     }
@@ -219,13 +228,18 @@ fn notes_of(
     declared: &Declared<'_>,
     warnings: &[Report],
 ) -> Result<String, AllocError> {
-    let Built { grm, stable, .. } = built;
+    let Built {
+        grm,
+        stable,
+        counts,
+        ..
+    } = built;
     let mut notes = String::new(alloc);
     push_reports(&mut notes, alloc, reporter, warnings)?;
     if declared.is_glr {
         push_reports(&mut notes, alloc, reporter, &[glr_note(alloc)?])?;
     }
-    if !has_expected(declared, stable) {
+    if !has_expected(declared, counts) {
         let precedences = &declared.precedences;
         push_conflicts(&mut notes, alloc, reporter, grm, precedences, stable)?;
     }

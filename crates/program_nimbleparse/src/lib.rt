@@ -3,6 +3,7 @@
 
 mod command;
 mod conflicts;
+mod counts;
 mod declared;
 mod errors;
 mod expects;

@@ -1,5 +1,4 @@
 //! A look at a grammar alone.
-use crate::expects::counts_of;
 use crate::grammar::{GrammarFile, GrammarTable, make_table};
 use crate::sizes::{push_sizes, push_table};
 use program_files::fault::Fault;
@@ -53,8 +52,8 @@ fn table_text(
 
 // Adds a line of how many conflicts of each kind are left, and whether the file says so.
 fn push_conflicts_left(out: &mut String, table: &GrammarTable) -> Result<(), AllocError> {
-    let counts = counts_of(table.data.stable());
-    let (shifts, reductions) = (counts.shift_reduce, counts.reduce_reduce);
+    let shifts = table.counts.shift_reduce;
+    let reductions = table.counts.reduce_reduce;
     let expected = if table.expects_conflicts {
         ", as expected"
     } else {
