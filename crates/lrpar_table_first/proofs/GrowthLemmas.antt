@@ -1,7 +1,7 @@
 -- One step of the computation: what one more production begins with is added to the set of its rule.
 use Rattle.std.proofs.Common.{◌≡◌, ◌<◌, ◌≤◌, ◌+◌, ◌||◌, ◌&&◌, ◌∙◌, sym, ap, subst, inl, inr, arith, ℕ, Bool, false, List, [], ◌∷◌, ◌++◌, All, length, set, get_or, nat_lt, take, drop, IsTrue, refl}
 use Rattle.std.proofs.lemmas.Bool.{and_from, and_parts, cases_eq, cases_lt, eqb-true, false≢true, lt-ltb, or_cases, or_right}
-use Rattle.std.proofs.lemmas.List.{get_or_default, append-nil, drop_all, get_or-map, get_or-set_other, get_or-set_same, get_or_past, length-map, length-set, map-set, set-get_or, take_all}
+use Rattle.std.proofs.lemmas.List.{get_or_default, append-nil, drop_all, get_or-set_other, get_or-set_same, get_or_past, length-set, set-get_or, take_all}
 use Rattle.std.proofs.lemmas.List.Elements.{All-get_or, All-head, All-set, All-tail}
 use Rattle.std.proofs.lemmas.List.Sums.{sum_by-set}
 use Rattle.lrpar_grammar.specs.Grammar.{Grammar, GrammarSymbol, IsDeclaredSymbol, IsWellFormed, Nonterminal, Terminal, end_token, prods_len, rule_of, rules_len, start_prod, symbols_of}

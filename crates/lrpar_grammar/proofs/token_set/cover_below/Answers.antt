@@ -7,7 +7,7 @@ pub returns-then-word_below-word_of-ne0 : goal.returns-then-word_below-word_of-n
 returns-then-word_below-word_of-ne0 c = (
   λ none. absurd (cc),
   λ cover. absurd (lack_one c.args.words.now c.args.others.now c.loop-k.k c.args.end c.word_below.result c.word_of.result c.word_below.ensures
-  c.word_below.type_inv c.word_of.ensures c.word_of.type_inv c.if-word_below-word_of-ne0.true cover),
+      c.word_below.type_inv c.word_of.ensures c.word_of.type_inv c.if-word_below-word_of-ne0.true cover),
 )
 
 pub loop-k-preserved : goal.loop-k-preserved

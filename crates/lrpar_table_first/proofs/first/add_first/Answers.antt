@@ -3,7 +3,7 @@ use Rattle.lrpar_grammar.specs.Grammar.{Nonterminal}
 use Rattle.lrpar_grammar.specs.Symbols.{symbol_of}
 use Rattle.lrpar_table_first.specs.FirstRows.{IsSymbolBelow, rows_of}
 use Rattle.lrpar_grammar.specs.Tokens.{has}
-use Rattle.lrpar_table_first.proofs.RowLemmas.{rule_met, symbol_below, symbols_from, walk_on, walk_rule, walk_token, wide_at}
+use Rattle.lrpar_table_first.proofs.RowLemmas.{rule_met, symbol_below, symbols_from, walk_on, walk_rule, walk_token}
 use Rattle.lrpar_table_first.proofs.first.add_first.Goals as goal
 
 pub insert-requires : goal.insert-requires

@@ -1,4 +1,4 @@
-use Rattle.std.proofs.Common.{◌∙◌, true, false, inl, inr, sym, map}
+use Rattle.std.proofs.Common.{◌∙◌, inl, inr, sym, map}
 use Rattle.std.proofs.lemmas.Bool.{false≢true}
 use Rattle.lrpar_grammar.specs.Grammar.{rules_len, tokens_len}
 use Rattle.lrpar_grammar.specs.Symbols.{symbol_of}
