@@ -1,7 +1,6 @@
-use Rattle.std.proofs.Common.{◌≡◌, ◌<◌, ◌≤◌, ◌+◌, ◌/◌, ◌∙◌, ◌||◌, ◌&&◌, ℕ, sym, subst, arith, length, nat_lt, slice_set}
+use Rattle.std.proofs.Common.{◌<◌, ◌+◌, ◌∙◌, sym, subst, arith, length, slice_set}
 use Rattle.std.specs.Prelude.{bit_or}
 use Rattle.std.proofs.lemmas.Grind.{get_or_default_zero}
-use Rattle.lrpar_grammar.specs.Words.{token_bit, word_at}
 use Rattle.lrpar_grammar.proofs.WordLemmas.{IsUnited, united_all, unites_word}
 use Rattle.lrpar_grammar.proofs.token_set.add_below.Goals as goal
 

@@ -1,6 +1,6 @@
-use Rattle.std.proofs.Common.{◌/◌, arith, inl, inr, refl}
+use Rattle.std.proofs.Common.{◌/◌, arith, inl, inr}
 use Rattle.std.proofs.lemmas.Bool.{cases_lt}
-use Rattle.lrpar_grammar.proofs.WordLemmas.{covers_word, lack_one, past_words}
+use Rattle.lrpar_grammar.proofs.WordLemmas.{covers_word, lack_one}
 use Rattle.lrpar_grammar.proofs.token_set.cover_below.Goals as goal
 
 pub returns-then-word_below-word_of-ne0 : goal.returns-then-word_below-word_of-ne0

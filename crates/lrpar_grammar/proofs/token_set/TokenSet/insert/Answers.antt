@@ -1,4 +1,4 @@
-use Rattle.std.proofs.Common.{◌≤◌, ◌∙◌, ◌||◌, ◌==◌, sym, ap, arith, length}
+use Rattle.std.proofs.Common.{ap, arith, length}
 use Rattle.lrpar_grammar.proofs.TokenSetLemmas.{bit_stays, puts_token, room_is}
 use Rattle.lrpar_grammar.proofs.token_set.TokenSet.insert.Goals as goal
 

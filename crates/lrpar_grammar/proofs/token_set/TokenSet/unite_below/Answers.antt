@@ -1,4 +1,4 @@
-use Rattle.std.proofs.Common.{◌∙◌, ◌↔◌, ap, arith, IsTrue, length, subst, sym}
+use Rattle.std.proofs.Common.{◌↔◌, ap, arith, IsTrue, length, subst}
 use Rattle.lrpar_grammar.specs.Words.{AddsBelow, CoverBelow}
 use Rattle.lrpar_grammar.proofs.TokenSetLemmas.{below_stays, covered_same, room_is, unites, unites_more}
 use Rattle.lrpar_grammar.proofs.token_set.TokenSet.unite_below.Goals as goal
