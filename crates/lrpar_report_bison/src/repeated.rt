@@ -8,27 +8,6 @@ use lrpar_report_lines::Report;
 use std::alloc::{AllocError, Global};
 use std::collections::BTreeMap;
 
-// The places where tokens are declared first, and those of the texts that name tokens: by texts, and by tokens.
-struct Declared<'a> {
-    tokens: BTreeMap<&'a str, Span>,
-    texts: BTreeMap<&'a str, Span>,
-    named: BTreeMap<&'a str, Span>,
-}
-
-// Hand-written, so that code that drops one needs the proof of one call only.
-impl<'a> Drop for Declared<'a> {
-    fn drop(self) {
-        let Declared {
-            tokens,
-            texts,
-            named,
-        } = self;
-        drop(tokens);
-        drop(texts);
-        drop(named);
-    }
-}
-
 /// Adds a warning for each token of `%token` that is declared again, and for each text that names no token, as its token has one already or
 /// the text is another token's.
 pub(crate) fn push_repeated(
@@ -36,19 +15,23 @@ pub(crate) fn push_repeated(
     alloc: Global,
     seen: &[Seen<'_>],
 ) -> Result<(), AllocError> {
-    let mut declared = Declared {
-        tokens: BTreeMap::new(alloc),
-        texts: BTreeMap::new(alloc),
-        named: BTreeMap::new(alloc),
-    };
+    // Where tokens come first among the words; and where texts do, by themselves and by their tokens.
+    let mut tokens = BTreeMap::new(alloc);
+    let mut texts = BTreeMap::new(alloc);
+    let mut named = BTreeMap::new(alloc);
     let mut token = "";
-    for one in seen {
+    for (number, one) in seen.iter().enumerate() {
         match one.role {
             Role::Token => {
-                push_token(reports, alloc, &mut declared, one.word)?;
+                push_token(reports, alloc, seen, &mut tokens, number, one.word)?;
                 token = one.word.name;
             }
-            Role::Alias => push_text(reports, alloc, &mut declared, token, one.word)?,
+            Role::Alias => {
+                let text = one.word;
+                push_text(
+                    reports, alloc, seen, &mut texts, &mut named, token, number, text,
+                )?;
+            }
             _ => {}
         }
     }
@@ -59,15 +42,17 @@ pub(crate) fn push_repeated(
 fn push_token<'a>(
     reports: &mut Vec<Report>,
     alloc: Global,
-    declared: &mut Declared<'a>,
+    seen: &[Seen<'_>],
+    tokens: &mut BTreeMap<&'a str, usize>,
+    number: usize,
     word: Word<'a>,
 ) -> Result<(), AllocError> {
-    if let Some(first) = place_of(&declared.tokens, word.name) {
+    if let Some(first) = place_of(seen, tokens, word.name) {
         let what = " is declared again";
         let report = again(alloc, "token ", word.name, what, word.span())?;
         reports.push(report.label(first, "it is declared here")?)?;
     } else {
-        declared.tokens.insert(word.name, word.span())?;
+        tokens.insert(word.name, number)?;
     }
     Ok(())
 }
@@ -76,32 +61,34 @@ fn push_token<'a>(
 fn push_text<'a>(
     reports: &mut Vec<Report>,
     alloc: Global,
-    declared: &mut Declared<'a>,
+    seen: &[Seen<'_>],
+    texts: &mut BTreeMap<&'a str, usize>,
+    named: &mut BTreeMap<&'a str, usize>,
     token: &'a str,
+    number: usize,
     text: Word<'a>,
 ) -> Result<(), AllocError> {
-    if let Some(first) = place_of(&declared.texts, text.name) {
+    if let Some(first) = place_of(seen, texts, text.name) {
         let what = " is that of a token already";
         let report = again(alloc, "text ", text.name, what, text.span())?;
         reports.push(report.label(first, "it is declared here")?)?;
-    } else if let Some(first) = place_of(&declared.named, token) {
+    } else if let Some(first) = place_of(seen, named, token) {
         let report = again(alloc, "token ", token, " has a text already", text.span())?;
         reports.push(report.label(first, "this is its text")?)?;
     } else if token == "error" || token == "YYUNDEF" {
         reports.push(again(alloc, "token ", token, " has a text already", text.span())?)?;
     } else {
-        declared.texts.insert(text.name, text.span())?;
-        declared.named.insert(token, text.span())?;
+        texts.insert(text.name, number)?;
+        named.insert(token, number)?;
     }
     Ok(())
 }
 
-// The place that the map has for the name, if it has one.
-fn place_of(places: &BTreeMap<&str, Span>, name: &str) -> Option<Span> {
-    match places.get(name) {
-        Some(place) => Some(*place),
-        None => None,
-    }
+// The place of the word that the map has for the name, if it has one.
+fn place_of(seen: &[Seen<'_>], numbers: &BTreeMap<&str, usize>, name: &str) -> Option<Span> {
+    let number = *numbers.get(name)?;
+    let one = seen.get(number)?;
+    Some(one.word.span())
 }
 
 // A warning about something that is declared again.
