@@ -20,6 +20,7 @@ WORD = re.compile(r"[^\s(){}\[\],.;:λ→×|]+")
 ALSO_NAMED = {
     "lrpar_conflict_examples",
     "lrpar_grammar_bison_parts",
+    "lrpar_grammar_unmatched",
     "lrpar_lexer",
     "lrpar_lexer_lrlex",
     "lrpar_parse_precedences",

@@ -50,12 +50,13 @@ pub mod build {
 
 /// Recoverers: what a parse passes to one at an error point, the steps of the sequences that it returns, and the recoverers of the library.
 pub mod repair {
-    pub use lrpar_parse_completion::{Completion, NoCompletion};
+    pub use lrpar_parse_completion::{Completion, NoCompletion, TableCompletion};
     pub use lrpar_parse_cpctplus::{CostFault, CpctPlus};
     pub use lrpar_parse_repair::or::Or;
     pub use lrpar_parse_repair::repair::{
         FixedRecoverer, NoRecovery, Recoverer, RecoveryPoint, RepairStep,
     };
+    pub use lrpar_table_pops::check_completable::{Incompletable, check_completable};
 }
 
 /// What follows from the definitions: public functions that do nothing, each with a law as its contract.
@@ -85,10 +86,12 @@ pub mod laws {
     };
     pub use lrpar_parse_completion::laws::{
         completions_always_repair, completions_always_repair_over_viable_tables,
+        table_completions_always_repair,
     };
     pub use lrpar_parse_cpctplus::laws::{
-        cheapest_repairs_are_paths, cheapest_repairs_have_one_answer,
+        cheapest_repairs_are_paths, cheapest_repairs_have_one_answer, first_error_has_the_limit,
         last_steps_give_the_least_cost, no_sequence_is_cheaper_than_repairs,
+        shares_are_within_the_total,
     };
     pub use lrpar_parse_lexemes::laws::{
         pp_faults_are_compared_by_contents, repairs_are_compared_by_contents,
@@ -114,6 +117,7 @@ pub mod laws {
         merged_tables_by_precedences_are_viable, no_merged_conflicts_are_no_canonical,
         no_merged_conflicts_by_are_no_canonical,
     };
+    pub use lrpar_table_pops::laws::pops_are_completions;
     pub use lrpar_table_rows::laws::{
         changed_sum_tables_are_unsafe, sum_graph_has_items, sum_rows_are_rows, sum_table_acts,
         sum_table_is_safe, sum_table_is_table,

@@ -1,6 +1,6 @@
 -- The answer of a completion. Over its own table, if that is viable, there is a completion of the stack of an error point, and it goes on at
 -- the end, if it is inserted whole. So a nearest place is found, and its repair works.
-use Rattle.std.proofs.Common.{◌≡◌, refl, sym, subst, arith, ℕ, List, [], ◌∷◌, length, All, Option}
+use Rattle.std.proofs.Common.{◌≡◌, ◌⊎◌, inl, inr, refl, sym, subst, arith, ℕ, List, [], ◌∷◌, length, All, Option}
 use Rattle.std.specs.List.{Contains}
 use Rattle.std.proofs.lemmas.List.Elements.{All-cons, All-head, All-nil}
 use Rattle.lrpar_table_check.specs.Checked.{Checked}
@@ -114,6 +114,15 @@ module _ {X : Type 0} (token : X → ℕ) (own : Completer) (most : ℕ) (shorte
       pub found_nearest : (place inserted : ℕ) (answer : List (List PlainStep)) → IsNearest token at own.most tokens place inserted
           → answer ≡ repair_at tokens at.place place inserted ∷ [] → IsCompleted token own at answer
       found_nearest place inserted answer nearest one = completed_some tokens place inserted answer nearest one (completion_there tokens says)
+
+      -- the answer is none, or the repair at the nearest place
+      pub answered : (answer : List (List PlainStep)) (limit : ℕ) → limit ≡ own.most
+          → (NeverGoesOn token at tokens (length at.lexemes) × (answer ≡ []))
+          ⊎ ((place inserted : ℕ) × IsNearest token at limit tokens place inserted × (answer ≡ repair_at tokens at.place place inserted ∷ []))
+          → IsCompleted token own at answer
+      answered answer limit is (inl none) = subst (IsCompleted token own at) (sym none.1) (no_nearest none.0)
+      answered answer limit is (inr found) =
+          found_nearest found.0 found.1 answer (subst (λ (n : ℕ). IsNearest token at n tokens found.0 found.1) is found.2) found.3
 
 pub viable_completions_repair : {X : Type 0} → ViableCompletionsRepair X
 viable_completions_repair {X} token own viable at stop is answer completed =

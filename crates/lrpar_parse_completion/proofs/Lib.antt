@@ -8,3 +8,5 @@ pub mod ListedLemmas
 pub mod NearestLemmas
 pub mod TakeLemmas
 pub mod AnswerLemmas
+pub mod FinderLemmas
+pub mod FinishLemmas

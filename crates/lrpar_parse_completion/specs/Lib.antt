@@ -5,7 +5,10 @@ pub mod Opening
 pub mod CompleterView
 pub mod Nearest
 pub mod Trying
+pub mod Reached
+pub mod FinderView
 pub mod SearchView
 pub mod Answer
 pub mod Refused
 pub mod CompletionLaws
+pub mod TableAnswer

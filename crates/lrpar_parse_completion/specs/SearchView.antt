@@ -1,13 +1,13 @@
 -- The search for the nearest place, as contracts see it. `index` is the number that a storage number represents, and `parts` gives the
 -- parts of a lexeme.
-use Rattle.std.specs.Prelude.{◌≡◌, ◌≤◌, ℕ, Bool, List, Option, Some, None, Vec, length}
+use Rattle.std.specs.Prelude.{◌≡◌, ◌≤◌, ◌⊎◌, [], ◌∷◌, ℕ, Bool, List, Option, Some, None, Vec, length}
 use Rattle.lrpar_grammar_places.specs.declared.span.StIdx.{StIdx}
 use Rattle.lrpar_grammar_places.specs.declared.span.TIdx.{TIdx}
 use Rattle.lrpar_table_stacks.specs.Expected.{tokens_of}
 use Rattle.lrpar_table_stacks.specs.Stack.{IsStack, states_of}
 use Rattle.lrpar_parse_lexemes.specs.Lexemes.{LexemeParts}
 use Rattle.lrpar_parse_lexemes.specs.Views.{token_by}
-use Rattle.lrpar_parse_repair.specs.PlainSteps.{plain_steps}
+use Rattle.lrpar_parse_repair.specs.PlainSteps.{plain_sequences, plain_steps}
 use Rattle.lrpar_parse_repair.specs.Sequences.{CanGoOn}
 use Rattle.lrpar_parse_repair.specs.declared.repair_step.RepairStep.{RepairStep}
 use Rattle.lrpar_parse_completion.specs.Nearest.{GoesOnAt, IsNearest, repair_at}
@@ -65,3 +65,10 @@ module _ {S X : Type 0} (index : S → ℕ) where
     abbrev pub FindsNearest : Option Nearest → Type 0
     FindsNearest None = NeverGoesOn (token_by index parts) search.point.now (tokens_in search) (length search.point.now.lexemes)
     FindsNearest (Some repair) = IsNearest (token_by index parts) search.point.now search.most (tokens_in search) repair.place repair.inserted
+
+    -- the answer is the repair at the nearest place; or there is none, and a parse can't even go on at the end of the lexemes
+    abbrev pub IsNearestAnswer : {A B : Type 0} → Vec (Vec (RepairStep S) A) B → Type 0
+    IsNearestAnswer answer =
+        (NeverGoesOn (token_by index parts) search.point.now (tokens_in search) (length search.point.now.lexemes) × (plain_sequences index answer.items ≡ []))
+        ⊎ ((repair : Nearest) × IsNearest (token_by index parts) search.point.now search.most (tokens_in search) repair.place repair.inserted
+        × (plain_sequences index answer.items ≡ repair_at (tokens_in search) search.point.now.place repair.place repair.inserted ∷ []))

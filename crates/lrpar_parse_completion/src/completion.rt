@@ -18,7 +18,7 @@ use std::alloc::{AllocError, Global};
 use std::marker::Model;
 
 /// How many tokens of a completion are tried at each place, if nothing else is set.
-const MOST_TOKENS_TRIED: usize = 8;
+pub(crate) const MOST_TOKENS_TRIED: usize = 8;
 
 /// A recoverer that always repairs, over a table that is complete and viable, as each built table without conflicts is, of a grammar
 /// whose reachable rules are productive.
@@ -137,12 +137,6 @@ impl<StorageT: StorageIndex, LexemeT: Lexeme<StorageT>> Recoverer<StorageT, Lexe
             tokens: &tokens,
             most: self.most,
         };
-        let Some(repair) = search.nearest(alloc)? else {
-            return Ok(Vec::new(alloc));
-        };
-        let steps = search.steps(alloc, repair)?;
-        let mut answer = Vec::new(alloc);
-        answer.push(steps)?;
-        Ok(answer)
+        search.answer(alloc)
     }
 }

@@ -4,9 +4,12 @@
 mod completer;
 mod completion;
 mod fault;
+mod finder;
 pub mod laws;
 mod nearest;
+mod table_completion;
 mod waiting;
 
 pub use completion::Completion;
 pub use fault::NoCompletion;
+pub use table_completion::TableCompletion;

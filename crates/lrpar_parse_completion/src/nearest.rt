@@ -24,10 +24,10 @@ pub(crate) struct Search<'a, 'p, StorageT: StorageIndex, LexemeT: Lexeme<Storage
 }
 
 impl<'a, 'p, StorageT: StorageIndex, LexemeT: Lexeme<StorageT>> Search<'a, 'p, StorageT, LexemeT> {
-    ghost use Rattle.lrpar_parse_completion.specs.SearchView.{FindsNearest, FirstAt, FirstAtEnd, GoesOnBy, HasPointStack, HasStack, HasSteps, InsertsToken, TriesStacks};
+    ghost use Rattle.lrpar_parse_completion.specs.SearchView.{FindsNearest, FirstAt, FirstAtEnd, GoesOnBy, HasPointStack, HasStack, HasSteps, InsertsToken, IsNearestAnswer, TriesStacks};
 
-    /// The repair at the nearest place; of several, the one that inserts fewest tokens.
-    pub(crate) fn nearest(&self, alloc: Global) -> Result<Option<Nearest>, AllocError>
+    // The repair at the nearest place; of several, the one that inserts fewest tokens.
+    fn nearest(&self, alloc: Global) -> Result<Option<Nearest>, AllocError>
         ensures { IfOk result (FindsNearest StorageT.index LexemeT.parts self.now) }
     {
         let stacks = self.stacks(alloc)?;
@@ -159,12 +159,21 @@ impl<'a, 'p, StorageT: StorageIndex, LexemeT: Lexeme<StorageT>> Search<'a, 'p, S
         engine.can_go_on(&mut states, place)
     }
 
-    /// The steps of the repair: the inserted tokens, and then a deletion of each lexeme before its place.
-    pub(crate) fn steps(
-        &self,
-        alloc: Global,
-        repair: Nearest,
-    ) -> Result<Vec<RepairStep<StorageT>>, AllocError>
+    /// The answer: the steps of the repair at the nearest place, if there is one.
+    pub(crate) fn answer(&self, alloc: Global) -> Result<Vec<Vec<RepairStep<StorageT>>>, AllocError>
+        ensures { IfOk result (IsNearestAnswer StorageT.index LexemeT.parts self.now) }
+    {
+        let mut answer = Vec::new(alloc);
+        let Some(repair) = self.nearest(alloc)? else {
+            return Ok(answer);
+        };
+        let steps = self.steps(alloc, repair)?;
+        answer.push(steps)?;
+        Ok(answer)
+    }
+
+    // The steps of the repair: the inserted tokens, and then a deletion of each lexeme before its place.
+    fn steps(&self, alloc: Global, repair: Nearest) -> Result<Vec<RepairStep<StorageT>>, AllocError>
         requires inserted { repair.inserted ≤ length self.now.tokens.now }
         requires after { self.now.point.now.place ≤ repair.place }
         ensures { IfOk result (HasSteps StorageT.index self.now repair) }

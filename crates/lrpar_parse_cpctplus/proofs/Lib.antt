@@ -40,3 +40,4 @@ pub mod SharedLemmas
 pub mod SearchLemmas
 pub mod RecoverLemmas
 pub mod AvoidLemmas
+pub mod BudgetLemmas

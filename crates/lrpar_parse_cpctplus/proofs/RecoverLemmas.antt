@@ -68,20 +68,21 @@ module _ {X : Type 0} (token : X → ℕ) (settings : Settings) (at : Asked X) w
   nothing_listed none = none_found_listed token settings at (λ c found. none c found.least found.within)
 
 -- what is found, for the settings and the error point: the links and the last steps from which repairs are listed
-module _ {S X : Type 0} (index : S → ℕ) (parts : X → LexemeParts S) (search : Search S X) (settings : Settings) (at : Asked X) (linked : Linked S)
-    (by : search.terms.now ≡ settings) (point : search.point.now ≡ at) (is : IsFoundWith index parts search linked) where
-  found_for : IsFoundBy (token_by index parts) settings.costs at settings.limit is.nodes (plain_graph index linked).links (plain_graph index linked).endings
+module _ {S X : Type 0} (index : S → ℕ) (parts : X → LexemeParts S) (search : Search S X) (settings : Settings) (at : Asked X) (limit : ℕ) (linked : Linked S)
+    (by : search.terms.now ≡ settings) (point : search.point.now ≡ at) (keeps : search.limit ≡ limit) (is : IsFoundWith index parts search linked) where
+  found_for : IsFoundBy (token_by index parts) settings.costs at limit is.nodes (plain_graph index linked).links (plain_graph index linked).endings
   found_for =
       let token = token_by index parts in
       let ls = plain_links index linked.links.items in
       let es = plain_endings index linked.endings.items in
-      let first = subst (λ (a : Asked X). IsFoundBy token search.terms.now.costs a search.terms.now.limit is.nodes ls es) point is.found in
-      subst (λ (s : Settings). IsFoundBy token s.costs at s.limit is.nodes ls es) by first
+      let first = subst (λ (a : Asked X). IsFoundBy token search.terms.now.costs a search.limit is.nodes ls es) point is.found in
+      let second = subst (λ (s : Settings). IsFoundBy token s.costs at search.limit is.nodes ls es) by first in
+      subst (λ (n : ℕ). IsFoundBy token settings.costs at n is.nodes ls es) keeps second
 
   pub linked_numbered : AreNumbered linked
-  linked_numbered = found_numbered (token_by index parts) settings at index linked is.nodes is.count found_for
+  linked_numbered = found_numbered (token_by index parts) (record settings { limit = limit }) at index linked is.nodes is.count found_for
 
   pub linked_listed : (repairs : List (List PlainStep)) → IsStop (token_by index parts) at → AreCosts settings.costs
-      → AreRankedIn settings (plain_graph index linked) repairs → AreListed (token_by index parts) settings at repairs
+      → AreRankedIn settings (plain_graph index linked) repairs → AreListed (token_by index parts) (record settings { limit = limit }) at repairs
   linked_listed repairs stop each ranked =
-      found_listed (token_by index parts) settings at is.nodes (plain_graph index linked) repairs stop each is.count found_for ranked
+      found_listed (token_by index parts) (record settings { limit = limit }) at is.nodes (plain_graph index linked) repairs stop each is.count found_for ranked

@@ -59,13 +59,13 @@ module _ {S X : Type 0} (index : S → ℕ) (parts : X → LexemeParts S) (searc
   -- or it exceeds the limit after one step more
   pub exceeds : (first : ℕ) {Done Next : ℕ → PlainStep → Type 0} (stacks : Shared) (graph : Graph S) (mid_stacks : Shared) (mid : Graph S) (new_stacks : Shared)
       (new_graph : Graph S) → IsGrowingBy index parts search stacks graph first → GrowsBy index parts search first Done stacks graph mid_stacks mid
-      → GrowsBy index parts search first Next mid_stacks mid new_stacks new_graph → search.terms.now.limit < length new_graph.configurations.keys
+      → GrowsBy index parts search first Next mid_stacks mid new_stacks new_graph → search.limit < length new_graph.configurations.keys
       → ExceedsBy index parts search new_stacks new_graph × (new_graph.firsts ≡ graph.firsts)
   exceeds first stacks graph mid_stacks mid new_stacks new_graph growing grows step more =
       let own = rw grows.firsts at step.grown in (
         record {
           held = step.held;
-          past = past_limit (token_by index parts) search.terms.now.costs search.point.now first (length graph.firsts.items - 1) search.terms.now.limit
+          past = past_limit (token_by index parts) search.terms.now.costs search.point.now first (length graph.firsts.items - 1) search.limit
               (nodes_of new_stacks new_graph) (plain_links index new_graph.links.items) own.growing growing.least
               (omega (arith, more, nodes_len new_stacks.stacks new_graph.configurations.keys));
         },

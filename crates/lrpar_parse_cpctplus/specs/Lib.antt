@@ -9,6 +9,7 @@ pub mod Order
 pub mod Configurations
 pub mod LinkPaths
 pub mod Listing
+pub mod Budget
 pub mod Ways
 pub mod Graph
 pub mod Forming

@@ -1,5 +1,5 @@
 -- The repairs that are listed at an error point: the first ones in an order, of those of least cost.
-use Rattle.std.specs.Prelude.{◌≡◌, ◌<◌, ◌≤◌, ◌↔◌, ◌⊎◌, ℕ, Bool, false, IsTrue, List, [], ◌∷◌, Vec, length, slice_index_or}
+use Rattle.std.specs.Prelude.{◌≡◌, ◌<◌, ◌≤◌, ◌↔◌, ◌⊎◌, ℕ, Bool, false, IsTrue, List, [], ◌∷◌, Option, None, Vec, length, slice_index_or}
 use Rattle.std.specs.List.{All, AllPairs, Contains}
 use Rattle.lrpar_grammar_places.specs.declared.span.TIdx.{TIdx}
 use Rattle.lrpar_grammar.specs.Grammar.{Grammar, tokens_len}
@@ -13,11 +13,12 @@ use Rattle.lrpar_parse_cpctplus.specs.Order.{IsEarlier}
 use Rattle.lrpar_parse_cpctplus.specs.Reaching.{GoesAsFar}
 use Rattle.lrpar_parse_cpctplus.specs.Said.{AreSaid, said_by}
 
--- How a recoverer is set: how many configurations a search may keep; what each token costs, by its number, where a token past these
+-- How a recoverer is set: how many configurations a search may keep, and all searches of a parse together; what each token costs, by its number, where a token past these
 -- costs 1; which tokens are to be avoided, by their numbers; how many repairs are listed at most; and whether all repairs of least
 -- cost are listed, or only those after which a parse goes on furthest.
 pub record Settings : Type 0 where
   pub limit : ℕ
+  pub total : Option ℕ
   pub costs : List ℕ
   pub avoided : List Bool
   pub most : ℕ
@@ -25,7 +26,7 @@ pub record Settings : Type 0 where
 
 -- a limit and what tokens cost; nothing else is set
 abbrev pub settings_with : ℕ → List ℕ → Settings
-settings_with limit costs = record { limit = limit; costs = costs; avoided = []; most = 100; lists_all = false }
+settings_with limit costs = record { limit = limit; total = None; costs = costs; avoided = []; most = 100; lists_all = false }
 
 -- the settings have this limit and these costs, and nothing else is set
 abbrev pub HasCosts : {A : Type 0} → ℕ → Vec ℕ A → Settings → Type 0

@@ -64,7 +64,7 @@ module _ {S X : Type 0} (search : Search S X) where
 
   -- the graph has no more configurations than the limit allows
   abbrev pub IsWithinLimit : Graph S → Type 0
-  IsWithinLimit graph = length graph.configurations.keys ≤ search.terms.now.limit
+  IsWithinLimit graph = length graph.configurations.keys ≤ search.limit
 
 module _ {S X : Type 0} (index : S → ℕ) (search : Search S X) where
   -- these are the tokens at which the top state of the configuration's stack has an action, ascending
@@ -187,7 +187,7 @@ module _ {S X : Type 0} (index : S → ℕ) (parts : X → LexemeParts S) (searc
   -- there are more configurations than may be kept
   pub record ExceedsBy (stacks : Shared) (graph : Graph S) : Type 0 where
     pub held : AreHeldBy search stacks graph
-    pub past : IsPastLimit (token_by index parts) search.terms.now.costs search.point.now search.terms.now.limit (nodes_of stacks graph)
+    pub past : IsPastLimit (token_by index parts) search.terms.now.costs search.point.now search.limit (nodes_of stacks graph)
 
   -- by the steps that have `Done` one graph has become another one, within the limit; or there are more configurations than may be kept
   abbrev pub GrowsOrExceeds : ℕ → (ℕ → PlainStep → Type 0) → Shared → Graph S → Shared → Graph S → Bool → Type 0
@@ -218,20 +218,20 @@ module _ {S X : Type 0} (index : S → ℕ) (parts : X → LexemeParts S) (searc
 
   -- nothing is found
   abbrev pub IsNotFound : Type 0
-  IsNotFound = IsNothingFound (token_by index parts) search.terms.now.costs search.point.now search.terms.now.limit
+  IsNotFound = IsNothingFound (token_by index parts) search.terms.now.costs search.point.now search.limit
 
   -- these last steps are found with the graph, or nothing is found
   abbrev pub IsSearchResult : {A : Type 0} → Shared → Graph S → Option (Vec (Ending S) A) → Type 0
   IsSearchResult stacks graph None = IsNotFound
   IsSearchResult stacks graph (Some endings) =
-      IsFoundBy (token_by index parts) search.terms.now.costs search.point.now search.terms.now.limit (nodes_of stacks graph)
+      IsFoundBy (token_by index parts) search.terms.now.costs search.point.now search.limit (nodes_of stacks graph)
       (plain_links index graph.links.items) (plain_endings index endings.items)
 
   -- how many configurations are found, the links between them, and the last steps
   pub record IsFoundWith (linked : Linked S) : Type 0 where
     pub nodes : List Configured
     pub count : linked.len ≡ length nodes
-    pub found : IsFoundBy (token_by index parts) search.terms.now.costs search.point.now search.terms.now.limit nodes
+    pub found : IsFoundBy (token_by index parts) search.terms.now.costs search.point.now search.limit nodes
         (plain_links index linked.links.items) (plain_endings index linked.endings.items)
 
   -- what is found

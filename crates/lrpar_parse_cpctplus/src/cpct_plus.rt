@@ -1,16 +1,18 @@
 //! The recoverer CPCT+, which returns the repairs of least cost.
-ghost use Rattle.std.specs.Prelude.{◌≡◌, ◌↔◌, [], true, IfErr, IfOk, IfSome, IsNone, IsTrue, OnOk};
+ghost use Rattle.std.specs.Prelude.{◌≡◌, ◌↔◌, [], true, IfErr, IfOk, IfSome, IsNone, IsTrue, OnOk, Some};
 ghost use Rattle.std.specs.List.{Contains};
 ghost use Rattle.lrpar_grammar.specs.Grammar.{tokens_len};
 ghost use Rattle.lrpar_table_stacks.specs.Expected.{tokens_of};
 ghost use Rattle.lrpar_parse_lexemes.specs.Views.{token_by};
 ghost use Rattle.lrpar_parse_repair.specs.PlainSteps.{plain_sequences};
+ghost use Rattle.lrpar_parse_cpctplus.specs.Budget.{AreListedWithin, IsLimitAt};
 ghost use Rattle.lrpar_parse_cpctplus.specs.Costs.{AreCosts, items_of, token_cost};
-ghost use Rattle.lrpar_parse_cpctplus.specs.Listing.{AreAvoided, AreListed, Avoids, AvoidsAlso, HasCosts, HasOnlyCosts, HasSaidCosts, KeepsOthers, settings_with};
+ghost use Rattle.lrpar_parse_cpctplus.specs.Listing.{AreAvoided, Avoids, AvoidsAlso, HasCosts, HasOnlyCosts, HasSaidCosts, KeepsOthers, settings_with};
 ghost use Rattle.lrpar_parse_cpctplus.specs.Refused.{IsFirstFree, IsFreeToken, IsFreeTokenBy};
 ghost use Rattle.lrpar_parse_cpctplus.specs.Said.{AreSaid, said_by};
 ghost use Rattle.lrpar_parse_cpctplus.specs.SearchRound.{AreAllIn, AreOnce, AreWeights};
 
+use crate::budget::share_of;
 use crate::fault::CostFault;
 use crate::listing::{Wanted, first_repairs};
 use crate::search::Search;
@@ -30,7 +32,7 @@ const MOST_REPAIRS_LISTED: usize = 100;
 /// The search adds what can be reached from the error point, one cost after the other: configurations, each a stack of states and a
 /// place among the lexemes. Each is kept once, however many sequences lead to it. The search ends at the least cost of a repair. The
 /// limit bounds the configurations that are nearer than that, over the whole search at one error point. If there are more of them,
-/// nothing is found.
+/// nothing is found. `within` bounds them over all error points of a parse, too.
 ///
 /// Of the cheapest repairs those are listed after which a parse goes on furthest, up to 250 places past the error point. First come
 /// those that insert no token to be avoided, then those of fewer steps. Of as many steps, the first step that differs decides: an Insert
@@ -39,6 +41,8 @@ const MOST_REPAIRS_LISTED: usize = 100;
 #[derive(Debug)]
 pub struct CpctPlus {
     limit: usize,
+    /// How many configurations all searches of a parse may keep.
+    total: Option<usize>,
     costs: Option<Vec<u8>>,
     /// Whether a token is to be avoided, by its number.
     avoided: Option<Vec<bool>>,
@@ -50,6 +54,7 @@ impl Drop for CpctPlus {
     fn drop(self) {
         let CpctPlus {
             limit: _,
+            total: _,
             costs,
             avoided,
             most: _,
@@ -68,6 +73,7 @@ impl Model for CpctPlus {
 
     ghost view = { λ c. record {
       limit = c.limit;
+      total = c.total;
       costs = items_of c.costs;
       avoided = items_of c.avoided;
       most = c.most;
@@ -93,6 +99,7 @@ impl CpctPlus {
     {
         CpctPlus {
             limit,
+            total: None,
             costs,
             avoided: None,
             most: MOST_REPAIRS_LISTED,
@@ -144,6 +151,23 @@ impl CpctPlus {
     {
         self.avoided = Some(avoided_by(alloc, tokens)?);
         Ok(self)
+    }
+
+    /// All searches of a parse together may keep `total` configurations. Its first error may use as many as the limit, and the places
+    /// after it share the rest evenly, up to the limit each.
+    ///
+    /// Most texts have one error or few, and the first is read first: so it is repaired as without a total, if that is no less than the
+    /// limit. Each place after it may be an error's, and nothing that a search knows tells which ones are, so they are equal. The
+    /// cheapest repair of cost 1 takes one configuration, and each step more about ten times as many, so a small share finds most.
+    ///
+    /// To know the first error, a search feeds the lexemes up to it once more. It does so up to place 8 · (`total` / lexemes), and takes
+    /// each error past that for a later one: so no more than some eight lexemes are fed for each configuration of the total. Allocates
+    /// nothing itself.
+    pub fn within(mut self, total: usize) -> Self
+        ensures { result ≡ record self { total = Some total } }
+    {
+        self.total = Some(total);
+        self
     }
 
     /// At most so many repairs are listed: the first ones. Allocates nothing.
@@ -203,12 +227,26 @@ impl CpctPlus {
         }
     }
 
-    /// How many configurations may be nearer than the cheapest repairs.
+    /// How many configurations may be nearer than the cheapest repairs, if nothing bounds the searches of a parse together.
     pub(crate) fn limit(&self) -> usize
         ensures limit { result ≡ self.now.limit }
         ensures costs { AreCosts self.now.costs }
     {
         self.limit
+    }
+
+    // How many configurations may be nearer than the cheapest repairs at the error point.
+    fn limit_at<StorageT: StorageIndex, LexemeT: Lexeme<StorageT>>(
+        &self,
+        alloc: Global,
+        point: &RecoveryPoint<'_, StorageT, LexemeT>,
+    ) -> Result<usize, AllocError>
+        ensures { IfOk result (IsLimitAt (token_by StorageT.index LexemeT.parts) self.now point.now) }
+    {
+        match self.total {
+            None => Ok(self.limit),
+            Some(total) => share_of(alloc, self.limit, total, point),
+        }
     }
 }
 
@@ -317,19 +355,20 @@ fn first_free(costs: &[u8]) -> Option<usize>
 }
 
 impl<StorageT: StorageIndex, LexemeT: Lexeme<StorageT>> Recoverer<StorageT, LexemeT> for CpctPlus {
-    ghost allows = { λ settings at answer. AreListed (token_by StorageT.index LexemeT.parts) settings at answer };
+    ghost allows = { λ settings at answer. AreListedWithin (token_by StorageT.index LexemeT.parts) settings at answer };
 
     fn recover(
         &self,
         alloc: Global,
         point: &RecoveryPoint<'_, StorageT, LexemeT>,
     ) -> Result<Vec<Vec<RepairStep<StorageT>>>, AllocError>
-        ensures allowed { IfOk result (λ answer. AreListed (token_by StorageT.index LexemeT.parts) self.now point.now
+        ensures allowed { IfOk result (λ answer. AreListedWithin (token_by StorageT.index LexemeT.parts) self.now point.now
             (plain_sequences StorageT.index answer.items)) }
     {
         // Each token costs something, and some lexeme has to follow a repair.
         let (_lemma, _second_lemma) = (self.limit(), point.shifts());
-        let search = Search::new(point, self);
+        let limit = self.limit_at(alloc, point)?;
+        let search = Search::new(point, self, limit);
         let Some(linked) = search.run(alloc)? else {
             return Ok(Vec::new(alloc));
         };

@@ -1,6 +1,7 @@
 //! The recoverer CPCT+: a search for the repairs of least cost.
 #![tactic(auto)]
 
+mod budget;
 mod counts;
 mod cpct_plus;
 mod fault;

@@ -3,7 +3,7 @@ ghost use Rattle.std.specs.Prelude.{◌≡◌, ◌<◌, ◌≤◌, ◌+◌, ◌�
 ghost use Rattle.std.specs.List.Sorted.{IsStrictlyIncreasing};
 ghost use Rattle.lrpar_table_stacks.specs.Expected.{tokens_of};
 ghost use Rattle.lrpar_table_stacks.specs.SharedStacks.{Extends};
-ghost use Rattle.lrpar_parse_cpctplus.specs.Costs.{token_cost};
+ghost use Rattle.lrpar_parse_cpctplus.specs.Costs.{AreCosts, token_cost};
 ghost use Rattle.lrpar_parse_cpctplus.specs.SearchRound.{AreWeights};
 
 use crate::cpct_plus::CpctPlus;
@@ -23,11 +23,12 @@ const FURTHEST: usize = 250;
 /// The most that a token costs.
 const DEAREST: usize = 255;
 
-/// An error point, and what steps cost there.
+/// An error point, what steps cost there, and how many configurations may be kept.
 #[derive(Drop)]
 pub(crate) struct Search<'a, 'p, StorageT: StorageIndex, LexemeT: Lexeme<StorageT>> {
     point: &'a RecoveryPoint<'p, StorageT, LexemeT>,
     terms: &'a CpctPlus,
+    limit: usize,
 }
 
 /// A step that is tried, from the configuration with this number.
@@ -40,12 +41,21 @@ pub(crate) struct Attempt<StorageT: Copy> {
 impl<'a, 'p, StorageT: StorageIndex, LexemeT: Lexeme<StorageT>> Search<'a, 'p, StorageT, LexemeT> {
     ghost use Rattle.lrpar_parse_cpctplus.specs.RoundView.{AddsAttemptsAt, AddsAttemptsOf, AddsDelete, AddsEnding, AddsInserts, AreAttemptsBy, AreDueBy, AreEndingsBy, AreHeldBy, AreNextTokens, GrowsByAttempts, GrowsByShifts, GrowsByStep, HasLevels, HasNoShifts, IsAddedLevel, IsDueBy, IsEngineOf, IsFoundIn, IsGrowingBy, IsHeldBy, IsNextLeast, IsReachBy, IsSearchResult, IsRoundBy, IsWithinLimit, LeadsBy, ReachesBy, TellsGoingOn, token_there};
 
-    /// The search at this error point, by these terms.
-    pub(crate) fn new(point: &'a RecoveryPoint<'p, StorageT, LexemeT>, terms: &'a CpctPlus) -> Self
+    /// The search at this error point, by these terms, within this limit.
+    pub(crate) fn new(
+        point: &'a RecoveryPoint<'p, StorageT, LexemeT>,
+        terms: &'a CpctPlus,
+        limit: usize,
+    ) -> Self
         ensures point { result.point.now ≡ point.now }
         ensures terms { result.terms.now ≡ terms.now }
+        ensures limit { result.limit ≡ limit }
     {
-        Search { point, terms }
+        Search {
+            point,
+            terms,
+            limit,
+        }
     }
 
     /// Runs the search. It finds nothing if there is no repair, or if more configurations than the limit are nearer than its least cost.
@@ -57,7 +67,7 @@ impl<'a, 'p, StorageT: StorageIndex, LexemeT: Lexeme<StorageT>> Search<'a, 'p, S
         let (stack, place) = (stacks.number(), self.point.place());
         let mut graph = Graph::new(alloc, Configuration { stack, place })?;
         // Each token costs something.
-        let _lemma = self.terms.limit();
+        let _lemma = self.limit();
         match self.run_rounds(alloc, &mut stacks, &mut graph, &weights)? {
             Some(endings) => Ok(Some(Linked {
                 len: graph.len(),
@@ -80,7 +90,7 @@ impl<'a, 'p, StorageT: StorageIndex, LexemeT: Lexeme<StorageT>> Search<'a, 'p, S
         requires weights { AreWeights self.now.terms.now.costs weights.now }
         ensures { IfOk result (IsSearchResult StorageT.index LexemeT.parts self.now stacks.new graph.new) }
     {
-        let limit = self.terms.limit();
+        let limit = self.limit();
         // The point is an error point.
         let _lemma = self.point.shifts();
         if limit < graph.len() {
@@ -299,7 +309,7 @@ impl<'a, 'p, StorageT: StorageIndex, LexemeT: Lexeme<StorageT>> Search<'a, 'p, S
         ensures { IfOk result (IsAddedLevel StorageT.index LexemeT.parts self.now stacks.old graph.old stacks.new graph.new) }
     {
         // Each token costs something.
-        let _lemma = self.terms.limit();
+        let _lemma = self.limit();
         let first = graph.len();
         graph.begin_level()?;
         if self.add_reached(stacks, graph, first, attempts)? {
@@ -323,7 +333,7 @@ impl<'a, 'p, StorageT: StorageIndex, LexemeT: Lexeme<StorageT>> Search<'a, 'p, S
     {
         for attempt in attempts {
             self.add_step(stacks, graph, first, attempt.from, attempt.step)?;
-            if self.terms.limit() < graph.len() {
+            if self.limit() < graph.len() {
                 return Ok(false);
             }
         }
@@ -344,7 +354,7 @@ impl<'a, 'p, StorageT: StorageIndex, LexemeT: Lexeme<StorageT>> Search<'a, 'p, S
         let mut from = first;
         'shifts: while from < graph.len() {
             self.add_step(stacks, graph, first, from, RepairStep::Shift)?;
-            if self.terms.limit() < graph.len() {
+            if self.limit() < graph.len() {
                 return Ok(false);
             }
             from += 1;
@@ -456,6 +466,16 @@ impl<'a, 'p, StorageT: StorageIndex, LexemeT: Lexeme<StorageT>> Search<'a, 'p, S
         }
         let ends = engine.try_accept(stacks)?;
         Ok(most.min(end) as u128 + u128::from(ends))
+    }
+
+    // How many configurations may be kept.
+    fn limit(&self) -> usize
+        ensures limit { result ≡ self.now.limit }
+        ensures costs { AreCosts self.now.terms.now.costs }
+    {
+        // Each token costs something.
+        let _lemma = self.terms.limit();
+        self.limit
     }
 
     // What the token costs.

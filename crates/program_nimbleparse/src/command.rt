@@ -66,7 +66,8 @@ rule has a type; else of the kind original or bison, the first that it can be re
 
 const LONG_HELP_OF_LIMIT: &str = "\
 Find no repairs at an error if more than N configurations, a stack and a place in the input each,
-can be reached at less cost than the cheapest repairs. 0 finds none. With -r none it is an error";
+can be reached at less cost than the cheapest repairs. 0 finds none. All errors of an input may use
+500 times N. With -r none it is an error";
 
 /// Which repairs are searched for.
 #[derive(Clone, Copy)]

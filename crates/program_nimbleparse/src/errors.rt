@@ -5,8 +5,8 @@ use lrpar_grammar::grammar::YaccGrammar;
 use lrpar_grammar::span::TIdx;
 use lrpar_lexer::{NoToken, Token};
 use lrpar_parse_errors::errors::ParseError;
-use lrpar_parse_lexemes::lex_api::LexError;
-use lrpar_report::{Reporter, lexing_report, push_repairs, unexpected_report};
+use lrpar_parse_lexemes::lex_api::{LexError, Lexeme};
+use lrpar_report::{Report, Reporter, lexing_report, push_repairs, unexpected_report};
 use std::alloc::{AllocError, Global};
 
 /// How many repairs of an error are shown.
@@ -22,6 +22,8 @@ pub(crate) struct Subject<'a> {
     pub(crate) input: &'a str,
     /// The tokens that may come at the error.
     pub(crate) expected: &'a [TIdx<u32>],
+    /// The token of text that no line of the lexer takes, if there is one.
+    pub(crate) unmatched: Option<TIdx<u32>>,
 }
 
 /// Adds the message of a lexing error.
@@ -55,17 +57,50 @@ pub(crate) fn push_parse_error(
     recovery: Recovery,
     error: &ParseError<Token<u32>, u32>,
 ) -> Result<(), AllocError> {
-    let Subject {
-        grm,
-        input,
-        expected,
-    } = *subject;
-    let report = unexpected_report(alloc, grm, input, error.lexeme(), expected)?;
+    let report = report_of(alloc, subject, error.lexeme())?;
     reporter.push(out, alloc, &report)?;
     if error.repairs().is_empty() {
         push_no_repairs(out, recovery)
     } else {
         push_listed(out, subject, error)
+    }
+}
+
+// The report of a lexeme that wasn't expected, and what was. If the lexer has no token for the lexeme, its label says so.
+fn report_of(
+    alloc: Global,
+    subject: &Subject<'_>,
+    lexeme: &Token<u32>,
+) -> Result<Report, AllocError> {
+    let Subject {
+        grm,
+        input,
+        expected,
+        unmatched,
+    } = *subject;
+    let report = unexpected_report(alloc, grm, input, lexeme, expected)?;
+    if unmatched != Some(TIdx(lexeme.tok_id())) {
+        return Ok(report);
+    }
+    let mut label = String::from_str(alloc, "LEXER gives no token here")?;
+    push_number(&mut label, part_of_lexeme(input, lexeme))?;
+    with_label_text(report, label.as_str())
+}
+
+// The part of the input that is the lexeme.
+fn part_of_lexeme<'a>(input: &'a str, lexeme: &Token<u32>) -> &'a str {
+    let span = lexeme.span();
+    input.get(span.start()..span.end()).unwrap_or("")
+}
+
+// Adds the number of the first character of the text, if it isn't a visible one of ASCII.
+fn push_number(out: &mut String, text: &str) -> Result<(), AllocError> {
+    match text.chars().next() {
+        Some(c) if !c.is_ascii_graphic() => {
+            let number = u32::from(c);
+            write!(out, " (U+{number:04X})")
+        }
+        Some(_) | None => Ok(()),
     }
 }
 

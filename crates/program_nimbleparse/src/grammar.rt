@@ -10,6 +10,7 @@ use crate::program::Terminal;
 use crate::show::{fault_of_report, push_reports, write_messages};
 use crate::source::{Source, source_of};
 use crate::states::push_states;
+use crate::unmatched::{Unmatched, table_grammar};
 use crate::useless::useless_reports;
 use lrpar_grammar::grammar::YaccGrammar;
 use lrpar_grammar::span::TIdx;
@@ -64,6 +65,8 @@ impl<'a> GrammarFile<'a> {
 /// The checked table of a grammar, and what is known of its file.
 pub struct GrammarTable {
     pub data: ParserData<u32>,
+    /// The token of text that no line of the lexer takes, if the table's grammar has one.
+    pub unmatched: Option<Unmatched>,
     /// The tokens that repairs are to avoid.
     pub avoided: Vec<TIdx<u32>>,
     /// The token that no lexer gives, no message names and no repair is to insert, if there is one.
@@ -83,6 +86,7 @@ impl Drop for GrammarTable {
     fn drop(self) {
         let GrammarTable {
             data,
+            unmatched,
             avoided,
             hidden: _,
             has_precedences: _,
@@ -91,7 +95,18 @@ impl Drop for GrammarTable {
             has_warnings: _,
         } = self;
         drop(data);
+        drop(unmatched);
         drop(avoided);
+    }
+}
+
+impl GrammarTable {
+    /// The grammar of the file.
+    pub fn file_grm(&self) -> &YaccGrammar<u32> {
+        match &self.unmatched {
+            Some(unmatched) => &unmatched.file_grm,
+            None => self.data.grm(),
+        }
     }
 }
 
@@ -121,12 +136,14 @@ fn build_table<O: Write, E: Write>(
 ) -> Result<GrammarTable, Fault> {
     let Source { grammar, declared } = source_of(alloc, reporter, text, asked.kind)?;
     let warnings = warnings_of(alloc, text, &grammar, &declared, asked)?;
+    let (grammar, unmatched) = grammar_of_table(alloc, grammar, asked)?;
     let (data, counts) = build_data(
         alloc, reporter, grammar, &declared, &warnings, asked, out, err,
     )?;
     let has_warnings = !warnings.is_empty() || !has_expected(&declared, counts);
     Ok(GrammarTable {
         data,
+        unmatched,
         avoided: Vec::from_slice(alloc, &declared.avoided)?,
         hidden: declared.hidden,
         has_precedences: declared.has_precedences,
@@ -134,6 +151,19 @@ fn build_table<O: Write, E: Write>(
         expects_conflicts: expects_conflicts(&declared),
         has_warnings,
     })
+}
+
+// The grammar of the table, with a token for unmatched text, unless the grammar is looked at alone.
+fn grammar_of_table(
+    alloc: Global,
+    grm: YaccGrammar<u32>,
+    asked: Asked,
+) -> Result<(YaccGrammar<u32>, Option<Unmatched>), AllocError> {
+    if asked.is_looked_at {
+        Ok((grm, None))
+    } else {
+        table_grammar(alloc, grm)
+    }
 }
 
 // Warnings of what is of no use, and before them, if the grammar is looked at, those of bison about its file.

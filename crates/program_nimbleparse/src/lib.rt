@@ -22,6 +22,7 @@ pub mod show;
 mod sizes;
 mod source;
 mod states;
+mod unmatched;
 mod useless;
 
 pub use lrpar_report::Look;

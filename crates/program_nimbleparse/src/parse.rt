@@ -4,7 +4,7 @@ use crate::plan::{Format, Plan, Recovery};
 use crate::rules::LexerRules;
 use crate::show::write_messages;
 use lrpar_grammar::span::TIdx;
-use lrpar_lexer::{RuleLexer, Token, TokenTypes};
+use lrpar_lexer::{LexRules, RuleLexer, TextLexer, Token, TokenTypes};
 use lrpar_lexer_lrlex::StateLexer;
 use lrpar_parse::RTParserBuilder;
 use lrpar_parse_errors::errors::LexParseError;
@@ -31,13 +31,24 @@ pub fn parse<R: Recoverer<u32, Token<u32>> + Drop, O: Write, E: Write>(
 ) -> Result<bool, Fault> {
     match plan.rules {
         LexerRules::Lines(rules) => {
-            let lexer = RuleLexer::new(alloc, rules, input)?;
+            let lexer = with_token(RuleLexer::new(alloc, rules, input)?, plan.unmatched);
             parse_lexemes(alloc, parser, plan, &lexer, path, input, out, err)
         }
         LexerRules::States(rules) => {
-            let lexer = StateLexer::new(alloc, rules, input)?;
+            let lexer = with_token(StateLexer::new(alloc, rules, input)?, plan.unmatched);
             parse_lexemes(alloc, parser, plan, &lexer, path, input, out, err)
         }
+    }
+}
+
+// The lexer, with the token for text that its rules don't take, if there is one.
+fn with_token<'input, R: LexRules<u32>>(
+    lexer: TextLexer<'input, R>,
+    unmatched: Option<TIdx<u32>>,
+) -> TextLexer<'input, R> {
+    match unmatched {
+        Some(token) => lexer.with_unmatched(token),
+        None => lexer,
     }
 }
 
@@ -121,6 +132,7 @@ fn errors_text(
             grm: plan.data.grm(),
             input,
             expected: &named,
+            unmatched: plan.unmatched,
         };
         push_error(&mut text, alloc, plan.recovery, &reporter, &subject, error)?;
     }

@@ -42,6 +42,8 @@ pub struct Plan<'a> {
     pub has_merged_states: bool,
     /// The token that no message names, if there is one.
     pub hidden: Option<TIdx<u32>>,
+    /// The token of text that no line of the lexer takes, if there is one.
+    pub unmatched: Option<TIdx<u32>>,
     pub rules: &'a LexerRules,
     pub recovery: Recovery,
     pub format: Format,

@@ -32,6 +32,9 @@ use std::env;
 use std::io::{BufWriter, IsTerminal, Read, Write};
 use std::rt::Files;
 
+/// How many searches of an input may keep as many configurations as the limit allows.
+const FULL_SEARCHES: usize = 500;
+
 /// What is known of the terminal that messages are written to.
 #[derive(Clone, Copy, Debug, PartialEq, Eq)]
 pub struct Terminal {
@@ -214,6 +217,7 @@ impl<'a> Work<'a> {
         Plan {
             data: &table.data,
             hidden: table.hidden,
+            unmatched: table.unmatched.as_ref().map(|unmatched| unmatched.token),
             has_merged_states: self.options.asked.minimiser == Minimiser::Pager,
             rules,
             recovery: self.options.recovery,
@@ -235,7 +239,7 @@ fn run_work<R: Files, I: Read + Drop, O: Write, E: Write>(
     err: &mut E,
 ) -> Result<Status, Fault> {
     let table = make_table(alloc, work.grammar_file(), out, err)?;
-    let rules = rules_of_lexer(alloc, work, &table.data)?;
+    let rules = rules_of_lexer(alloc, work, table.file_grm())?;
     warn(alloc, work, &table, &rules, out, err)?;
     parse_inputs(rt, alloc, work, &table, &rules, input, out, err)
 }
@@ -244,11 +248,11 @@ fn run_work<R: Files, I: Read + Drop, O: Write, E: Write>(
 fn rules_of_lexer(
     alloc: Global,
     work: Work<'_>,
-    data: &ParserData<u32>,
+    grm: &YaccGrammar<u32>,
 ) -> Result<LexerRules, Fault> {
     let path = work.options.lexer;
     let reporter = Reporter::new(alloc, work.lexer, path, work.terminal.look)?;
-    lexer_rules(alloc, &reporter, data.grm(), work.lexer)
+    lexer_rules(alloc, &reporter, grm, work.lexer)
 }
 
 // Warns of tokens that the lexer never gives, and notes how large the grammar and its table are, unless the program is to be quiet.
@@ -276,7 +280,7 @@ fn warnings(
 ) -> Result<String, AllocError> {
     let reporter = work.grammar_file().reporter(alloc)?;
     let mut text = String::new(alloc);
-    push_token_warnings(&mut text, alloc, &reporter, table.data.grm(), rules)?;
+    push_token_warnings(&mut text, alloc, &reporter, table.file_grm(), rules)?;
     push_sizes_note(&mut text, alloc, &reporter, table)?;
     let asked = work.options.asked;
     if asked.is_verbose {
@@ -358,12 +362,14 @@ fn parse_inputs<R: Files, I: Read + Drop, O: Write, E: Write>(
     }
 }
 
-// What searches for the cheapest repairs with this limit, those last that insert one of the tokens to be avoided.
+// What searches for the cheapest repairs with this limit, those last that insert one of the tokens to be avoided. All searches of an
+// input together may keep `FULL_SEARCHES` times as many configurations.
 fn cheapest(alloc: Global, limit: usize, table: &GrammarTable) -> Result<CpctPlus, AllocError> {
     let recoverer = match table.hidden {
         Some(token) => with_dear_token(alloc, limit, token)?,
         None => CpctPlus::new(limit),
     };
+    let recoverer = recoverer.within(limit.saturating_mul(FULL_SEARCHES));
     if table.avoided.is_empty() {
         Ok(recoverer)
     } else {

@@ -10,7 +10,7 @@ pub(crate) fn push_sizes(out: &mut String, table: &GrammarTable) -> Result<(), A
     let states = data.stable().states_len();
     let rules = data.grm().rules_len();
     let prods = data.grm().prods_len();
-    let tokens = data.grm().tokens_len();
+    let tokens = table.file_grm().tokens_len();
     let cap = data.least_cap();
     write!(
         out,

@@ -2,6 +2,7 @@
 use crate::uses::push_uses;
 use lrpar_grammar::grammar::{GrammarFault, YaccGrammar};
 use lrpar_grammar::span::{Span, Symbol};
+use lrpar_grammar_unmatched::{UnmatchedFault, with_unmatched};
 use std::alloc::Global;
 use test_case_lines::cases::Case;
 use test_case_lines::fault::Fault;
@@ -9,7 +10,7 @@ use test_case_lines::names::{rule_name, token_name};
 use test_case_lines::printed::Printed;
 
 /// The keys that say what is done.
-pub const INPUTS: &[&str] = &["text", "over", "show", "find"];
+pub const INPUTS: &[&str] = &["text", "unmatched", "over", "show", "find"];
 
 /// The grammar of the text, in the smallest storage type.
 pub fn outcome(out: &mut Printed, alloc: Global, case: Case<'_, '_>) -> Result<(), Fault> {
@@ -26,12 +27,42 @@ pub fn push_made(
     made: Result<YaccGrammar<u8>, GrammarFault>,
 ) -> Result<(), Fault> {
     match made {
-        Ok(grm) => push_shown(out, alloc, case, &grm),
+        Ok(grm) => push_grammar(out, alloc, case, &grm),
         Err(fault) => {
             push_fault(out, &fault);
             Ok(())
         }
     }
+}
+
+// Adds what the case asks of the grammar, or of that with one more token, if the case names one; or why there is no such grammar.
+fn push_grammar(
+    out: &mut Printed,
+    alloc: Global,
+    case: Case<'_, '_>,
+    grm: &YaccGrammar<u8>,
+) -> Result<(), Fault> {
+    let Some((name, _)) = case.value("unmatched") else {
+        return push_shown(out, alloc, case, grm);
+    };
+    match with_unmatched(alloc, grm, name) {
+        Ok((grm, token)) => {
+            out.line("new-token ", &usize::from(token));
+            push_shown(out, alloc, case, &grm)
+        }
+        Err(fault) => {
+            push_refusal(out, fault);
+            Ok(())
+        }
+    }
+}
+
+// Adds why there is no grammar with one more token.
+fn push_refusal(out: &mut Printed, fault: UnmatchedFault) {
+    if fault == UnmatchedFault::Memory {
+        out.lack_memory();
+    }
+    out.line("fault ", &fault);
 }
 
 /// Why there is no grammar of each beginning of a text.

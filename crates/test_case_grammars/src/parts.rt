@@ -16,6 +16,7 @@ pub const INPUTS: &[&str] = &[
     "add-tokens",
     "add-production",
     "start",
+    "unmatched",
     "over",
     "show",
     "find",

@@ -26,6 +26,8 @@ pub const INPUTS: &[&str] = &[
     "shifts",
     "repairs",
     "recoverer",
+    "or",
+    "within",
     "costs",
     "avoid",
     "at-most",

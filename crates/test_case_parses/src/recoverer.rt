@@ -4,10 +4,12 @@ use crate::steps::sequences_of;
 use lrpar_grammar::grammar::YaccGrammar;
 use lrpar_grammar::span::TIdx;
 use lrpar_lexer::Token;
-use lrpar_parse_completion::{Completion, NoCompletion};
+use lrpar_parse_completion::{Completion, NoCompletion, TableCompletion};
 use lrpar_parse_cpctplus::{CostFault, CpctPlus};
+use lrpar_parse_repair::or::Or;
 use lrpar_parse_repair::repair::{FixedRecoverer, Recoverer, RecoveryPoint, RepairStep};
 use lrpar_table::check::ParserData;
+use lrpar_table_pops::check_completable::Incompletable;
 use std::alloc::{AllocError, Global};
 use test_case_lines::cases::Case;
 use test_case_lines::fault::Fault;
@@ -21,6 +23,10 @@ pub(crate) enum CaseRecoverer<'a> {
     CpctPlus(CpctPlus),
     /// That of the nearest place, by a completion.
     Completion(Completion<'a, u32>),
+    /// That of the nearest place, by tokens that finish a stack of the table.
+    TableCompletion(TableCompletion<'a, u32>),
+    /// The cheapest ones, or that of a completion.
+    Either(Or<CpctPlus, Completion<'a, u32>, u32, Token<u32>>),
 }
 
 impl Recoverer<u32, Token<u32>> for CaseRecoverer<'_> {
@@ -35,6 +41,8 @@ impl Recoverer<u32, Token<u32>> for CaseRecoverer<'_> {
             CaseRecoverer::Fixed(recoverer) => recoverer.recover(alloc, point),
             CaseRecoverer::CpctPlus(recoverer) => recoverer.recover(alloc, point),
             CaseRecoverer::Completion(recoverer) => recoverer.recover(alloc, point),
+            CaseRecoverer::TableCompletion(recoverer) => recoverer.recover(alloc, point),
+            CaseRecoverer::Either(recoverer) => recoverer.recover(alloc, point),
         }
     }
 }
@@ -53,9 +61,23 @@ pub(crate) fn recoverer_of<'a>(
     if let Some(most) = number_after("completion ", value) {
         return Ok(CaseRecoverer::Completion(completion_of(alloc, data, most, number)?));
     }
-    match number_after("cpctplus ", value) {
-        None => Err(Fault::Line(number, "cpctplus or completion, and a number, are wanted")),
-        Some(limit) => Ok(CaseRecoverer::CpctPlus(cpct_plus_of(alloc, grm, case, limit)?)),
+    if let Some(most) = number_after("table-completion ", value) {
+        let completion = table_completion_of(alloc, data, most, number)?;
+        return Ok(CaseRecoverer::TableCompletion(completion));
+    }
+    let Some(limit) = number_after("cpctplus ", value) else {
+        return Err(Fault::Line(number, "cpctplus or completion, and a number, are wanted"));
+    };
+    let cheapest = cpct_plus_of(alloc, grm, case, limit)?;
+    match case.value("or") {
+        None => Ok(CaseRecoverer::CpctPlus(cheapest)),
+        Some((value, number)) => match number_after("completion ", value) {
+            None => Err(Fault::Line(number, "completion, and a number, are wanted")),
+            Some(most) => {
+                let completion = completion_of(alloc, data, most, number)?;
+                Ok(CaseRecoverer::Either(cheapest.or(completion)))
+            }
+        },
     }
 }
 
@@ -86,7 +108,25 @@ fn completion_of<'a>(
     }
 }
 
-// The search with this limit; the lines `avoid`, `at-most` and `list` say which repairs are listed, and in which order.
+// The completion by the table's own runs, which tries this many tokens at each place.
+fn table_completion_of<'a>(
+    alloc: Global,
+    data: &'a ParserData<u32>,
+    most: usize,
+    number: usize,
+) -> Result<TableCompletion<'a, u32>, Fault> {
+    match TableCompletion::new(alloc, data) {
+        Ok(completion) => Ok(completion.most(most)),
+        Err(Incompletable::Stuck(_)) => {
+            Err(Fault::Line(number, "a stack of the table can't be completed"))
+        }
+        Err(Incompletable::TooMany) => Err(Fault::Line(number, "there are too many stacks")),
+        Err(Incompletable::Memory) => Err(Fault::Memory),
+    }
+}
+
+// The search with this limit; the line `within` says how many configurations there may be in all searches of the parse, and the lines
+// `avoid`, `at-most` and `list` which repairs are listed, and in which order.
 fn cpct_plus_of(
     alloc: Global,
     grm: &YaccGrammar<u32>,
@@ -94,20 +134,27 @@ fn cpct_plus_of(
     limit: usize,
 ) -> Result<CpctPlus, Fault> {
     let mut recoverer = priced(alloc, grm, case, limit)?;
+    if let Some((total, number)) = case.value("within") {
+        recoverer = recoverer.within(number_of(total, number)?);
+    }
     if let Some((names, number)) = case.value("avoid") {
         recoverer = recoverer.avoid_insert(alloc, &tokens_of(alloc, grm, names, number)?)?;
     }
     if let Some((most, number)) = case.value("at-most") {
-        let Ok(most) = most.parse::<usize>() else {
-            return Err(Fault::Line(number, "a number is wanted"));
-        };
-        recoverer = recoverer.at_most(most);
+        recoverer = recoverer.at_most(number_of(most, number)?);
     }
     match case.value("list") {
         None => Ok(recoverer),
         Some(("all", _)) => Ok(recoverer.all()),
         Some((_, number)) => Err(Fault::Line(number, "all is wanted")),
     }
+}
+
+// The number that is the value of the line.
+fn number_of(value: &str, number: usize) -> Result<usize, Fault> {
+    value
+        .parse()
+        .map_err(|_| Fault::Line(number, "a number is wanted"))
 }
 
 // The search with this limit; the line `costs` says what tokens cost that don't cost 1.

@@ -9,8 +9,8 @@ use lrpar_grammar::span::StorageIndex;
 use lrpar_parse::RTParserBuilder;
 use lrpar_parse::every_text::every_text_has_a_tree;
 use lrpar_parse::parser::{LexParseError, Node, ParseFault};
-use lrpar_parse_completion::Completion;
-use lrpar_parse_completion::laws::completions_always_repair;
+use lrpar_parse_completion::laws::{completions_always_repair, table_completions_always_repair};
+use lrpar_parse_completion::{Completion, TableCompletion};
 use lrpar_parse_lexemes::lex_api::{LexerTypes, NonStreamingLexer};
 use lrpar_parse_repair::laws::or_repairs_where_one_does;
 use lrpar_parse_repair::or::Or;
@@ -96,6 +96,41 @@ pub fn completed_tree_of_any_text<
 {
     completions_always_repair::<LexerTypesT::LexemeT>();
     or_repairs_where_one_does::<StorageT, LexerTypesT::LexemeT, A, Completion<'a, StorageT>>();
+    every_text_has_a_tree(parser, lexer);
+    parser.parse_generictree(alloc, lexer)
+}
+
+/// The tree and the errors of a parse by two recoverers, of which the second one is a completion by the runs of the parser's table. If there
+/// is no lexing error, there is a tree, and each error lists a repair, whatever conflicts of the table were resolved, and whatever the first
+/// recoverer supplies.
+pub fn finished_tree_of_any_text<
+    'input,
+    'a,
+    StorageT: StorageIndex,
+    LexerTypesT: LexerTypes<StorageT = StorageT>,
+    L: NonStreamingLexer<'input, LexerTypesT>,
+    A: Recoverer<StorageT, LexerTypesT::LexemeT> + Drop,
+>(
+    alloc: Global,
+    parser: &RTParserBuilder<
+        'a,
+        StorageT,
+        LexerTypesT,
+        Or<A, TableCompletion<'a, StorageT>, StorageT, LexerTypesT::LexemeT>,
+    >,
+    lexer: &L,
+) -> Result<
+    (
+        Option<Node<LexerTypesT::LexemeT, StorageT>>,
+        Vec<LexParseError<StorageT, LexerTypesT>>,
+    ),
+    ParseFault,
+>
+    requires own { parser.now.recoverer.second.checked ≡ parser.now.checked }
+    ensures { HasValueOfText (L.allows lexer.now) result }
+{
+    table_completions_always_repair::<LexerTypesT::LexemeT>();
+    or_repairs_where_one_does::<StorageT, LexerTypesT::LexemeT, A, TableCompletion<'a, StorageT>>();
     every_text_has_a_tree(parser, lexer);
     parser.parse_generictree(alloc, lexer)
 }

@@ -1,4 +1,4 @@
-use Rattle.std.proofs.Common.{subst}
+use Rattle.std.proofs.Common.{ℕ, subst}
 use Rattle.std.proofs.lemmas.Result.{IfOk-weaker}
 use Rattle.lrpar_parse_lexemes.specs.Views.{token_by}
 use Rattle.lrpar_parse_repair.specs.Asked.{Asked}
@@ -14,16 +14,18 @@ returns-in_default g c =
     let settings = c.args.self.now in
     let at = c.args.point.now in
     let search = c.new-search.result in
-    let first : IsNothingFound token search.terms.now.costs search.point.now search.terms.now.limit = rw c.in_default.is at c.in_ok-linked.ensures in
-    let second = subst (λ (a : Asked g.row.LexemeT.Denot). IsNothingFound token search.terms.now.costs a search.terms.now.limit) c.new-search.ensures.point first in
-    let third = subst (λ (s : Settings). IsNothingFound token s.costs at s.limit) c.new-search.ensures.terms second in
-    record { allowed = rw c.new.ensures.items (nothing_listed token settings at third) }
+    let first : IsNothingFound token search.terms.now.costs search.point.now search.limit = rw c.in_default.is at c.in_ok-linked.ensures in
+    let second = subst (λ (a : Asked g.row.LexemeT.Denot). IsNothingFound token search.terms.now.costs a search.limit) c.new-search.ensures.point first in
+    let third = subst (λ (s : Settings). IsNothingFound token s.costs at search.limit) c.new-search.ensures.terms second in
+    let fourth = subst (λ (n : ℕ). IsNothingFound token settings.costs at n) c.new-search.ensures.limit third in
+    let limit = c.in_ok-limit.limit in
+    record { allowed = rw c.new.ensures.items (limit, c.in_ok-limit.ensures, nothing_listed token (record settings { limit = limit }) at fourth) }
 
 pub first_repairs-requires : goal.first_repairs-requires
 first_repairs-requires g c =
     record {
-      numbered = linked_numbered g.StorageT.StorageIndex.index g.LexemeT.Lexeme.parts c.new-search.result c.args.self.now c.args.point.now c.in-Some.linked
-          c.new-search.ensures.terms c.new-search.ensures.point (rw c.in-Some.is at c.in_ok-linked.ensures);
+      numbered = linked_numbered g.StorageT.StorageIndex.index g.LexemeT.Lexeme.parts c.new-search.result c.args.self.now c.args.point.now c.in_ok-limit.limit c.in-Some.linked
+          c.new-search.ensures.terms c.new-search.ensures.point c.new-search.ensures.limit (rw c.in-Some.is at c.in_ok-linked.ensures);
     }
 
 pub returns : goal.returns
@@ -31,9 +33,12 @@ returns g c =
     let index = g.StorageT.StorageIndex.index in
     record {
       allowed = IfOk-weaker c.first_repairs.result _ _
-          (λ repairs ranked.
-          linked_listed index g.LexemeT.Lexeme.parts c.new-search.result c.args.self.now c.args.point.now c.in-Some.linked c.new-search.ensures.terms
-          c.new-search.ensures.point (rw c.in-Some.is at c.in_ok-linked.ensures) (plain_sequences index repairs.items) c.shifts-second_lemma.ensures.stop
-          c.limit-lemma.ensures.costs (rw (c.wanted.ensures.avoided, c.wanted.ensures.most, c.wanted.ensures.lists_all) at ranked))
+          (λ repairs ranked. (
+            c.in_ok-limit.limit,
+            c.in_ok-limit.ensures,
+            linked_listed index g.LexemeT.Lexeme.parts c.new-search.result c.args.self.now c.args.point.now c.in_ok-limit.limit c.in-Some.linked c.new-search.ensures.terms
+                c.new-search.ensures.point c.new-search.ensures.limit (rw c.in-Some.is at c.in_ok-linked.ensures) (plain_sequences index repairs.items)
+                c.shifts-second_lemma.ensures.stop c.limit-lemma.ensures.costs (rw (c.wanted.ensures.avoided, c.wanted.ensures.most, c.wanted.ensures.lists_all) at ranked),
+          ))
           c.first_repairs.ensures.ranked;
     }

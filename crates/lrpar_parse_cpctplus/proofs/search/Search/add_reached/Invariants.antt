@@ -10,5 +10,5 @@ invariant-loop-attempt g l =
     let parts = g.LexemeT.Lexeme.parts in
     record {
       grows : GrowsBy index parts l.self l.first (IsAmong (take l.attempt-index (plain_attempts index l.attempts))) l.fn.stacks l.fn.graph l.stacks l.graph;
-      within : length l.graph.configurations.keys ≤ l.self.terms.now.limit;
+      within : length l.graph.configurations.keys ≤ l.self.limit;
     }

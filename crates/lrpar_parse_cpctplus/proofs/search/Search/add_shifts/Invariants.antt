@@ -11,9 +11,9 @@ invariant-shifts g l =
     record {
       grows : GrowsBy index parts l.self l.first (IsShiftWithin l.first l.from) l.fn.stacks l.fn.graph l.stacks l.graph;
       low : l.first ≤ l.from;
-      within : length l.graph.configurations.keys ≤ l.self.terms.now.limit;
+      within : length l.graph.configurations.keys ≤ l.self.limit;
     }
 
 -- each configuration is tried once
 abbrev pub decreases-shifts : goal.decreases-shifts
-decreases-shifts g l = l.self.terms.now.limit - l.from
+decreases-shifts g l = l.self.limit - l.from

@@ -21,8 +21,8 @@ returns-then-limit-len g c =
     let stacks = c.args.stacks.now.stacks in
     let keys = graph.configurations.keys in
     let nodes = nodes_in stacks keys in
-    nothing_past_limit token search.terms.now.costs search.point.now search.terms.now.limit nodes
-    (round_past_limit token search.terms.now.costs search.point.now nodes graph.firsts.items (plain_links index graph.links.items) c.requires.round.known search.terms.now.limit
+    nothing_past_limit token search.terms.now.costs search.point.now search.limit nodes
+    (round_past_limit token search.terms.now.costs search.point.now nodes graph.firsts.items (plain_links index graph.links.items) c.requires.round.known search.limit
     (omega (arith, c.limit-limit.ensures.limit, c.len.ensures.len, nodes_len stacks keys, c.if-limit-len.true)))
 
 pub rounds-init : goal.rounds-init
@@ -63,10 +63,10 @@ returns-then-not-is_empty g c =
     let endings = plain_endings index c.in_ok-endings.endings.items in
     let found = rw (c.deref.ensures.value, same) at c.in_ok-endings.ensures.endings in
     let some = some_of endings c.in_ok-endings.endings.len (endings_len index c.in_ok-endings.endings) (sym c.is_empty.ensures ∙ c.if-not-is_empty.true) in
-    let within : length (nodes_of l.stacks l.graph) ≤ search.terms.now.limit =
+    let within : length (nodes_of l.stacks l.graph) ≤ search.limit =
     omega (arith, nodes_len l.stacks.stacks l.graph.configurations.keys, l.invariant.within, c.limit-limit.ensures.limit) in
-    subst (λ (ns : List Configured). IsFoundBy token search.terms.now.costs search.point.now search.terms.now.limit ns links endings) (sym there)
-    (found_by token search.terms.now.costs search.point.now (nodes_of l.stacks l.graph) l.graph.firsts.items links l.invariant.round.known search.terms.now.limit
+    subst (λ (ns : List Configured). IsFoundBy token search.terms.now.costs search.point.now search.limit ns links endings) (sym there)
+    (found_by token search.terms.now.costs search.point.now (nodes_of l.stacks l.graph) l.graph.firsts.items links l.invariant.round.known search.limit
     c.limit-limit.ensures.costs (plain_attempts index c.in_ok-attempts.attempts.items) c.in_ok-attempts.ensures.attempts endings found some.0 some.1 within)
 
 pub add_level-requires : goal.add_level-requires
@@ -98,7 +98,7 @@ returns-then-not-branch g c =
     let index = g.StorageT.StorageIndex.index in
     let search = c.args.self.now in
     let past = rw c.if-not-branch.true at c.in_ok-add_level.ensures in
-    nothing_past_limit (token_by index g.LexemeT.Lexeme.parts) search.terms.now.costs search.point.now search.terms.now.limit
+    nothing_past_limit (token_by index g.LexemeT.Lexeme.parts) search.terms.now.costs search.point.now search.limit
     (nodes_in c.add_level.new.stacks.stacks c.add_level.new.graph.configurations.keys) past.past
 
 pub rounds-preserved : goal.rounds-preserved
@@ -146,6 +146,6 @@ returns g c =
     let index = g.StorageT.StorageIndex.index in
     let search = c.args.self.now in
     let l = c.rounds in
-    nothing_behind (token_by index g.LexemeT.Lexeme.parts) search.terms.now.costs search.point.now search.terms.now.limit
+    nothing_behind (token_by index g.LexemeT.Lexeme.parts) search.terms.now.costs search.point.now search.limit
     (nodes_in l.stacks.stacks l.graph.configurations.keys) l.graph.firsts.items (plain_links index l.graph.links.items) l.empty l.invariant.round.known
     c.limit-limit.ensures.costs l.invariant.behind c.rounds-test.false

@@ -1,0 +1,4 @@
+pub mod CopyLemmas
+pub mod NameLemmas
+pub mod SoundLemmas
+pub mod TokenLawLemmas

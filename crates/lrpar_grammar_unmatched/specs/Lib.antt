@@ -1,0 +1,3 @@
+pub mod WithToken
+pub mod Copies
+pub mod TokenLaws

@@ -1,0 +1,62 @@
+-- What is found of a state, as exits and reductions are added.
+use Rattle.std.proofs.Common.{◌≡◌, ◌≢◌, ◌+◌, ◌-◌, inl, inr, refl, subst, arith, ℕ, suc, Bool, List, Option, Some, slice_get, take}
+use Rattle.std.specs.Prelude.{IsTrue}
+use Rattle.lrpar_grammar.specs.Grammar.{Grammar}
+use Rattle.lrpar_grammar.specs.Tokens.{has}
+use Rattle.lrpar_table_rows.specs.Table.{Table}
+use Rattle.lrpar_table_pops.specs.Exits.{AddsOnly, HasExit, LeavesIn}
+use Rattle.lrpar_table_pops.specs.Found.{IsFoundOf, LeadsFrom, PopsAt, StaysFound}
+use Rattle.lrpar_table_pops.specs.Pops.{Control, Done, Dropping, Pops, drops, ends}
+use Rattle.lrpar_table_pops.specs.declared.exits.Exit.{Exit}
+use Rattle.lrpar_table_pops.specs.declared.exits.Way.TheVariants.{Acceptance, Reduction}
+use Rattle.lrpar_table_pops.specs.declared.found.Found.{Found}
+use Rattle.lrpar_table_pops.proofs.ExitLemmas.{exits_before, exits_here}
+
+module _ (g : Grammar) (table : Table) (s : ℕ) (at : Option ℕ) where
+  -- exits more
+  exits_stay : (P : Control → Type 0) (old new : List Exit) (reduced : List (List Bool)) → AddsOnly P old new → ((r : Control) → P r → PopsAt g table s at r)
+      → IsFoundOf g table s at old reduced → IsFoundOf g table s at new reduced
+  exits_stay P old new reduced adds pops found = record {
+    by_exits = λ r h. elim (adds r h) as (λ _. PopsAt g table s at r) [ inl was ↦ found.by_exits r was | inr more ↦ pops r more ];
+    by_reductions = found.by_reductions;
+  }
+
+  -- a run that has accepted
+  pub accepted_stays : (old new : List Exit) (reduced : List (List Bool)) (token : ℕ) → AddsOnly (λ r. Done ≡ r) old new
+      → ((q : Control) → q ≡ Done → LeadsFrom g table s at q) → IsFoundOf g table s at old reduced → IsFoundOf g table s at new reduced
+  accepted_stays old new reduced token adds leads found =
+      exits_stay (λ r. Done ≡ r) old new reduced adds (λ r is. subst (PopsAt g table s at) is (leads Done refl Done (ends s))) found
+
+  -- a state that is dropped
+  dropped : (p symbols t : ℕ) → symbols ≢ 0 → LeadsFrom g table s at (Dropping p symbols t) → PopsAt g table s at (Dropping p (symbols - 1) t)
+  dropped p symbols t some leads =
+      let one : suc (symbols - 1) ≡ symbols = omega (arith, some) in
+      leads (Dropping p (symbols - 1) t) (subst (λ (n : ℕ). Pops g table (Dropping p n t) s (Dropping p (symbols - 1) t)) one (drops s p (symbols - 1) t))
+
+  pub reduced_stays : (old new : List Exit) (reduced : List (List Bool)) (p symbols t : ℕ) → symbols ≢ 0 → AddsOnly (λ r. Dropping p (symbols - 1) t ≡ r) old new
+      → ((q : Control) → q ≡ Dropping p symbols t → LeadsFrom g table s at q) → IsFoundOf g table s at old reduced → IsFoundOf g table s at new reduced
+  reduced_stays old new reduced p symbols t some adds leads found =
+      exits_stay (λ r. Dropping p (symbols - 1) t ≡ r) old new reduced adds
+      (λ r is. subst (PopsAt g table s at) is (dropped p symbols t some (leads (Dropping p symbols t) refl))) found
+
+  pub dropped_stays : (old new : List Exit) (reduced : List (List Bool)) (p symbols : ℕ) (tokens : List Bool) → symbols ≢ 0
+      → AddsOnly (LeavesIn (Reduction p (symbols - 1)) tokens) old new
+      → ((q : Control) → (t : ℕ) × IsTrue (has tokens t) × (q ≡ Dropping p symbols t) → LeadsFrom g table s at q)
+      → IsFoundOf g table s at old reduced → IsFoundOf g table s at new reduced
+  dropped_stays old new reduced p symbols tokens some adds leads found =
+      exits_stay (LeavesIn (Reduction p (symbols - 1)) tokens) old new reduced adds
+      (λ r leaves. subst (PopsAt g table s at) leaves.2 (dropped p symbols leaves.0 some (leads (Dropping p symbols leaves.0) (leaves.0, leaves.1, refl)))) found
+
+  pub finished_stays : (old new : List Exit) (reduced : List (List Bool)) (tokens : List Bool) → AddsOnly (LeavesIn Acceptance tokens) old new
+      → ((q : Control) → LeavesIn Acceptance tokens q → LeadsFrom g table s at q) → IsFoundOf g table s at old reduced → IsFoundOf g table s at new reduced
+  finished_stays old new reduced tokens adds leads found =
+      exits_stay (LeavesIn Acceptance tokens) old new reduced adds
+      (λ r leaves. subst (PopsAt g table s at) leaves.2 (leads Done (leaves.0, leaves.1, refl) Done (ends s))) found
+
+-- one step after another
+pub stays_more : (g : Grammar) (exits : List Exit) (place : ℕ) (exit : Exit) (first now next : Found) → slice_get exits place ≡ Some exit
+    → StaysFound g (HasExit (take place exits)) first now → StaysFound g (LeavesIn exit.way exit.tokens) now next
+    → StaysFound g (HasExit (take (place + 1) exits)) first next
+stays_more g exits place exit first now next there before one table s at leads found =
+    one table s at (λ q leaves. leads q (exits_here exits place exit q there leaves))
+    (before table s at (λ q h. leads q (exits_before exits place q h)) found)

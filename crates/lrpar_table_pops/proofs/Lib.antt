@@ -1,0 +1,11 @@
+pub mod StoredLemmas
+pub mod StepLemmas
+pub mod EntryLemmas
+pub mod FoundLemmas
+pub mod SetLemmas
+pub mod ExitLemmas
+pub mod FinishLemmas
+pub mod PopLemmas
+pub mod TransitionLemmas
+pub mod GoodLemmas
+pub mod SearchLemmas

@@ -1,0 +1,12 @@
+use Rattle.lrpar_table_pops.specs.Good.{LeadToReductions}
+use Rattle.lrpar_table_pops.specs.Sets.{room_in}
+use Rattle.lrpar_table_pops.proofs.good.good_reductions.Given as goal
+
+-- the reductions so far are right
+abbrev pub invariant-passes : goal.invariant-passes
+invariant-passes g l =
+    LeadToReductions l.checked.grammar l.checked.table (g.StorageT.StorageIndex.index l.state.0) l.good l.reduced.items
+
+-- the tokens that aren't added yet
+abbrev pub decreases-passes : goal.decreases-passes
+decreases-passes g l = room_in l.reduced.items

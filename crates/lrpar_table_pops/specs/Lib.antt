@@ -1,0 +1,12 @@
+pub mod Pops
+pub mod Completable
+pub mod Sets
+pub mod Exits
+pub mod Entries
+pub mod Found
+pub mod StoredPops
+pub mod Steps
+pub mod StoredSteps
+pub mod Good
+pub mod Searched
+pub mod Stuck

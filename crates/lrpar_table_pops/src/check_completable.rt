@@ -1,0 +1,88 @@
+//! The check whether each stack of a table can be completed.
+ghost use Rattle.std.specs.Prelude.{◌≡◌, ◌<◌, ◌≤◌, IfErr, OnOk, length};
+ghost use Rattle.lrpar_table_pops.specs.Completable.{AreAllCompletable};
+ghost use Rattle.lrpar_table_pops.specs.Searched.{AreDone, AreStacks, CompletesAt, IsGoneOnAt, KeepsStacks};
+ghost use Rattle.lrpar_table_pops.specs.StoredPops.{ArePopsOf, any_of};
+ghost use Rattle.lrpar_table_pops.specs.Stuck.{IsFault};
+
+pub use crate::fault::Incompletable;
+use crate::pops::Pops;
+use crate::searched::Searched;
+use lrpar_grammar::span::StorageIndex;
+use lrpar_table_check::check::ParserData;
+use std::alloc::Global;
+
+/// Checks that each stack of the table can be completed: some tokens lead from it to a stack that accepts.
+///
+/// The check goes over all stacks, from the start state up. It tells stacks apart by their tops, and by the ways in which a run can leave the
+/// top and go on to accept; a stack is left out if a known one will do. `most` limits how many it tells apart.
+///
+/// `Stuck` gives a stack of the table for which the check finds no such tokens. `TooMany` means that there are more stacks to tell apart than
+/// `most`, and says nothing of the table. `Memory` means that an allocation failed.
+///
+/// Each stack that it tells apart takes memory for a set of tokens for each kernel core of its top. It takes time for some passes over the
+/// actions of the states that gotos of its top lead to, until a pass finds no new token; and it is compared with those of the same top.
+pub fn check_completable<StorageT: StorageIndex>(
+    alloc: Global,
+    checked: &ParserData<StorageT>,
+    most: usize,
+) -> Result<(), Incompletable<StorageT>>
+    ensures completable { OnOk result (AreAllCompletable checked.now.grammar checked.now.table) }
+    ensures fault { IfErr result (IsFault StorageT.index checked.now.table) }
+{
+    // The proof needs that the table is safe.
+    let _lemma = checked.stable();
+    let pops = Pops::new(alloc, checked)?;
+    let mut searched = Searched::new(alloc, checked)?;
+    search(alloc, checked, &pops, &mut searched, most)
+}
+
+// Goes on from each stack in turn, until none is left.
+fn search<StorageT: StorageIndex>(
+    alloc: Global,
+    checked: &ParserData<StorageT>,
+    pops: &Pops,
+    searched: &mut Searched<StorageT>,
+    most: usize,
+) -> Result<(), Incompletable<StorageT>>
+    requires pops { ArePopsOf checked.now.grammar checked.now.table pops.now }
+    requires stacks { AreStacks StorageT.index checked.now.grammar checked.now.table searched.old.stacks.items }
+    ensures stacks { OnOk result (AreStacks StorageT.index checked.now.grammar checked.now.table searched.new.stacks.items) }
+    ensures done { OnOk result (AreDone StorageT.index checked.now.grammar checked.now.table (any_of pops.now) searched.new.stacks.items (length searched.new.stacks.items)) }
+    ensures fault { IfErr result (IsFault StorageT.index checked.now.table) }
+{
+    let mut place = 0;
+    'stacks: while place < searched.len() {
+        if searched.len() > most {
+            return Err(Incompletable::TooMany);
+        }
+        go_on(alloc, checked, pops, searched, place)?;
+        place += 1;
+    }
+    Ok(())
+}
+
+// Goes on from the stack at the place, if that can be completed.
+fn go_on<StorageT: StorageIndex>(
+    alloc: Global,
+    checked: &ParserData<StorageT>,
+    pops: &Pops,
+    searched: &mut Searched<StorageT>,
+    place: usize,
+) -> Result<(), Incompletable<StorageT>>
+    requires pops { ArePopsOf checked.now.grammar checked.now.table pops.now }
+    requires stacks { AreStacks StorageT.index checked.now.grammar checked.now.table searched.old.stacks.items }
+    requires place { place < length searched.old.stacks.items }
+    ensures stacks { OnOk result (AreStacks StorageT.index checked.now.grammar checked.now.table searched.new.stacks.items) }
+    ensures keeps { OnOk result (KeepsStacks searched.old.stacks.items searched.new.stacks.items) }
+    ensures completes { OnOk result (CompletesAt StorageT.index (any_of pops.now) searched.old.stacks.items place) }
+    ensures gone_on { OnOk result (IsGoneOnAt StorageT.index checked.now.grammar checked.now.table searched.new.stacks.items place) }
+    ensures fault { IfErr result (IsFault StorageT.index checked.now.table) }
+{
+    if !searched.can_complete(place, pops) {
+        let states = searched.states(alloc, checked, place)?;
+        return Err(Incompletable::Stuck(states));
+    }
+    searched.add_above(alloc, checked, pops, place)?;
+    Ok(())
+}

@@ -1,0 +1,201 @@
+//! The exits of a state: in which controls a run can leave it.
+ghost use Rattle.std.specs.Prelude.{◌≡◌, ◌<◌, Contains, IfOk, IfSome, Some, length, slice_get};
+ghost use Rattle.std.specs.Bool.{OnFalse, OnTrue};
+ghost use Rattle.lrpar_table_pops.specs.Pops.{Control};
+ghost use Rattle.lrpar_table_rows.specs.Graph.{graph_len};
+ghost use Rattle.lrpar_table_pops.specs.Exits.{AddsOnly, AreTokensAt, HasExit, HasNoExit, HaveAllExits, HaveExitInCommon, IsIndexOf, LeavesIn, control_of, room_left};
+
+use crate::sets::{insert, unite};
+use lrpar_grammar::span::{StIdx, StorageIndex};
+use lrpar_grammar::token_set::TokenSet;
+use lrpar_table_check::check::ParserData;
+use std::alloc::{AllocError, Global};
+use std::marker::Model;
+
+/// What a run does next, but for its lookahead, when it has left a state.
+#[derive(Clone, Copy, Debug, PartialEq, Eq)]
+pub(crate) enum Way {
+    /// It reduces by the production, and drops this number of states first.
+    Reduction { prod: usize, left: usize },
+    /// It has accepted.
+    Acceptance,
+}
+
+/// A way in which a run can leave a state, and the lookaheads with which it can.
+#[derive(Drop)]
+pub(crate) struct Exit {
+    pub(crate) way: Way,
+    pub(crate) tokens: TokenSet,
+}
+
+/// The exits of a state: one for each of its kernel cores, and one for a run that has accepted.
+#[derive(Drop)]
+pub(crate) struct Exits {
+    exits: Vec<Exit>,
+}
+
+impl Model for Exits {
+    ghost use Rattle.std.specs.Prelude.{List};
+    ghost use Rattle.lrpar_table_pops.specs.declared.exits.Exit.{Exit};
+
+    ghost Value = { List Exit };
+
+    ghost view = { λ exits. exits.exits.items };
+}
+
+impl Exits {
+    /// None.
+    pub(crate) fn none(alloc: Global) -> Self
+        ensures { HasNoExit result }
+    {
+        Exits {
+            exits: Vec::new(alloc),
+        }
+    }
+
+    /// The exits of the state, as yet without lookaheads.
+    pub(crate) fn new<StorageT: StorageIndex>(
+        alloc: Global,
+        checked: &ParserData<StorageT>,
+        state: StIdx<StorageT>,
+    ) -> Result<Self, AllocError>
+        requires { StorageT.index state.0 < graph_len checked.now.graph }
+        ensures { IfOk result HasNoExit }
+    {
+        let len = checked.grm().tokens_len();
+        let mut exits = Vec::new(alloc);
+        'cores: for (prod, dot) in checked.sgraph().begun_cores(state) {
+            if *dot > 0 {
+                let (prod, left) = (usize::from(*prod), *dot - 1);
+                let tokens = TokenSet::new(alloc, len)?;
+                let way = Way::Reduction { prod, left };
+                exits.push(Exit { way, tokens })?;
+            }
+        }
+        let tokens = TokenSet::new(alloc, len)?;
+        let way = Way::Acceptance;
+        exits.push(Exit { way, tokens })?;
+        Ok(Exits { exits })
+    }
+
+    /// How many there are.
+    pub(crate) fn len(&self) -> usize
+        ensures { result ≡ length self.now }
+    {
+        self.exits.len()
+    }
+
+    /// The exit at this place.
+    pub(crate) fn get(&self, place: usize) -> &Exit
+        requires { place < length self.now }
+        ensures member { Contains self.now result.now }
+        ensures at { slice_get self.now place ≡ Some result.now }
+    {
+        &self.exits[place]
+    }
+
+    // The place of the exit this way, if the state has it.
+    fn index_of(&self, way: Way) -> Option<usize>
+        ensures { IfSome result (IsIndexOf self.now way) }
+    {
+        for place in 0..self.exits.len() {
+            if self.exits[place].way == way {
+                return Some(place);
+            }
+        }
+        None
+    }
+
+    /// The lookaheads of the exit this way, if the state has it.
+    pub(crate) fn tokens_at(&self, way: Way) -> Option<&TokenSet>
+        ensures { IfSome result (λ tokens. AreTokensAt self.now way tokens.now) }
+    {
+        for exit in &self.exits {
+            if exit.way == way {
+                return Some(&exit.tokens);
+            }
+        }
+        None
+    }
+
+    /// Adds the lookaheads to the exit this way, if the state has it. Returns whether any was new.
+    pub(crate) fn unite(&mut self, way: Way, tokens: &TokenSet) -> bool
+        ensures adds { AddsOnly (LeavesIn way tokens.now) self.old self.new }
+        ensures grown { OnTrue result (room_left self.new < room_left self.old) }
+        ensures same { OnFalse result (self.new ≡ self.old) }
+    {
+        match self.index_of(way) {
+            Some(place) => unite(&mut self.exits[place].tokens, tokens),
+            None => false,
+        }
+    }
+
+    /// Adds the lookahead to the exit this way, if the state has it.
+    pub(crate) fn insert(&mut self, way: Way, token: usize)
+        ensures adds { AddsOnly (λ r. control_of way token ≡ r) self.old self.new }
+    {
+        if let Some(place) = self.index_of(way) {
+            insert(&mut self.exits[place].tokens, token);
+        }
+    }
+
+    /// Adds the others. Returns whether any lookahead was new.
+    pub(crate) fn unite_all(&mut self, others: &Exits) -> bool
+        ensures adds { AddsOnly (HasExit others.now) self.old self.new }
+        ensures grown { OnTrue result (room_left self.new < room_left self.old) }
+        ensures same { OnFalse result (self.new ≡ self.old) }
+    {
+        let mut grown = false;
+        for place in 0..others.len() {
+            let other = others.get(place);
+            if self.unite(other.way, &other.tokens) {
+                grown = true;
+            }
+        }
+        grown
+    }
+
+    /// Whether they have an exit in common.
+    pub(crate) fn meet(&self, others: &Exits) -> bool
+        ensures { OnTrue result (HaveExitInCommon self.now others.now) }
+    {
+        for place in 0..self.len() {
+            if others.meets(self.get(place)) {
+                return true;
+            }
+        }
+        false
+    }
+
+    // Whether they have this exit with one of its lookaheads.
+    fn meets(&self, other: &Exit) -> bool
+        ensures { OnTrue result ((r : Control) × HasExit self.now r × LeavesIn other.now.way other.now.tokens r) }
+    {
+        match self.tokens_at(other.way) {
+            Some(tokens) => tokens.has_common(&other.tokens),
+            None => false,
+        }
+    }
+
+    /// Whether they have all exits of the others.
+    pub(crate) fn cover(&self, others: &Exits) -> bool
+        ensures { OnTrue result (HaveAllExits self.now others.now) }
+    {
+        for place in 0..others.len() {
+            if !self.covers(others.get(place)) {
+                return false;
+            }
+        }
+        true
+    }
+
+    // Whether they have this exit with all its lookaheads.
+    fn covers(&self, other: &Exit) -> bool
+        ensures { OnTrue result ((r : Control) → LeavesIn other.now.way other.now.tokens r → HasExit self.now r) }
+    {
+        match self.tokens_at(other.way) {
+            Some(tokens) => tokens.covers(&other.tokens),
+            None => false,
+        }
+    }
+}

@@ -1,0 +1,180 @@
+//! What follows for a state from the exits of those to which it goes.
+ghost use Rattle.std.specs.Prelude.{◌≡◌, ◌<◌, ◌≤◌};
+ghost use Rattle.std.specs.Bool.{OnTrue};
+ghost use Rattle.lrpar_table_rows.specs.declared.rows.Action.{Action};
+ghost use Rattle.lrpar_table_rows.specs.declared.rows.Action.TheVariants.{Reduce};
+ghost use Rattle.lrpar_table_pops.specs.Sets.{room_in};
+
+use crate::entries::{actions_at, gotos_at, symbols_len};
+use crate::found::Found;
+use crate::pops::Pops;
+use lrpar_grammar::grammar::YaccGrammar;
+use lrpar_grammar::span::{PIdx, StIdx, StorageIndex, TIdx};
+use lrpar_table_check::check::ParserData;
+use lrpar_table_rows::table::{Action, StateTable};
+
+impl Pops {
+    ghost use Rattle.lrpar_table_pops.specs.Steps.{FollowsAt, FollowsRule, FollowsState, StartsAt, FollowsAction};
+
+    /// A state acts so at the token.
+    pub(crate) fn start<StorageT: StorageIndex>(
+        &self,
+        grm: &YaccGrammar<StorageT>,
+        token: TIdx<StorageT>,
+        action: Action<StorageT>,
+        found: &mut Found,
+    )
+        ensures { StartsAt StorageT.index grm.now self.now token action found.old found.new }
+    {
+        match action {
+            Action::Shift(next) => {
+                if let Some(exits) = self.any(next) {
+                    found.add_all(grm, exits);
+                }
+            }
+            Action::Reduce(prod) => {
+                if let Some(len) = symbols_len(grm, prod) {
+                    found.reduce(grm, usize::from(prod), len, usize::from(token));
+                }
+            }
+            Action::Accept => found.add_acceptance(usize::from(token)),
+            Action::Error => {}
+        }
+    }
+
+    // The state `next` on top acts so at the token.
+    fn follow_action<StorageT: StorageIndex>(
+        &self,
+        grm: &YaccGrammar<StorageT>,
+        next: StIdx<StorageT>,
+        token: TIdx<StorageT>,
+        action: Action<StorageT>,
+        found: &mut Found,
+    )
+        ensures follows { FollowsAction StorageT.index grm.now self.now next token action found.old found.new }
+        ensures followed { found.new.followed ≡ found.old.followed }
+    {
+        match action {
+            Action::Shift(_) => self.follow_kept(grm, next, token, found),
+            Action::Reduce(prod) => self.follow_reduction(grm, next, token, prod, found),
+            Action::Accept => found.add_acceptance(usize::from(token)),
+            Action::Error => {}
+        }
+    }
+
+    // The state `next` on top reduces by the production at the token.
+    fn follow_reduction<StorageT: StorageIndex>(
+        &self,
+        grm: &YaccGrammar<StorageT>,
+        next: StIdx<StorageT>,
+        token: TIdx<StorageT>,
+        prod: PIdx<StorageT>,
+        found: &mut Found,
+    )
+        ensures follows { FollowsAction StorageT.index grm.now self.now next token (Reduce prod) found.old found.new }
+        ensures followed { found.new.followed ≡ found.old.followed }
+    {
+        let Some(len) = symbols_len(grm, prod) else {
+            return;
+        };
+        if len == 0 {
+            self.follow_kept(grm, next, token, found);
+        } else {
+            found.reduce(grm, usize::from(prod), len - 1, usize::from(token));
+        }
+    }
+
+    // The exits of the state `next` at the token are kept.
+    fn follow_kept<StorageT: StorageIndex>(
+        &self,
+        grm: &YaccGrammar<StorageT>,
+        next: StIdx<StorageT>,
+        token: TIdx<StorageT>,
+        found: &mut Found,
+    )
+        ensures follows { (action : Action StorageT) → FollowsAction StorageT.index grm.now self.now next token action found.old found.new }
+        ensures followed { found.new.followed ≡ found.old.followed }
+    {
+        if let Some(exits) = self.at(next, usize::from(token)) {
+            found.add_all(grm, exits);
+        }
+    }
+
+    // Follows the goto by the rule to the state `next`, where that acts so at the token, if the rule is reduced at the token and this wasn't
+    // followed yet. Returns whether it was due.
+    fn follow_at<StorageT: StorageIndex>(
+        &self,
+        grm: &YaccGrammar<StorageT>,
+        rule: usize,
+        next: StIdx<StorageT>,
+        token: TIdx<StorageT>,
+        action: Action<StorageT>,
+        found: &mut Found,
+    ) -> bool
+        ensures follows { FollowsAt StorageT.index grm.now self.now rule next token action found.old found.new }
+        ensures less { OnTrue result (room_in found.new.followed.items < room_in found.old.followed.items) }
+        ensures no_more { room_in found.new.followed.items ≤ room_in found.old.followed.items }
+    {
+        if !found.is_due(rule, usize::from(token)) {
+            return false;
+        }
+        self.follow_action(grm, next, token, action, found);
+        true
+    }
+
+    // Follows the goto by the rule to the state `next` at each token. Returns whether any was due.
+    fn follow_rule<StorageT: StorageIndex>(
+        &self,
+        grm: &YaccGrammar<StorageT>,
+        stable: &StateTable<StorageT>,
+        rule: usize,
+        next: StIdx<StorageT>,
+        found: &mut Found,
+    ) -> bool
+        ensures follows { FollowsRule StorageT.index grm.now stable.now self.now rule next found.old found.new }
+        ensures less { OnTrue result (room_in found.new.followed.items < room_in found.old.followed.items) }
+        ensures no_more { room_in found.new.followed.items ≤ room_in found.old.followed.items }
+    {
+        let (tokens, actions) = actions_at(stable, next);
+        let mut was_due = false;
+        for place in 0..tokens.len() {
+            if self.follow_at(grm, rule, next, tokens[place], actions[place], found) {
+                was_due = true;
+            }
+        }
+        was_due
+    }
+
+    // Follows each goto of the state. Returns whether any was due.
+    fn follow_once<StorageT: StorageIndex>(
+        &self,
+        checked: &ParserData<StorageT>,
+        state: StIdx<StorageT>,
+        found: &mut Found,
+    ) -> bool
+        ensures follows { FollowsState StorageT.index checked.now.grammar checked.now.table self.now state found.old found.new }
+        ensures less { OnTrue result (room_in found.new.followed.items < room_in found.old.followed.items) }
+    {
+        let (grm, stable) = (checked.grm(), checked.stable());
+        let (rules, nexts) = gotos_at(stable, state);
+        let mut was_due = false;
+        for place in 0..rules.len() {
+            if self.follow_rule(grm, stable, usize::from(rules[place]), nexts[place], found) {
+                was_due = true;
+            }
+        }
+        was_due
+    }
+
+    /// Follows the gotos of the state until none is due.
+    pub(crate) fn follow<StorageT: StorageIndex>(
+        &self,
+        checked: &ParserData<StorageT>,
+        state: StIdx<StorageT>,
+        found: &mut Found,
+    )
+        ensures { FollowsState StorageT.index checked.now.grammar checked.now.table self.now state found.old found.new }
+    {
+        'passes: while self.follow_once(checked, state, found) {}
+    }
+}

@@ -1,0 +1,222 @@
+//! What is found of a state: its exits, and the reductions that can be made on top of it.
+ghost use Rattle.std.specs.Prelude.{◌≡◌, ◌<◌, ◌≤◌, ℕ, IfSome, IsTrue, OnOk};
+ghost use Rattle.std.specs.Bool.{OnTrue};
+ghost use Rattle.lrpar_grammar.specs.Grammar.{Grammar, rule_of};
+ghost use Rattle.lrpar_grammar.specs.Tokens.{has, missing};
+ghost use Rattle.lrpar_table_rows.specs.Graph.{graph_len};
+ghost use Rattle.lrpar_table_pops.specs.Exits.{HasExit, HasNoExit, LeavesIn};
+ghost use Rattle.lrpar_table_pops.specs.Pops.{Done, Dropping};
+ghost use Rattle.lrpar_table_pops.specs.Sets.{HaveNoTokens, tokens_by, room_in};
+
+use crate::exits::{Exit, Exits, Way};
+use crate::sets::{clear_sets, empty_sets, insert, insert_new, unite};
+use lrpar_grammar::grammar::YaccGrammar;
+use lrpar_grammar::span::{PIdx, StIdx, StorageIndex};
+use lrpar_grammar::token_set::TokenSet;
+use lrpar_table_check::check::ParserData;
+use std::alloc::{AllocError, Global};
+
+/// What is found of a state: its exits; for each rule the tokens at which all symbols of one of its productions are dropped above the state;
+/// and those of these tokens at which the rule's goto was followed.
+#[derive(Drop)]
+pub(crate) struct Found {
+    exits: Exits,
+    reduced: Vec<TokenSet>,
+    followed: Vec<TokenSet>,
+}
+
+impl Found {
+    ghost use Rattle.lrpar_table_pops.specs.Found.{StaysFound};
+
+    /// Nothing.
+    pub(crate) fn new<StorageT: StorageIndex>(
+        alloc: Global,
+        grm: &YaccGrammar<StorageT>,
+    ) -> Result<Self, AllocError> {
+        let exits = Exits::none(alloc);
+        let reduced = empty_sets(alloc, grm)?;
+        let followed = empty_sets(alloc, grm)?;
+        Ok(Found {
+            exits,
+            reduced,
+            followed,
+        })
+    }
+
+    /// The exits that are found.
+    pub(crate) fn exits(&self) -> &Exits
+        ensures { result.now ≡ self.now.exits }
+    {
+        &self.exits
+    }
+
+    /// Begins with a state, of which nothing is found yet.
+    pub(crate) fn begin<StorageT: StorageIndex>(
+        &mut self,
+        alloc: Global,
+        checked: &ParserData<StorageT>,
+        state: StIdx<StorageT>,
+    ) -> Result<(), AllocError>
+        requires { StorageT.index state.0 < graph_len checked.now.graph }
+        ensures exits { OnOk result (HasNoExit self.new.exits) }
+        ensures reduced { OnOk result (HaveNoTokens self.new.reduced.items) }
+    {
+        self.exits = Exits::new(alloc, checked, state)?;
+        clear_sets(&mut self.reduced);
+        clear_sets(&mut self.followed);
+        Ok(())
+    }
+
+    /// At the token a run reduces by the production, and drops this number of states first, beginning with this one.
+    pub(crate) fn reduce<StorageT: StorageIndex>(
+        &mut self,
+        grm: &YaccGrammar<StorageT>,
+        prod: usize,
+        symbols: usize,
+        token: usize,
+    )
+        ensures stays { StaysFound grm.now (λ q. q ≡ Dropping prod symbols token) self.old self.new }
+        ensures followed { self.new.followed ≡ self.old.followed }
+    {
+        if symbols == 0 {
+            self.reduce_here(grm, prod, token);
+        } else {
+            let left = symbols - 1;
+            self.exits.insert(Way::Reduction { prod, left }, token);
+        }
+    }
+
+    // At the token a run reduces by the production, and drops no more states.
+    fn reduce_here<StorageT: StorageIndex>(
+        &mut self,
+        grm: &YaccGrammar<StorageT>,
+        prod: usize,
+        token: usize,
+    )
+        ensures stays { StaysFound grm.now (λ q. q ≡ Dropping prod 0 token) self.old self.new }
+        ensures followed { self.new.followed ≡ self.old.followed }
+    {
+        if let Some(rule) = rule_number(grm, prod)
+            && rule < self.reduced.len()
+        {
+            insert(&mut self.reduced[rule], token);
+        }
+    }
+
+    /// A run has accepted, with this token as lookahead.
+    pub(crate) fn add_acceptance(&mut self, token: usize)
+        ensures stays { (g : Grammar) → StaysFound g (λ q. q ≡ Done) self.old self.new }
+        ensures followed { self.new.followed ≡ self.old.followed }
+    {
+        self.exits.insert(Way::Acceptance, token);
+    }
+
+    /// A run left the state above by these exits.
+    pub(crate) fn add_all<StorageT: StorageIndex>(
+        &mut self,
+        grm: &YaccGrammar<StorageT>,
+        above: &Exits,
+    )
+        ensures stays { StaysFound grm.now (HasExit above.now) self.old self.new }
+        ensures followed { self.new.followed ≡ self.old.followed }
+    {
+        for place in 0..above.len() {
+            self.add_exit(grm, above.get(place));
+        }
+    }
+
+    // A run left the state above by this exit.
+    fn add_exit<StorageT: StorageIndex>(&mut self, grm: &YaccGrammar<StorageT>, above: &Exit)
+        ensures stays { StaysFound grm.now (LeavesIn above.now.way above.now.tokens) self.old self.new }
+        ensures followed { self.new.followed ≡ self.old.followed }
+    {
+        match above.way {
+            Way::Acceptance => {
+                self.exits.unite(Way::Acceptance, &above.tokens);
+            }
+            Way::Reduction { prod, left } => self.add_reduction(grm, prod, left, &above.tokens),
+        }
+    }
+
+    // A run left the state above to reduce by the production, and still drops this number of states, beginning with this one.
+    fn add_reduction<StorageT: StorageIndex>(
+        &mut self,
+        grm: &YaccGrammar<StorageT>,
+        prod: usize,
+        symbols: usize,
+        tokens: &TokenSet,
+    )
+        ensures stays { StaysFound grm.now (λ q. (t : ℕ) × IsTrue (has tokens.now t) × (q ≡ Dropping prod symbols t)) self.old self.new }
+        ensures followed { self.new.followed ≡ self.old.followed }
+    {
+        if symbols == 0 {
+            self.add_here(grm, prod, tokens);
+        } else {
+            let left = symbols - 1;
+            self.exits.unite(Way::Reduction { prod, left }, tokens);
+        }
+    }
+
+    // A run left the state above to reduce by the production, and drops no more states.
+    fn add_here<StorageT: StorageIndex>(
+        &mut self,
+        grm: &YaccGrammar<StorageT>,
+        prod: usize,
+        tokens: &TokenSet,
+    )
+        ensures stays { StaysFound grm.now (λ q. (t : ℕ) × IsTrue (has tokens.now t) × (q ≡ Dropping prod 0 t)) self.old self.new }
+        ensures followed { self.new.followed ≡ self.old.followed }
+    {
+        if let Some(rule) = rule_number(grm, prod)
+            && rule < self.reduced.len()
+        {
+            unite(&mut self.reduced[rule], tokens);
+        }
+    }
+
+    /// Whether some reduction to the rule is found.
+    pub(crate) fn is_reduced(&self, rule: usize) -> bool {
+        match self.reduced.get(rule) {
+            Some(tokens) => tokens.has_any(),
+            None => false,
+        }
+    }
+
+    /// Whether the rule's goto is to be followed at the token. It counts as followed then.
+    pub(crate) fn is_due(&mut self, rule: usize, token: usize) -> bool
+        ensures due { OnTrue result (IsTrue (has (tokens_by self.old.reduced.items rule) token)) }
+        ensures exits { self.new.exits ≡ self.old.exits }
+        ensures reduced { self.new.reduced ≡ self.old.reduced }
+        ensures less { OnTrue result (room_in self.new.followed.items < room_in self.old.followed.items) }
+        ensures no_more { room_in self.new.followed.items ≤ room_in self.old.followed.items }
+    {
+        if !self.has_reduced(rule, token) || rule >= self.followed.len() {
+            return false;
+        }
+        insert_new(&mut self.followed[rule], token)
+    }
+
+    // Whether a reduction to the rule at the token is found.
+    fn has_reduced(&self, rule: usize, token: usize) -> bool
+        ensures { result ≡ has (tokens_by self.now.reduced.items rule) token }
+    {
+        match self.reduced.get(rule) {
+            Some(tokens) => tokens.contains(token),
+            None => false,
+        }
+    }
+}
+
+/// The rule of the production, if the grammar has it.
+pub(crate) fn rule_number<StorageT: StorageIndex>(
+    grm: &YaccGrammar<StorageT>,
+    prod: usize,
+) -> Option<usize>
+    ensures { IfSome result (λ rule. rule ≡ rule_of grm.now prod) }
+{
+    if prod >= grm.prods_len() {
+        return None;
+    }
+    let rule = grm.prod_to_rule(PIdx(StorageT::from_index(prod).unwrap()));
+    Some(usize::from(rule))
+}

@@ -1,0 +1,311 @@
+//! The exits of a stack's top from which a run goes on to accept, whatever comes next.
+ghost use Rattle.std.specs.Prelude.{◌≡◌, ◌<◌, ◌≤◌, IfOk, IfSome, []};
+ghost use Rattle.std.specs.Bool.{OnTrue};
+ghost use Rattle.lrpar_grammar.specs.Grammar.{rule_of};
+ghost use Rattle.lrpar_table_rows.specs.StoredRows.{IsActionAt};
+ghost use Rattle.lrpar_table_rows.specs.Table.{states_len};
+ghost use Rattle.lrpar_table_pops.specs.Exits.{AddsOnly, HasExit, LeavesIn, control_of};
+ghost use Rattle.lrpar_table_pops.specs.Good.{AddsByGoto, AddsTokenBy, AllGoOn, AreGoodOver, GoesOn, KeepsReductions, LeadBoth, LeadToReductions, ReadsOn, SomeGoesOn};
+ghost use Rattle.lrpar_table_pops.specs.Pops.{Dropping};
+ghost use Rattle.lrpar_table_pops.specs.Sets.{room_in, tokens_by};
+ghost use Rattle.lrpar_table_pops.specs.StoredPops.{ArePopsOf, at_of};
+
+use crate::exits::{Exit, Exits, Way};
+use crate::found::rule_number;
+use crate::pops::Pops;
+use crate::sets::{empty_sets, insert_new};
+use lrpar_grammar::grammar::YaccGrammar;
+use lrpar_grammar::span::{StIdx, StorageIndex, TIdx};
+use lrpar_grammar::token_set::TokenSet;
+use lrpar_table_check::check::ParserData;
+use lrpar_table_rows::table::Action;
+use std::alloc::{AllocError, Global};
+
+/// The good exits of the start state alone: a run has accepted.
+pub(crate) fn good_at_start<StorageT: StorageIndex>(
+    alloc: Global,
+    checked: &ParserData<StorageT>,
+) -> Result<Exits, AllocError>
+    ensures { IfOk result (AreGoodOver checked.now.grammar checked.now.table []) }
+{
+    let mut good = Exits::new(alloc, checked, checked.stable().start_state())?;
+    good.insert(Way::Acceptance, usize::from(checked.grm().eof_token_idx()));
+    Ok(good)
+}
+
+/// For each rule the lookaheads at which it can be reduced on top of a stack, with the state on top, so that a run goes on to accept, by the
+/// good exits of the state.
+pub(crate) fn good_reductions<StorageT: StorageIndex>(
+    alloc: Global,
+    checked: &ParserData<StorageT>,
+    pops: &Pops,
+    state: StIdx<StorageT>,
+    good: &Exits,
+) -> Result<Vec<TokenSet>, AllocError>
+    requires pops { ArePopsOf checked.now.grammar checked.now.table pops.now }
+    requires state { StorageT.index state.0 < states_len checked.now.table }
+    ensures { IfOk result (λ reduced. LeadToReductions checked.now.grammar checked.now.table (StorageT.index state.0) good.now reduced.items) }
+{
+    let mut reduced = empty_sets(alloc, checked.grm())?;
+    'passes: while add_all(checked, pops, state, good, &mut reduced) {}
+    Ok(reduced)
+}
+
+// Adds the reductions, by each goto of the state, after which a run takes the state off by a good exit. Returns whether any was new.
+fn add_all<StorageT: StorageIndex>(
+    checked: &ParserData<StorageT>,
+    pops: &Pops,
+    state: StIdx<StorageT>,
+    good: &Exits,
+    reduced: &mut Vec<TokenSet>,
+) -> bool
+    requires pops { ArePopsOf checked.now.grammar checked.now.table pops.now }
+    requires state { StorageT.index state.0 < states_len checked.now.table }
+    ensures keeps { KeepsReductions checked.now.grammar checked.now.table (StorageT.index state.0) good.now reduced.old.items reduced.new.items }
+    ensures room { room_in reduced.new.items ≤ room_in reduced.old.items }
+    ensures grown { OnTrue result (room_in reduced.new.items < room_in reduced.old.items) }
+{
+    let (rules, nexts) = checked.stable().gotos_of(state);
+    let mut grown = false;
+    'gotos: for (place, rule) in rules.iter().enumerate() {
+        let next = nexts[place];
+        if add_by_goto(checked, pops, usize::from(*rule), next, good, reduced) {
+            grown = true;
+        }
+    }
+    grown
+}
+
+// Adds the reductions to the rule after which a run takes the state below by a good exit, if that has this goto by the rule. Returns whether
+// any was new.
+fn add_by_goto<StorageT: StorageIndex>(
+    checked: &ParserData<StorageT>,
+    pops: &Pops,
+    rule: usize,
+    next: StIdx<StorageT>,
+    good: &Exits,
+    reduced: &mut Vec<TokenSet>,
+) -> bool
+    requires pops { ArePopsOf checked.now.grammar checked.now.table pops.now }
+    requires next { StorageT.index next.0 < states_len checked.now.table }
+    ensures keeps { AddsByGoto checked.now.grammar checked.now.table good.now rule (StorageT.index next.0) reduced.old.items reduced.new.items }
+    ensures room { room_in reduced.new.items ≤ room_in reduced.old.items }
+    ensures grown { OnTrue result (room_in reduced.new.items < room_in reduced.old.items) }
+{
+    let (tokens, actions) = checked.stable().actions_of(next);
+    let mut grown = false;
+    'tokens: for (place, token) in tokens.iter().enumerate() {
+        if has_token(reduced, rule, usize::from(*token)) {
+            continue;
+        }
+        if reads_on(checked, pops, next, *token, actions[place], good, reduced)
+            && insert_by(reduced, rule, usize::from(*token))
+        {
+            grown = true;
+        }
+    }
+    grown
+}
+
+// Whether the token is one of the rule's.
+fn has_token(reduced: &[TokenSet], rule: usize, token: usize) -> bool {
+    match reduced.get(rule) {
+        Some(tokens) => tokens.contains(token),
+        None => false,
+    }
+}
+
+// Adds the token to those of the rule. Returns whether it was new.
+fn insert_by(reduced: &mut Vec<TokenSet>, rule: usize, token: usize) -> bool
+    ensures adds { AddsTokenBy reduced.old.items reduced.new.items rule token }
+    ensures room { room_in reduced.new.items ≤ room_in reduced.old.items }
+    ensures grown { OnTrue result (room_in reduced.new.items < room_in reduced.old.items) }
+{
+    if rule >= reduced.len() {
+        return false;
+    }
+    insert_new(&mut reduced[rule], token)
+}
+
+// Whether a run that reads the token, with state `next` on top, takes that state off, and goes on to accept.
+fn reads_on<StorageT: StorageIndex>(
+    checked: &ParserData<StorageT>,
+    pops: &Pops,
+    next: StIdx<StorageT>,
+    token: TIdx<StorageT>,
+    action: Action<StorageT>,
+    good: &Exits,
+    reduced: &[TokenSet],
+) -> bool
+    requires pops { ArePopsOf checked.now.grammar checked.now.table pops.now }
+    requires next { StorageT.index next.0 < states_len checked.now.table }
+    requires action { IsActionAt StorageT.index checked.now.table next token action }
+    ensures { OnTrue result (ReadsOn checked.now.grammar checked.now.table good.now reduced.now (StorageT.index next.0) (StorageT.index token.0)) }
+{
+    let grm = checked.grm();
+    // The proof needs that the table is safe.
+    let _lemma = checked.stable();
+    match action {
+        Action::Error => false,
+        Action::Accept => is_good_at(grm, Way::Acceptance, usize::from(token), good, reduced),
+        Action::Shift(_) => has_good_pop(grm, pops, next, usize::from(token), good, reduced),
+        Action::Reduce(prod) => {
+            let symbols = grm.prod(prod).len();
+            if symbols == 0 {
+                has_good_pop(grm, pops, next, usize::from(token), good, reduced)
+            } else {
+                let (prod, left) = (usize::from(prod), symbols - 1);
+                let way = Way::Reduction { prod, left };
+                is_good_at(grm, way, usize::from(token), good, reduced)
+            }
+        }
+    }
+}
+
+// Whether the state has a good exit at the token.
+fn has_good_pop<StorageT: StorageIndex>(
+    grm: &YaccGrammar<StorageT>,
+    pops: &Pops,
+    state: StIdx<StorageT>,
+    token: usize,
+    good: &Exits,
+    reduced: &[TokenSet],
+) -> bool
+    ensures { OnTrue result (SomeGoesOn grm.now good.now reduced.now (HasExit (at_of pops.now (StorageT.index state.0) token))) }
+{
+    match pops.at(state, token) {
+        Some(above) => has_good(grm, above, good, reduced),
+        None => false,
+    }
+}
+
+// Whether one of the exits of the state above is good.
+fn has_good<StorageT: StorageIndex>(
+    grm: &YaccGrammar<StorageT>,
+    above: &Exits,
+    good: &Exits,
+    reduced: &[TokenSet],
+) -> bool
+    ensures { OnTrue result (SomeGoesOn grm.now good.now reduced.now (HasExit above.now)) }
+{
+    for place in 0..above.len() {
+        if is_good(grm, above.get(place), good, reduced) {
+            return true;
+        }
+    }
+    false
+}
+
+// Whether the exit of the state above is good with one of its lookaheads.
+fn is_good<StorageT: StorageIndex>(
+    grm: &YaccGrammar<StorageT>,
+    exit: &Exit,
+    good: &Exits,
+    reduced: &[TokenSet],
+) -> bool
+    ensures { OnTrue result (SomeGoesOn grm.now good.now reduced.now (LeavesIn exit.now.way exit.now.tokens)) }
+{
+    match good_tokens(grm, exit.way, good, reduced) {
+        Some(tokens) => tokens.has_common(&exit.tokens),
+        None => false,
+    }
+}
+
+// Whether the exit of the state above this way, at the token, is good.
+fn is_good_at<StorageT: StorageIndex>(
+    grm: &YaccGrammar<StorageT>,
+    way: Way,
+    token: usize,
+    good: &Exits,
+    reduced: &[TokenSet],
+) -> bool
+    ensures { OnTrue result (GoesOn grm.now good.now reduced.now (control_of way token)) }
+{
+    match good_tokens(grm, way, good, reduced) {
+        Some(tokens) => tokens.contains(token),
+        None => false,
+    }
+}
+
+// The lookaheads at which the exit of the state above this way is good.
+fn good_tokens<'a, StorageT: StorageIndex>(
+    grm: &YaccGrammar<StorageT>,
+    way: Way,
+    good: &'a Exits,
+    reduced: &'a [TokenSet],
+) -> Option<&'a TokenSet>
+    ensures { IfSome result (λ tokens. AllGoOn grm.now good.now reduced.now (control_of way) tokens.now) }
+{
+    match way {
+        Way::Acceptance => good.tokens_at(Way::Acceptance),
+        Way::Reduction { prod, left } => good_drops(grm, prod, left, good, reduced),
+    }
+}
+
+// The lookaheads at which a run that reduces by the production is good, if it first drops this number of states, beginning with this one.
+fn good_drops<'a, StorageT: StorageIndex>(
+    grm: &YaccGrammar<StorageT>,
+    prod: usize,
+    symbols: usize,
+    good: &'a Exits,
+    reduced: &'a [TokenSet],
+) -> Option<&'a TokenSet>
+    ensures { IfSome result (λ tokens. AllGoOn grm.now good.now reduced.now (Dropping prod symbols) tokens.now) }
+{
+    if symbols == 0 {
+        good_here(grm, prod, reduced)
+    } else {
+        let left = symbols - 1;
+        good.tokens_at(Way::Reduction { prod, left })
+    }
+}
+
+// The lookaheads at which a reduction by the production is good.
+fn good_here<'a, StorageT: StorageIndex>(
+    grm: &YaccGrammar<StorageT>,
+    prod: usize,
+    reduced: &'a [TokenSet],
+) -> Option<&'a TokenSet>
+    ensures { IfSome result (λ tokens. tokens.now ≡ tokens_by reduced.now (rule_of grm.now prod)) }
+{
+    reduced.get(rule_number(grm, prod)?)
+}
+
+/// The good exits of state `next` on top of a stack, by the good exits of the stack's top and the good reductions on top of the stack.
+pub(crate) fn good_above<StorageT: StorageIndex>(
+    alloc: Global,
+    checked: &ParserData<StorageT>,
+    good: &Exits,
+    reduced: &[TokenSet],
+    next: StIdx<StorageT>,
+) -> Result<Exits, AllocError>
+    requires { StorageT.index next.0 < states_len checked.now.table }
+    ensures { IfOk result (LeadBoth checked.now.grammar checked.now.table good.now reduced.now) }
+{
+    let grm = checked.grm();
+    // The proof needs that the item sets have the table's states.
+    let _lemma = checked.stable();
+    let mut above = Exits::new(alloc, checked, next)?;
+    for place in 0..above.len() {
+        add_good(grm, &mut above, place, good, reduced);
+    }
+    Ok(above)
+}
+
+// Adds the lookaheads at which the exit at this place is good.
+fn add_good<StorageT: StorageIndex>(
+    grm: &YaccGrammar<StorageT>,
+    above: &mut Exits,
+    place: usize,
+    good: &Exits,
+    reduced: &[TokenSet],
+)
+    ensures { AddsOnly (GoesOn grm.now good.now reduced.now) above.old above.new }
+{
+    if place < above.len() {
+        let way = above.get(place).way;
+        if let Some(tokens) = good_tokens(grm, way, good, reduced) {
+            above.unite(way, tokens);
+        }
+    }
+}
