@@ -17,8 +17,8 @@ use lrpar_table_sentences::shortest::Shortest;
 use std::alloc::{AllocError, Global};
 use std::marker::Model;
 
-/// How many stacks of a table are told apart, if nothing else is set.
-const MOST_STACKS: usize = 100_000;
+/// How many stacks of a table are told apart at most, if nothing else is set.
+const MAX_STACKS: usize = 100_000;
 
 /// A recoverer that always repairs, over any table all of whose stacks can be completed: also over one whose conflicts are resolved, whose
 /// states are merged, or whose grammar has rules that derive no text, if no run gets stuck there. `check_completable` says whether a table is
@@ -73,8 +73,22 @@ impl<'a, StorageT: StorageIndex> TableCompletion<'a, StorageT> {
         ensures completable { OnOk result (AreAllCompletable checked.now.grammar checked.now.table) }
         ensures refused { IfErr result (IsFault StorageT.index checked.now.table) }
     {
+        TableCompletion::with_max_stacks(alloc, checked, MAX_STACKS)
+    }
+
+    /// The recoverer over this table, as `new` makes it, but for the stacks to tell apart: there may be up to `max_stacks`. With fewer, a large
+    /// table is refused sooner.
+    pub fn with_max_stacks(
+        alloc: Global,
+        checked: &'a ParserData<StorageT>,
+        max_stacks: usize,
+    ) -> Result<Self, Incompletable<StorageT>>
+        ensures made { IfOk result (λ c. c ≡ record { checked = checked.now; most = 8 }) }
+        ensures completable { OnOk result (AreAllCompletable checked.now.grammar checked.now.table) }
+        ensures refused { IfErr result (IsFault StorageT.index checked.now.table) }
+    {
         let _lemma = checked.stable();
-        check_completable(alloc, checked, MOST_STACKS)?;
+        check_completable(alloc, checked, max_stacks)?;
         let shortest = Shortest::new(alloc, checked.grm())?;
         Ok(TableCompletion {
             checked,

@@ -97,6 +97,25 @@ module _ (exits now : List Exit) (place : ℕ) (way : Way) (old : Exit) (is : no
 empty_leaves : (exit : Exit) → IsEmptySet exit.tokens → (r : Control) → ¬ (LeavesIn exit.way exit.tokens r)
 empty_leaves exit empty r leaves = let no : true ≡ false = sym leaves.1 ∙ empty leaves.0 in absurd (let none : ⊥ = cc in none)
 
+-- the first exits have no lookaheads
+abbrev pub AreClearUpTo : List Exit → ℕ → Type 0
+AreClearUpTo exits n = (i : ℕ) (exit : Exit) → i < n → i < length exits → get_or exits i exit ≡ exit → IsEmptySet exit.tokens
+
+pub clear_more : (exits : List Exit) (n : ℕ) (new : Exit) → n < length exits → AreClearUpTo exits n → IsEmptySet new.tokens
+    → AreClearUpTo (set exits n new) (n + 1)
+clear_more exits n new low before empty i exit below within is =
+    elim (cases_eq i n) as (λ _. IsEmptySet exit.tokens) [
+      | inl here ↦ subst (λ (e : Exit). IsEmptySet e.tokens) (sym (get_or-set_at exits n i new exit here low) ∙ is) empty
+      | inr other ↦
+          let same = length-set exits n new in
+          before i exit (omega (arith, below, other)) (omega (arith, within, same)) (sym (get_or-set_other exits n i new exit other) ∙ is)
+    ]
+
+pub all_clear : (exits : List Exit) (n : ℕ) → length exits ≤ n → AreClearUpTo exits n → HasNoExit exits
+all_clear exits n all clear r h =
+    let within = h.1.1 in
+    empty_leaves h.0 (clear h.1.0 h.0 (omega (arith, all, within)) within h.1.2) r h.2
+
 one_contains : {X : Type 0} (x y : X) → Contains (x ∷ []) y → y ≡ x
 one_contains x y (zero, low, is) = sym is
 one_contains x y (suc k, low, is) = absurd (omega (arith, low))

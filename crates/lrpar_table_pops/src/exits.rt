@@ -78,6 +78,13 @@ impl Exits {
         Ok(Exits { exits })
     }
 
+    /// Removes all lookaheads.
+    pub(crate) fn clear(&mut self)
+        ensures { HasNoExit self.new }
+    {
+        clear_all(&mut self.exits);
+    }
+
     /// How many there are.
     pub(crate) fn len(&self) -> usize
         ensures { result ≡ length self.now }
@@ -197,5 +204,14 @@ impl Exits {
             Some(tokens) => tokens.covers(&other.tokens),
             None => false,
         }
+    }
+}
+
+// Removes all lookaheads of these exits.
+fn clear_all(exits: &mut Vec<Exit>)
+    ensures { HasNoExit exits.new.items }
+{
+    for place in 0..exits.len() {
+        exits[place].tokens.clear();
     }
 }

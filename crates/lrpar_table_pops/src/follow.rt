@@ -135,6 +135,9 @@ impl Pops {
         ensures less { OnTrue result (room_in found.new.followed.items < room_in found.old.followed.items) }
         ensures no_more { room_in found.new.followed.items ≤ room_in found.old.followed.items }
     {
+        if !found.is_rule_due(rule) {
+            return false;
+        }
         let (tokens, actions) = actions_at(stable, next);
         let mut was_due = false;
         for place in 0..tokens.len() {

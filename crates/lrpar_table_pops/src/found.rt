@@ -50,21 +50,27 @@ impl Found {
         &self.exits
     }
 
-    /// Begins with a state, of which nothing is found yet.
-    pub(crate) fn begin<StorageT: StorageIndex>(
+    /// Takes a state, for whose exits there is room from now on.
+    pub(crate) fn enter<StorageT: StorageIndex>(
         &mut self,
         alloc: Global,
         checked: &ParserData<StorageT>,
         state: StIdx<StorageT>,
     ) -> Result<(), AllocError>
         requires { StorageT.index state.0 < graph_len checked.now.graph }
-        ensures exits { OnOk result (HasNoExit self.new.exits) }
-        ensures reduced { OnOk result (HaveNoTokens self.new.reduced.items) }
     {
         self.exits = Exits::new(alloc, checked, state)?;
+        Ok(())
+    }
+
+    /// Begins anew with the state that was entered last: nothing of it is found yet.
+    pub(crate) fn clear(&mut self)
+        ensures exits { HasNoExit self.new.exits }
+        ensures reduced { HaveNoTokens self.new.reduced.items }
+    {
+        self.exits.clear();
         clear_sets(&mut self.reduced);
         clear_sets(&mut self.followed);
-        Ok(())
     }
 
     /// At the token a run reduces by the production, and drops this number of states first, beginning with this one.
@@ -174,11 +180,11 @@ impl Found {
         }
     }
 
-    /// Whether some reduction to the rule is found.
-    pub(crate) fn is_reduced(&self, rule: usize) -> bool {
-        match self.reduced.get(rule) {
-            Some(tokens) => tokens.has_any(),
-            None => false,
+    /// Whether the rule's goto is to be followed at some token.
+    pub(crate) fn is_rule_due(&self, rule: usize) -> bool {
+        match (self.reduced.get(rule), self.followed.get(rule)) {
+            (Some(reduced), Some(followed)) => !followed.covers(reduced),
+            (Some(_), None) | (None, Some(_)) | (None, None) => false,
         }
     }
 

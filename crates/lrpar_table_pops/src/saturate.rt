@@ -105,82 +105,77 @@ impl Pops {
         ensures less { IfOk result (λ grown. OnTrue grown (room_of self.new < room_of self.old)) }
         ensures no_more { OnOk result (room_of self.new ≤ room_of self.old) }
     {
-        let at_tokens = self.add_at_tokens(alloc, checked, state, found)?;
-        let at_any = self.add_at_any(alloc, checked, state, found)?;
+        found.enter(alloc, checked, state)?;
+        let at_tokens = self.add_at_tokens(checked, state, found);
+        let at_any = self.add_at_any(checked, state, found);
         Ok(at_tokens || at_any)
     }
 
     // Adds what follows for the state at each of its tokens. Returns whether anything was new.
     fn add_at_tokens<StorageT: StorageIndex>(
         &mut self,
-        alloc: Global,
         checked: &ParserData<StorageT>,
         state: StIdx<StorageT>,
         found: &mut Found,
-    ) -> Result<bool, AllocError>
-        requires state { StorageT.index state.0 < graph_len checked.now.graph }
+    ) -> bool
         requires alone { AcceptsAtEndAlone checked.now.grammar checked.now.table }
         requires pops { ArePopsOf checked.now.grammar checked.now.table self.old }
-        ensures pops { OnOk result (ArePopsOf checked.now.grammar checked.now.table self.new) }
-        ensures less { IfOk result (λ grown. OnTrue grown (room_of self.new < room_of self.old)) }
-        ensures no_more { OnOk result (room_of self.new ≤ room_of self.old) }
+        ensures pops { ArePopsOf checked.now.grammar checked.now.table self.new }
+        ensures less { OnTrue result (room_of self.new < room_of self.old) }
+        ensures no_more { room_of self.new ≤ room_of self.old }
     {
         let (tokens, actions) = actions_at(checked.stable(), state);
         let mut grown = false;
         'tokens: for place in 0..tokens.len() {
-            if self.add_at(alloc, checked, state, tokens[place], actions[place], found)? {
+            if self.add_at(checked, state, tokens[place], actions[place], found) {
                 grown = true;
             }
         }
-        Ok(grown)
+        grown
     }
 
     // Adds what follows for the state at the token, where it acts so, if that is kept. Returns whether anything was new.
     fn add_at<StorageT: StorageIndex>(
         &mut self,
-        alloc: Global,
         checked: &ParserData<StorageT>,
         state: StIdx<StorageT>,
         token: TIdx<StorageT>,
         action: Action<StorageT>,
         found: &mut Found,
-    ) -> Result<bool, AllocError>
-        requires state { StorageT.index state.0 < graph_len checked.now.graph }
+    ) -> bool
         requires acts { action_of checked.now.table (StorageT.index state.0) (StorageT.index token.0) ≡ plain_action StorageT.index action }
         requires alone { AcceptsAtEndAlone checked.now.grammar checked.now.table }
         requires pops { ArePopsOf checked.now.grammar checked.now.table self.old }
-        ensures pops { OnOk result (ArePopsOf checked.now.grammar checked.now.table self.new) }
-        ensures less { IfOk result (λ grown. OnTrue grown (room_of self.new < room_of self.old)) }
-        ensures no_more { OnOk result (room_of self.new ≤ room_of self.old) }
+        ensures pops { ArePopsOf checked.now.grammar checked.now.table self.new }
+        ensures less { OnTrue result (room_of self.new < room_of self.old) }
+        ensures no_more { room_of self.new ≤ room_of self.old }
     {
         if !self.keeps(state, token) {
-            return Ok(false);
+            return false;
         }
-        found.begin(alloc, checked, state)?;
+        found.clear();
         self.start(checked.grm(), token, action, found);
         self.follow(checked, state, found);
-        Ok(self.unite_at(usize::from(state), usize::from(token), found.exits()))
+        self.unite_at(usize::from(state), usize::from(token), found.exits())
     }
 
     // Adds what follows for the state at any token. Returns whether anything was new.
     fn add_at_any<StorageT: StorageIndex>(
         &mut self,
-        alloc: Global,
         checked: &ParserData<StorageT>,
         state: StIdx<StorageT>,
         found: &mut Found,
-    ) -> Result<bool, AllocError>
-        requires state { StorageT.index state.0 < graph_len checked.now.graph }
+    ) -> bool
         requires alone { AcceptsAtEndAlone checked.now.grammar checked.now.table }
         requires pops { ArePopsOf checked.now.grammar checked.now.table self.old }
-        ensures pops { OnOk result (ArePopsOf checked.now.grammar checked.now.table self.new) }
-        ensures less { IfOk result (λ grown. OnTrue grown (room_of self.new < room_of self.old)) }
-        ensures no_more { OnOk result (room_of self.new ≤ room_of self.old) }
+        ensures pops { ArePopsOf checked.now.grammar checked.now.table self.new }
+        ensures less { OnTrue result (room_of self.new < room_of self.old) }
+        ensures no_more { room_of self.new ≤ room_of self.old }
     {
-        found.begin(alloc, checked, state)?;
+        found.clear();
         self.start_all(checked, state, found);
         self.follow(checked, state, found);
-        Ok(self.unite_any(usize::from(state), found.exits()))
+        self.unite_any(usize::from(state), found.exits())
     }
 
     // The state acts at each of its tokens.

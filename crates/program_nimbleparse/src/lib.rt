@@ -2,6 +2,7 @@
 #![tactic(auto)]
 
 mod command;
+mod completing;
 mod conflicts;
 mod counts;
 mod declared;
@@ -14,9 +15,10 @@ mod inputs;
 pub mod kind;
 mod look;
 mod options;
-pub mod parse;
-pub mod plan;
+mod parse;
+mod plan;
 mod program;
+mod recoverers;
 pub mod rules;
 pub mod show;
 mod sizes;

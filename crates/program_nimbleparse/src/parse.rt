@@ -1,6 +1,8 @@
 //! The parse of one input, and what is printed of it.
+use crate::completing::Completing;
 use crate::errors::{Subject, push_lexing_error, push_parse_error};
 use crate::plan::{Format, Plan, Recovery};
+use crate::recoverers::{Again, Both};
 use crate::rules::LexerRules;
 use crate::show::write_messages;
 use lrpar_grammar::span::TIdx;
@@ -14,16 +16,18 @@ use lrpar_parse_trees::{Form, write_graph, write_nested};
 use lrpar_report::Reporter;
 use lrpar_table::check::ParserData;
 use program_files::fault::Fault;
-use program_files::parsing::{TextError, Tree};
+use program_files::parsing::{Parsed, TextError, Tree, with_shifts};
 use std::alloc::{AllocError, Global};
 use std::io::Write;
 
-/// Parses the input of this path and text by the parser, which is that of the plan's table. Writes messages of its errors, and prints its
-/// tree, if there is one. Returns whether there is a tree, and no error.
-pub fn parse<R: Recoverer<u32, Token<u32>> + Drop, O: Write, E: Write>(
+/// Parses the input of this path and text by the parser, which is that of the plan's table; and again with a completion, if an error has no
+/// repair and there is one. Writes messages of its errors, and prints its tree, if there is one. Returns whether there is a tree, and no
+/// error.
+pub(crate) fn parse<'a, R: Recoverer<u32, Token<u32>> + Drop, O: Write, E: Write>(
     alloc: Global,
     parser: &RTParserBuilder<'_, u32, TokenTypes, R>,
-    plan: &Plan<'_>,
+    completing: &mut Completing<'a>,
+    plan: &Plan<'a>,
     path: &str,
     input: &str,
     out: &mut O,
@@ -31,12 +35,16 @@ pub fn parse<R: Recoverer<u32, Token<u32>> + Drop, O: Write, E: Write>(
 ) -> Result<bool, Fault> {
     match plan.rules {
         LexerRules::Lines(rules) => {
-            let lexer = with_token(RuleLexer::new(alloc, rules, input)?, plan.unmatched);
-            parse_lexemes(alloc, parser, plan, &lexer, path, input, out, err)
+            let lexer = with_token(RuleLexer::new(alloc, rules, input)?, plan.unmatched());
+            parse_lexemes(
+                alloc, parser, completing, plan, &lexer, path, input, out, err,
+            )
         }
         LexerRules::States(rules) => {
-            let lexer = with_token(StateLexer::new(alloc, rules, input)?, plan.unmatched);
-            parse_lexemes(alloc, parser, plan, &lexer, path, input, out, err)
+            let lexer = with_token(StateLexer::new(alloc, rules, input)?, plan.unmatched());
+            parse_lexemes(
+                alloc, parser, completing, plan, &lexer, path, input, out, err,
+            )
         }
     }
 }
@@ -54,6 +62,7 @@ fn with_token<'input, R: LexRules<u32>>(
 
 // Parses the lexemes of an input, and prints what comes of it. Returns whether there is a tree, and no error.
 fn parse_lexemes<
+    'a,
     'input,
     R: Recoverer<u32, Token<u32>> + Drop,
     L: NonStreamingLexer<'input, TokenTypes>,
@@ -62,7 +71,8 @@ fn parse_lexemes<
 >(
     alloc: Global,
     parser: &RTParserBuilder<'_, u32, TokenTypes, R>,
-    plan: &Plan<'_>,
+    completing: &mut Completing<'a>,
+    plan: &Plan<'a>,
     lexer: &L,
     path: &str,
     input: &str,
@@ -70,8 +80,54 @@ fn parse_lexemes<
     err: &mut E,
 ) -> Result<bool, Fault> {
     let (tree, errors) = parser.parse_generictree(alloc, lexer)?;
-    let tree = tree.as_ref();
-    print_result(alloc, plan, lexer, path, input, tree, &errors, out, err)
+    if lacks_repair(&errors)
+        && let Some(both) = completing.both(alloc, plan.grammar, plan.table, out, err)?
+    {
+        let (tree, errors) = parse_again(alloc, plan, both, lexer, &errors)?;
+        return print_result(
+            alloc,
+            plan,
+            lexer,
+            path,
+            input,
+            tree.as_ref(),
+            &errors,
+            out,
+            err,
+        );
+    }
+    print_result(
+        alloc,
+        plan,
+        lexer,
+        path,
+        input,
+        tree.as_ref(),
+        &errors,
+        out,
+        err,
+    )
+}
+
+// Whether the last of the errors is one of a parse that has no repair.
+fn lacks_repair(errors: &[TextError]) -> bool {
+    match errors.last() {
+        Some(LexParseError::ParseError(error)) => error.repairs().is_empty(),
+        Some(LexParseError::LexError(_)) | None => false,
+    }
+}
+
+// Parses the lexemes again, after these errors, with the search and the completion.
+fn parse_again<'input, L: NonStreamingLexer<'input, TokenTypes>>(
+    alloc: Global,
+    plan: &Plan<'_>,
+    both: &Both<'_>,
+    lexer: &L,
+    errors: &[TextError],
+) -> Result<Parsed, Fault> {
+    let parser = RTParserBuilder::new(plan.data()).recoverer(Again { errors, both });
+    let parser = with_shifts(parser, plan.shifts)?;
+    Ok(parser.parse_generictree(alloc, lexer)?)
 }
 
 // Writes messages of the errors, and prints the tree. Returns whether there is a tree, and no error.
@@ -126,13 +182,13 @@ fn errors_text(
     let reporter = Reporter::new(alloc, input, path, plan.look)?;
     let mut text = String::new(alloc);
     for (place, error) in errors.iter().enumerate() {
-        let tokens = tokens_of(plan.data, plan.has_merged_states, expected, place, error);
-        let named = tokens_but(alloc, tokens, plan.hidden)?;
+        let tokens = tokens_of(plan.data(), plan.has_merged_states, expected, place, error);
+        let named = tokens_but(alloc, tokens, plan.table.hidden)?;
         let subject = Subject {
-            grm: plan.data.grm(),
+            grm: plan.data().grm(),
             input,
             expected: &named,
-            unmatched: plan.unmatched,
+            unmatched: plan.unmatched(),
         };
         push_error(&mut text, alloc, plan.recovery, &reporter, &subject, error)?;
     }
@@ -163,7 +219,7 @@ fn expected_tokens<'input, L: NonStreamingLexer<'input, TokenTypes>>(
 ) -> Result<Vec<TIdx<u32>>, Fault> {
     match errors.first() {
         Some(LexParseError::ParseError(_)) => {
-            let parser = RTParserBuilder::<u32, TokenTypes, _>::new(plan.data);
+            let parser = RTParserBuilder::<u32, TokenTypes, _>::new(plan.data());
             Ok(parser.expected(alloc, lexer)?.tokens)
         }
         _ => Ok(Vec::new(alloc)),
@@ -217,7 +273,7 @@ fn print_tree<O: Write>(
     if plan.is_quiet {
         return Ok(());
     }
-    let grm = plan.data.grm();
+    let grm = plan.data().grm();
     match plan.format {
         Format::Brackets => {
             print_path(plan, path, out)?;

@@ -1,4 +1,5 @@
 //! What inputs are parsed by, and how trees are printed.
+use crate::grammar::{GrammarFile, GrammarTable};
 use crate::rules::LexerRules;
 use lrpar_grammar::span::TIdx;
 use lrpar_report::Look;
@@ -36,20 +37,34 @@ pub enum Recovery {
 
 /// What inputs are parsed by, and how trees are printed.
 #[derive(Clone, Copy)]
-pub struct Plan<'a> {
-    pub data: &'a ParserData<u32>,
-    /// Whether the states of its table are merged.
-    pub has_merged_states: bool,
-    /// The token that no message names, if there is one.
-    pub hidden: Option<TIdx<u32>>,
-    /// The token of text that no line of the lexer takes, if there is one.
-    pub unmatched: Option<TIdx<u32>>,
-    pub rules: &'a LexerRules,
-    pub recovery: Recovery,
-    pub format: Format,
+pub(crate) struct Plan<'a> {
+    pub(crate) grammar: GrammarFile<'a>,
+    pub(crate) table: &'a GrammarTable,
+    pub(crate) rules: &'a LexerRules,
+    /// How many lexemes have to follow a repair, if it is said.
+    pub(crate) shifts: Option<usize>,
+    pub(crate) recovery: Recovery,
+    pub(crate) format: Format,
     /// Whether errors alone are printed.
-    pub is_quiet: bool,
+    pub(crate) is_quiet: bool,
+    /// Whether the states of the table are merged.
+    pub(crate) has_merged_states: bool,
     /// Whether trees are headed by the path of their input.
-    pub shows_paths: bool,
-    pub look: Look,
+    pub(crate) shows_paths: bool,
+    pub(crate) look: Look,
+}
+
+impl<'a> Plan<'a> {
+    /// The grammar with its checked table.
+    pub(crate) fn data(&self) -> &'a ParserData<u32> {
+        &self.table.data
+    }
+
+    /// The token of text that no line of the lexer takes, if there is one.
+    pub(crate) fn unmatched(&self) -> Option<TIdx<u32>> {
+        self.table
+            .unmatched
+            .as_ref()
+            .map(|unmatched| unmatched.token)
+    }
 }

@@ -3,6 +3,7 @@
 ghost use Rattle.std.specs.Prelude.{◌≤◌};
 
 use crate::command::PossibleValues;
+use crate::completing::Completing;
 use crate::fault_line::FaultLine;
 use crate::grammar::{GrammarFile, GrammarTable, make_table};
 use crate::inputs::{STANDARD_INPUT, file_text, input_text};
@@ -10,19 +11,16 @@ use crate::look::look_at;
 use crate::options::{GrammarOptions, Options, Request, request_of};
 use crate::parse::parse;
 use crate::plan::{Plan, Recovery};
+use crate::recoverers::cheapest;
 use crate::rules::{LexerRules, lexer_rules};
 use crate::show::{with_label_text, write_messages};
 use crate::sizes::{push_sizes, push_table};
 use lrpar_grammar::grammar::YaccGrammar;
-use lrpar_grammar::span::TIdx;
 use lrpar_lexer::{Token, TokenTypes};
 use lrpar_parse::RTParserBuilder;
-use lrpar_parse_completion::{Completion, NoCompletion};
-use lrpar_parse_cpctplus::CpctPlus;
 use lrpar_parse_repair::repair::Recoverer;
 use lrpar_report::{Level, Look, Report, Reporter, token_warnings};
 use lrpar_table::check::ParserData;
-use lrpar_table::table::StateTable;
 use lrpar_table_options::Minimiser;
 use program_files::fault::{Fault, Misuse};
 use program_files::parsing::with_shifts;
@@ -31,9 +29,6 @@ use std::alloc::{AllocError, Global};
 use std::env;
 use std::io::{BufWriter, IsTerminal, Read, Write};
 use std::rt::Files;
-
-/// How many searches of an input may keep as many configurations as the limit allows.
-const FULL_SEARCHES: usize = 500;
 
 /// What is known of the terminal that messages are written to.
 #[derive(Clone, Copy, Debug, PartialEq, Eq)]
@@ -215,14 +210,14 @@ impl<'a> Work<'a> {
     // How inputs are parsed and trees are printed.
     fn plan(self, table: &'a GrammarTable, rules: &'a LexerRules) -> Plan<'a> {
         Plan {
-            data: &table.data,
-            hidden: table.hidden,
-            unmatched: table.unmatched.as_ref().map(|unmatched| unmatched.token),
-            has_merged_states: self.options.asked.minimiser == Minimiser::Pager,
+            grammar: self.grammar_file(),
+            table,
             rules,
+            shifts: self.options.shifts,
             recovery: self.options.recovery,
             format: self.options.format,
             is_quiet: self.options.asked.is_quiet,
+            has_merged_states: self.options.asked.minimiser == Minimiser::Pager,
             shows_paths: self.options.inputs.len() > 1,
             look: self.terminal.look,
         }
@@ -340,112 +335,14 @@ fn parse_inputs<R: Files, I: Read + Drop, O: Write, E: Write>(
     out: &mut O,
     err: &mut E,
 ) -> Result<Status, Fault> {
-    let data = &table.data;
     let plan = work.plan(table, rules);
-    let parser = RTParserBuilder::new(data);
+    let parser = RTParserBuilder::new(plan.data());
     match plan.recovery {
         Recovery::Nothing => parse_by(rt, alloc, work, &plan, parser, input, out, err),
-        Recovery::Cheapest { limit } => {
+        Recovery::Cheapest { limit } | Recovery::Complete { limit } => {
             let parser = parser.recoverer(cheapest(alloc, limit, table)?);
             parse_by(rt, alloc, work, &plan, parser, input, out, err)
         }
-        Recovery::Complete { limit } => match make_completion(alloc, work, data, out, err)? {
-            Some(completion) => {
-                let parser = parser.recoverer(cheapest(alloc, limit, table)?.or(completion));
-                parse_by(rt, alloc, work, &plan, parser, input, out, err)
-            }
-            None => {
-                let parser = parser.recoverer(cheapest(alloc, limit, table)?);
-                parse_by(rt, alloc, work, &plan, parser, input, out, err)
-            }
-        },
-    }
-}
-
-// What searches for the cheapest repairs with this limit, those last that insert one of the tokens to be avoided. All searches of an
-// input together may keep `FULL_SEARCHES` times as many configurations.
-fn cheapest(alloc: Global, limit: usize, table: &GrammarTable) -> Result<CpctPlus, AllocError> {
-    let recoverer = match table.hidden {
-        Some(token) => with_dear_token(alloc, limit, token)?,
-        None => CpctPlus::new(limit),
-    };
-    let recoverer = recoverer.within(limit.saturating_mul(FULL_SEARCHES));
-    if table.avoided.is_empty() {
-        Ok(recoverer)
-    } else {
-        recoverer.avoid_insert(alloc, &table.avoided)
-    }
-}
-
-// What searches for the cheapest repairs with this limit, if it costs as much as can be to insert this token.
-fn with_dear_token(alloc: Global, limit: usize, token: TIdx<u32>) -> Result<CpctPlus, AllocError> {
-    let mut costs = vec![in alloc; 1u8; usize::from(token).saturating_add(1)]?;
-    if let Some(cost) = costs.get_mut(usize::from(token)) {
-        *cost = u8::MAX;
-    }
-    match CpctPlus::with_costs(limit, costs) {
-        Ok(recoverer) => Ok(recoverer),
-        Err(_) => Ok(CpctPlus::new(limit)),
-    }
-}
-
-// What completes each input, if the table is fit for it. Otherwise a note says why it isn't, unless the program is to be quiet.
-fn make_completion<'a, O: Write, E: Write>(
-    alloc: Global,
-    work: Work<'_>,
-    data: &'a ParserData<u32>,
-    out: &mut O,
-    err: &mut E,
-) -> Result<Option<Completion<'a, u32>>, Fault> {
-    match Completion::new(alloc, data) {
-        Ok(completion) => Ok(Some(completion)),
-        Err(NoCompletion::Memory) => Err(Fault::Memory),
-        Err(refusal) => {
-            if !work.options.asked.is_quiet {
-                let text = no_completion(alloc, work, data, refusal)?;
-                write_messages(out, err, text.as_str())?;
-            }
-            Ok(None)
-        }
-    }
-}
-
-// The note that there is no completion, and why.
-fn no_completion(
-    alloc: Global,
-    work: Work<'_>,
-    data: &ParserData<u32>,
-    refusal: NoCompletion<u32>,
-) -> Result<String, AllocError> {
-    let grm = data.grm();
-    let mut why = String::from_str(alloc, "an error may have no repair, as ")?;
-    match refusal {
-        NoCompletion::Unproductive(rule) => {
-            why.push_str("rule '")?;
-            if usize::from(rule) < grm.rules_len() {
-                why.push_str(grm.rule_name_str(rule))?;
-            }
-            why.push_str("' derives no text")?;
-        }
-        NoCompletion::Incomplete(_, _) | NoCompletion::Memory => {
-            why.push_str(incomplete(data.stable()))?;
-        }
-    }
-    let mut text = String::new(alloc);
-    let reporter = work.grammar_file().reporter(alloc)?;
-    reporter.push(
-        &mut text,
-        alloc,
-        &Report::new(alloc, Level::Note, why.as_str())?,
-    )?;
-    Ok(text)
-}
-
-// Why a table isn't complete.
-fn incomplete(stable: &StateTable<u32>) -> &'static str {
-    match stable.conflicts() {
-        Some(_) => "the grammar has conflicts",
-        None => "precedences resolve conflicts of the grammar",
     }
 }
 
@@ -461,12 +358,23 @@ fn parse_by<R: Files, P: Recoverer<u32, Token<u32>> + Drop, I: Read + Drop, O: W
     out: &mut O,
     err: &mut E,
 ) -> Result<Status, Fault> {
-    let parser = with_shifts(parser, work.options.shifts)?;
+    let parser = with_shifts(parser, plan.shifts)?;
+    let mut completing = Completing::new(plan.recovery);
     let mut input = Some(input);
     let mut are_clean = true;
     for path in &work.options.inputs {
         let text = read_input(rt, alloc, path, &mut input)?;
-        are_clean = parse(alloc, &parser, plan, path, text.as_str(), out, err)? && are_clean;
+        let is_clean = parse(
+            alloc,
+            &parser,
+            &mut completing,
+            plan,
+            path,
+            text.as_str(),
+            out,
+            err,
+        )?;
+        are_clean = is_clean && are_clean;
     }
     Ok(Status::of(are_clean))
 }

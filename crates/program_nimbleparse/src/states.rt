@@ -91,8 +91,8 @@ fn push_core(
     out.push_str(", {")
 }
 
-// Adds a symbol.
-fn push_symbol(
+/// Adds a symbol: a rule by its name, and a token by its name in quotes, the end token as `'$'`.
+pub(crate) fn push_symbol(
     out: &mut String,
     grm: &YaccGrammar<u32>,
     symbol: Symbol<u32>,

@@ -9,7 +9,7 @@ returns-clause-pops g c =
     let s = index c.args.state.0 in
     let are = c.requires.pops in
     let alone = c.requires.alone in
-    let none = nothing_found d.grammar d.table s None c.begin.new.self c.in_ok-begin.ensures.exits c.in_ok-begin.ensures.reduced in
+    let none = nothing_found d.grammar d.table s None c.clear.new.self c.clear.ensures.exits c.clear.ensures.reduced in
     let started = c.start_all.ensures are alone none in
     let found = c.follow.ensures None are alone started in
     c.unite_any.ensures.stays d.grammar d.table

@@ -1,0 +1,145 @@
+//! The completion of inputs, which is made when an error first needs it.
+use crate::grammar::{GrammarFile, GrammarTable};
+use crate::plan::Recovery;
+use crate::recoverers::{Both, cheapest};
+use crate::show::write_messages;
+use crate::states::push_symbol;
+use lrpar_grammar::span::{StIdx, Symbol};
+use lrpar_parse_completion::TableCompletion;
+use lrpar_report::{Level, Report};
+use lrpar_table::check::ParserData;
+use lrpar_table_pops::check_completable::Incompletable;
+use program_files::fault::Fault;
+use std::alloc::{AllocError, Global};
+use std::io::Write;
+
+/// How many stacks of a table are told apart at most, before it counts as too large for a completion.
+const MAX_STACKS: usize = 20_000;
+
+/// What repairs an error for which the search finds nothing.
+#[derive(Drop)]
+pub(crate) enum Completing<'a> {
+    /// Nothing: no completion is asked for, or the table is refused.
+    Never,
+    /// A completion, which wasn't needed yet.
+    Unmade {
+        /// The limit of the search.
+        limit: usize,
+    },
+    /// This completion.
+    Made(Both<'a>),
+}
+
+impl<'a> Completing<'a> {
+    /// What is asked for.
+    pub(crate) fn new(recovery: Recovery) -> Self {
+        match recovery {
+            Recovery::Complete { limit } => Completing::Unmade { limit },
+            Recovery::Nothing | Recovery::Cheapest { .. } => Completing::Never,
+        }
+    }
+
+    /// The search and the completion, if there is one. It is made where it is first asked for. If the table is refused then, a note says
+    /// why, unless the program is to be quiet.
+    pub(crate) fn both<O: Write, E: Write>(
+        &mut self,
+        alloc: Global,
+        file: GrammarFile<'_>,
+        table: &'a GrammarTable,
+        out: &mut O,
+        err: &mut E,
+    ) -> Result<Option<&Both<'a>>, Fault> {
+        if let Completing::Unmade { limit } = *self {
+            *self = make(alloc, file, table, limit, out, err)?;
+        }
+        match self {
+            Completing::Made(both) => Ok(Some(both)),
+            Completing::Never | Completing::Unmade { .. } => Ok(None),
+        }
+    }
+}
+
+// Makes the completion, if the table is fit for it. Otherwise a note says why it isn't, unless the program is to be quiet.
+fn make<'a, O: Write, E: Write>(
+    alloc: Global,
+    file: GrammarFile<'_>,
+    table: &'a GrammarTable,
+    limit: usize,
+    out: &mut O,
+    err: &mut E,
+) -> Result<Completing<'a>, Fault> {
+    match TableCompletion::with_max_stacks(alloc, &table.data, MAX_STACKS) {
+        Ok(completion) => {
+            let cheapest = cheapest(alloc, limit, table)?;
+            Ok(Completing::Made(Both {
+                cheapest,
+                completion,
+            }))
+        }
+        Err(Incompletable::Memory) => Err(Fault::Memory),
+        Err(refusal) => {
+            if !file.asked.is_quiet {
+                let text = refusal_note(alloc, file, &table.data, &refusal)?;
+                write_messages(out, err, text.as_str())?;
+            }
+            Ok(Completing::Never)
+        }
+    }
+}
+
+// The note that an error may have no repair, and why.
+fn refusal_note(
+    alloc: Global,
+    file: GrammarFile<'_>,
+    data: &ParserData<u32>,
+    refusal: &Incompletable<u32>,
+) -> Result<String, AllocError> {
+    let mut why = String::from_str(alloc, "an error may have no repair: ")?;
+    match refusal {
+        Incompletable::Stuck(states) => push_stack(&mut why, data, states)?,
+        Incompletable::TooMany => write!(
+            &mut why,
+            "there are more than {MAX_STACKS} stacks of the table to tell apart"
+        )?,
+        Incompletable::Memory => {}
+    }
+    let mut text = String::new(alloc);
+    let reporter = file.reporter(alloc)?;
+    let report = Report::new(alloc, Level::Note, why.as_str())?;
+    reporter.push(&mut text, alloc, &report)?;
+    Ok(text)
+}
+
+// Adds that nothing completes the stack: its symbols, and the state on top.
+fn push_stack(
+    out: &mut String,
+    data: &ParserData<u32>,
+    states: &[StIdx<u32>],
+) -> Result<(), AllocError> {
+    out.push_str("no tokens complete")?;
+    for state in states {
+        if let Some(symbol) = symbol_before(data, *state) {
+            out.push(' ')?;
+            push_symbol(out, data.grm(), symbol)?;
+        }
+    }
+    match states.last() {
+        Some(top) => {
+            let number = usize::from(*top);
+            write!(out, ", in state {number}")
+        }
+        None => Ok(()),
+    }
+}
+
+// The symbol by which stacks go to the state: the one before the dot of each of its kernel items.
+fn symbol_before(data: &ParserData<u32>, state: StIdx<u32>) -> Option<Symbol<u32>> {
+    if usize::from(state) >= data.sgraph().states_len() {
+        return None;
+    }
+    let (prod, dot) = *data.sgraph().begun_cores(state).first()?;
+    if usize::from(prod) >= data.grm().prods_len() {
+        return None;
+    }
+    data.grm().prod(prod).get(dot.checked_sub(1)?).copied()
+}
