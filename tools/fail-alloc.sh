@@ -266,7 +266,6 @@ refuse_each_call_of_nimbleparse 2 '' "$work/wrong.y:1:7: error: name 'F' is neit
 " "$work/brackets.lex" "$work/wrong.y"
 refuse_each_call_of_nimbleparse 0 'E[ E[ E[ N "n" ] "+" E[ N "n" ] ] "+" E[ N "n" ] ]
 ' "$work/levels.y: note: rules 2, productions 3, tokens 3, states 5, least cap 1, conflicts resolved by precedences 1
-$work/levels.y: note: an error may have no repair, as precedences resolve conflicts of the grammar
 " "$work/levels.l" "$work/levels.y" "$work/sum"
 refuse_each_call_of_nimbleparse 2 '' "$work/unknown.y:1:28: error: name 'M' is no token
 1| %left 'N' %% E: 'N' %prec 'M';

@@ -12,7 +12,7 @@ SHIFTS = ("1", "2", "9", "1000", None, None, None)
 LISTED = "repairs that were found, of which the first is taken:"
 UNREPAIRED = "no repair"
 # What says why there is no completion.
-REFUSED = "note: an error may have no repair, as "
+REFUSED = "note: an error may have no repair: "
 
 
 def completed(case):

@@ -173,8 +173,8 @@ fn push_after<StorageT: StorageIndex>(
     push_rest(alloc, grm, shortest, tokens, rest)
 }
 
-// Appends the tokens of a minimal sentence of the symbols; returns whether there is one.
-fn push_rest<StorageT: StorageIndex>(
+/// Appends the tokens of a minimal sentence of the symbols; returns whether there is one.
+pub(crate) fn push_rest<StorageT: StorageIndex>(
     alloc: Global,
     grm: &YaccGrammar<StorageT>,
     shortest: &Shortest<StorageT>,

@@ -3,6 +3,7 @@ ghost use Rattle.std.specs.Prelude.{◌≡◌, ◌<◌, ◌↔◌, [], IfOk, IfS
 ghost use Rattle.lrpar_table_rows.specs.PlainRows.{plain_action};
 ghost use Rattle.lrpar_table_rows.specs.Table.{Accepts};
 
+use crate::cheapest::cheapest_completion;
 use crate::completer::Completer;
 use lrpar_grammar::span::{StIdx, StorageIndex, TIdx};
 use lrpar_table_check::check::ParserData;
@@ -77,11 +78,30 @@ impl<'a, StorageT: StorageIndex> Finder<'a, StorageT> {
             let tokens = Vec::from_slice(alloc, &reached.tokens)?;
             return Ok(Some(tokens));
         }
+        if let Some(found) = self.finish_cheaply(alloc, reached)? {
+            return Ok(Some(found));
+        }
         let completer = Completer {
             data: self.checked,
             shortest: self.shortest,
         };
         match completer.completion(alloc, &reached.stack)? {
+            Some(more) => self.finish_by(alloc, reached, &more),
+            None => Ok(None),
+        }
+    }
+
+    // The tokens that lead to the stack, with those of its cheapest completion, if that is right.
+    fn finish_cheaply(
+        &self,
+        alloc: Global,
+        reached: &Reached<StorageT>,
+    ) -> Result<Option<Vec<TIdx<StorageT>>>, AllocError>
+        requires shortest { HasShortest self.now }
+        requires stack { HasStackOf StorageT.index self.now reached.now }
+        ensures { IfOk result (λ found. IfSome found (FindsBy StorageT.index self.now reached.now)) }
+    {
+        match cheapest_completion(alloc, self, &reached.stack)? {
             Some(more) => self.finish_by(alloc, reached, &more),
             None => Ok(None),
         }

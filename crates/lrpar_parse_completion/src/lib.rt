@@ -1,6 +1,7 @@
 //! The recoverer `Completion`, which always repairs: it goes on at the nearest lexeme at which that is possible.
 #![tactic(auto)]
 
+mod cheapest;
 mod completer;
 mod completion;
 mod fault;

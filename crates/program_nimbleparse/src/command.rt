@@ -65,9 +65,9 @@ Read GRAMMAR as a file of this kind. Without the option it is of the kind that t
 rule has a type; else of the kind original or bison, the first that it can be read as";
 
 const LONG_HELP_OF_LIMIT: &str = "\
-Find no repairs at an error if more than N configurations, a stack and a place in the input each,
-can be reached at less cost than the cheapest repairs. 0 finds none. All errors of an input may use
-500 times N. With -r none it is an error";
+Find no repairs at the first error of an input if more than N configurations, a stack and a place
+in the input each, can be reached at less cost than the cheapest repairs; and at a later error if
+more than N / 64 can be. 0 finds none. With -r none it is an error";
 
 /// Which repairs are searched for.
 #[derive(Clone, Copy)]

@@ -2,7 +2,7 @@
 #![tactic(auto)]
 
 mod command;
-mod completing;
+mod completer;
 mod conflicts;
 mod counts;
 mod declared;

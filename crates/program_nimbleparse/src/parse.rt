@@ -1,8 +1,8 @@
 //! The parse of one input, and what is printed of it.
-use crate::completing::Completing;
+use crate::completer::Completer;
 use crate::errors::{Subject, push_lexing_error, push_parse_error};
 use crate::plan::{Format, Plan, Recovery};
-use crate::recoverers::{Again, Both};
+use crate::recoverers::{Completing, Searches, Searching};
 use crate::rules::LexerRules;
 use crate::show::write_messages;
 use lrpar_grammar::span::TIdx;
@@ -11,7 +11,7 @@ use lrpar_lexer_lrlex::StateLexer;
 use lrpar_parse::RTParserBuilder;
 use lrpar_parse_errors::errors::LexParseError;
 use lrpar_parse_lexemes::lex_api::NonStreamingLexer;
-use lrpar_parse_repair::repair::Recoverer;
+use lrpar_parse_repair::repair::{NoRecovery, Recoverer};
 use lrpar_parse_trees::{Form, write_graph, write_nested};
 use lrpar_report::Reporter;
 use lrpar_table::check::ParserData;
@@ -20,31 +20,38 @@ use program_files::parsing::{Parsed, TextError, Tree, with_shifts};
 use std::alloc::{AllocError, Global};
 use std::io::Write;
 
-/// Parses the input of this path and text by the parser, which is that of the plan's table; and again with a completion, if an error has no
-/// repair and there is one. Writes messages of its errors, and prints its tree, if there is one. Returns whether there is a tree, and no
-/// error.
-pub(crate) fn parse<'a, R: Recoverer<u32, Token<u32>> + Drop, O: Write, E: Write>(
+/// What repairs the errors of inputs.
+#[derive(Drop)]
+pub(crate) struct Repairs<'a> {
+    /// The searches, if any are asked for.
+    pub(crate) searches: Option<Searches>,
+    pub(crate) completer: Completer<'a>,
+}
+
+/// An input: its path and its text.
+#[derive(Clone, Copy)]
+pub(crate) struct Input<'i> {
+    pub(crate) path: &'i str,
+    pub(crate) text: &'i str,
+}
+
+/// Parses the input. Writes messages of its errors, and prints its tree, if there is one. Returns whether there is a tree, and no error.
+pub(crate) fn parse<'a, O: Write, E: Write>(
     alloc: Global,
-    parser: &RTParserBuilder<'_, u32, TokenTypes, R>,
-    completing: &mut Completing<'a>,
+    repairs: &mut Repairs<'a>,
     plan: &Plan<'a>,
-    path: &str,
-    input: &str,
+    input: Input<'_>,
     out: &mut O,
     err: &mut E,
 ) -> Result<bool, Fault> {
     match plan.rules {
         LexerRules::Lines(rules) => {
-            let lexer = with_token(RuleLexer::new(alloc, rules, input)?, plan.unmatched());
-            parse_lexemes(
-                alloc, parser, completing, plan, &lexer, path, input, out, err,
-            )
+            let lexer = with_token(RuleLexer::new(alloc, rules, input.text)?, plan.unmatched());
+            parse_by(alloc, repairs, plan, input, &lexer, out, err)
         }
         LexerRules::States(rules) => {
-            let lexer = with_token(StateLexer::new(alloc, rules, input)?, plan.unmatched());
-            parse_lexemes(
-                alloc, parser, completing, plan, &lexer, path, input, out, err,
-            )
+            let lexer = with_token(StateLexer::new(alloc, rules, input.text)?, plan.unmatched());
+            parse_by(alloc, repairs, plan, input, &lexer, out, err)
         }
     }
 }
@@ -60,53 +67,70 @@ fn with_token<'input, R: LexRules<u32>>(
     }
 }
 
-// Parses the lexemes of an input, and prints what comes of it. Returns whether there is a tree, and no error.
-fn parse_lexemes<
-    'a,
-    'input,
-    R: Recoverer<u32, Token<u32>> + Drop,
-    L: NonStreamingLexer<'input, TokenTypes>,
-    O: Write,
-    E: Write,
->(
+// Parses the input by this lexer of its text, and prints what comes of it. Returns whether there is a tree, and no error.
+fn parse_by<'a, 'input, L: NonStreamingLexer<'input, TokenTypes>, O: Write, E: Write>(
     alloc: Global,
-    parser: &RTParserBuilder<'_, u32, TokenTypes, R>,
-    completing: &mut Completing<'a>,
+    repairs: &mut Repairs<'a>,
     plan: &Plan<'a>,
+    input: Input<'_>,
     lexer: &L,
-    path: &str,
-    input: &str,
     out: &mut O,
     err: &mut E,
 ) -> Result<bool, Fault> {
-    let (tree, errors) = parser.parse_generictree(alloc, lexer)?;
-    if lacks_repair(&errors)
-        && let Some(both) = completing.both(alloc, plan.grammar, plan.table, out, err)?
-    {
-        let (tree, errors) = parse_again(alloc, plan, both, lexer, &errors)?;
-        return print_result(
-            alloc,
-            plan,
-            lexer,
-            path,
-            input,
-            tree.as_ref(),
-            &errors,
-            out,
-            err,
-        );
+    let (tree, errors) = parse_lexemes(alloc, repairs, plan, lexer, out, err)?;
+    print_result(alloc, plan, input, lexer, tree.as_ref(), &errors, out, err)
+}
+
+// Parses the lexemes without repairs; if that finds an error, again with repairs, if any are asked for.
+fn parse_lexemes<'a, 'input, L: NonStreamingLexer<'input, TokenTypes>, O: Write, E: Write>(
+    alloc: Global,
+    repairs: &mut Repairs<'a>,
+    plan: &Plan<'a>,
+    lexer: &L,
+    out: &mut O,
+    err: &mut E,
+) -> Result<Parsed, Fault> {
+    let (tree, errors) = parse_with(alloc, plan, NoRecovery, lexer)?;
+    let Repairs {
+        searches,
+        completer,
+    } = repairs;
+    match searches {
+        Some(searches) if lacks_repair(&errors) => {
+            search_repairs(alloc, searches, completer, plan, lexer, &errors, out, err)
+        }
+        Some(_) | None => Ok((tree, errors)),
     }
-    print_result(
-        alloc,
-        plan,
-        lexer,
-        path,
-        input,
-        tree.as_ref(),
-        &errors,
-        out,
-        err,
-    )
+}
+
+// Parses the lexemes with the searches, after a parse without repairs that had these errors. If an error is left without a repair, parses them
+// again with a completion, if there is one.
+fn search_repairs<'a, 'input, L: NonStreamingLexer<'input, TokenTypes>, O: Write, E: Write>(
+    alloc: Global,
+    searches: &Searches,
+    completer: &mut Completer<'a>,
+    plan: &Plan<'a>,
+    lexer: &L,
+    errors: &[TextError],
+    out: &mut O,
+    err: &mut E,
+) -> Result<Parsed, Fault> {
+    let searching = Searching { errors, searches };
+    let (tree, errors) = parse_with(alloc, plan, searching, lexer)?;
+    if !lacks_repair(&errors) {
+        return Ok((tree, errors));
+    }
+    match completer.completion(alloc, plan, out, err)? {
+        Some(completion) => {
+            let completing = Completing {
+                errors: &errors,
+                searches,
+                completion,
+            };
+            parse_with(alloc, plan, completing, lexer)
+        }
+        None => Ok((tree, errors)),
+    }
 }
 
 // Whether the last of the errors is one of a parse that has no repair.
@@ -117,15 +141,13 @@ fn lacks_repair(errors: &[TextError]) -> bool {
     }
 }
 
-// Parses the lexemes again, after these errors, with the search and the completion.
-fn parse_again<'input, L: NonStreamingLexer<'input, TokenTypes>>(
-    alloc: Global,
-    plan: &Plan<'_>,
-    both: &Both<'_>,
-    lexer: &L,
-    errors: &[TextError],
-) -> Result<Parsed, Fault> {
-    let parser = RTParserBuilder::new(plan.data()).recoverer(Again { errors, both });
+// Parses the lexemes with this recoverer.
+fn parse_with<
+    'input,
+    R: Recoverer<u32, Token<u32>> + Drop,
+    L: NonStreamingLexer<'input, TokenTypes>,
+>(alloc: Global, plan: &Plan<'_>, recoverer: R, lexer: &L) -> Result<Parsed, Fault> {
+    let parser = RTParserBuilder::new(plan.data()).recoverer(recoverer);
     let parser = with_shifts(parser, plan.shifts)?;
     Ok(parser.parse_generictree(alloc, lexer)?)
 }
@@ -134,20 +156,19 @@ fn parse_again<'input, L: NonStreamingLexer<'input, TokenTypes>>(
 fn print_result<'input, L: NonStreamingLexer<'input, TokenTypes>, O: Write, E: Write>(
     alloc: Global,
     plan: &Plan<'_>,
+    input: Input<'_>,
     lexer: &L,
-    path: &str,
-    input: &str,
     tree: Option<&Tree>,
     errors: &[TextError],
     out: &mut O,
     err: &mut E,
 ) -> Result<bool, Fault> {
     if !errors.is_empty() {
-        write_errors(alloc, plan, lexer, path, input, errors, out, err)?;
+        write_errors(alloc, plan, input, lexer, errors, out, err)?;
     }
     match tree {
         Some(tree) => {
-            print_tree(alloc, plan, path, input, tree, out)?;
+            print_tree(alloc, plan, input, tree, out)?;
             Ok(errors.is_empty())
         }
         None => Ok(false),
@@ -158,15 +179,14 @@ fn print_result<'input, L: NonStreamingLexer<'input, TokenTypes>, O: Write, E: W
 fn write_errors<'input, L: NonStreamingLexer<'input, TokenTypes>, O: Write, E: Write>(
     alloc: Global,
     plan: &Plan<'_>,
+    input: Input<'_>,
     lexer: &L,
-    path: &str,
-    input: &str,
     errors: &[TextError],
     out: &mut O,
     err: &mut E,
 ) -> Result<(), Fault> {
     let expected = expected_tokens(alloc, plan, lexer, errors)?;
-    let text = errors_text(alloc, plan, path, input, &expected, errors)?;
+    let text = errors_text(alloc, plan, input, &expected, errors)?;
     write_messages(out, err, text.as_str())
 }
 
@@ -174,19 +194,18 @@ fn write_errors<'input, L: NonStreamingLexer<'input, TokenTypes>, O: Write, E: W
 fn errors_text(
     alloc: Global,
     plan: &Plan<'_>,
-    path: &str,
-    input: &str,
+    input: Input<'_>,
     expected: &[TIdx<u32>],
     errors: &[TextError],
 ) -> Result<String, AllocError> {
-    let reporter = Reporter::new(alloc, input, path, plan.look)?;
+    let reporter = Reporter::new(alloc, input.text, input.path, plan.look)?;
     let mut text = String::new(alloc);
     for (place, error) in errors.iter().enumerate() {
         let tokens = tokens_of(plan.data(), plan.has_merged_states, expected, place, error);
         let named = tokens_but(alloc, tokens, plan.table.hidden)?;
         let subject = Subject {
             grm: plan.data().grm(),
-            input,
+            input: input.text,
             expected: &named,
             unmatched: plan.unmatched(),
         };
@@ -265,8 +284,7 @@ fn push_error(
 fn print_tree<O: Write>(
     alloc: Global,
     plan: &Plan<'_>,
-    path: &str,
-    input: &str,
+    input: Input<'_>,
     tree: &Tree,
     out: &mut O,
 ) -> Result<(), Fault> {
@@ -276,19 +294,19 @@ fn print_tree<O: Write>(
     let grm = plan.data().grm();
     match plan.format {
         Format::Brackets => {
-            print_path(plan, path, out)?;
-            write_nested(alloc, Form::Brackets, grm, input, tree, out)?;
+            print_path(plan, input.path, out)?;
+            write_nested(alloc, Form::Brackets, grm, input.text, tree, out)?;
             out.write_all(b"\n")?;
         }
         Format::Indented => {
-            print_path(plan, path, out)?;
-            tree.write(alloc, grm, input, out)?;
+            print_path(plan, input.path, out)?;
+            tree.write(alloc, grm, input.text, out)?;
         }
         Format::Json => {
-            write_nested(alloc, Form::Json, grm, input, tree, out)?;
+            write_nested(alloc, Form::Json, grm, input.text, tree, out)?;
             out.write_all(b"\n")?;
         }
-        Format::Graph => write_graph(alloc, grm, input, tree, out)?,
+        Format::Graph => write_graph(alloc, grm, input.text, tree, out)?,
     }
     Ok(())
 }

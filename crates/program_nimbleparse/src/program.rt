@@ -3,27 +3,23 @@
 ghost use Rattle.std.specs.Prelude.{◌≤◌};
 
 use crate::command::PossibleValues;
-use crate::completing::Completing;
+use crate::completer::Completer;
 use crate::fault_line::FaultLine;
 use crate::grammar::{GrammarFile, GrammarTable, make_table};
 use crate::inputs::{STANDARD_INPUT, file_text, input_text};
 use crate::look::look_at;
 use crate::options::{GrammarOptions, Options, Request, request_of};
-use crate::parse::parse;
+use crate::parse::{Input, Repairs, parse};
 use crate::plan::{Plan, Recovery};
-use crate::recoverers::cheapest;
+use crate::recoverers::Searches;
 use crate::rules::{LexerRules, lexer_rules};
 use crate::show::{with_label_text, write_messages};
 use crate::sizes::{push_sizes, push_table};
 use lrpar_grammar::grammar::YaccGrammar;
-use lrpar_lexer::{Token, TokenTypes};
-use lrpar_parse::RTParserBuilder;
-use lrpar_parse_repair::repair::Recoverer;
 use lrpar_report::{Level, Look, Report, Reporter, token_warnings};
 use lrpar_table::check::ParserData;
 use lrpar_table_options::Minimiser;
 use program_files::fault::{Fault, Misuse};
-use program_files::parsing::with_shifts;
 use program_files::streams::{Status, exit_status, flush_answer, words};
 use std::alloc::{AllocError, Global};
 use std::env;
@@ -324,7 +320,7 @@ fn push_table_note(
     reporter.push(out, alloc, &Report::new(alloc, Level::Note, text.as_str())?)
 }
 
-// Parses the inputs, prints what comes of them, and returns how that ends.
+// Parses the inputs, prints what comes of them, and returns how that ends. It's a success if each has a tree, and no error.
 fn parse_inputs<R: Files, I: Read + Drop, O: Write, E: Write>(
     rt: &R,
     alloc: Global,
@@ -336,47 +332,37 @@ fn parse_inputs<R: Files, I: Read + Drop, O: Write, E: Write>(
     err: &mut E,
 ) -> Result<Status, Fault> {
     let plan = work.plan(table, rules);
-    let parser = RTParserBuilder::new(plan.data());
-    match plan.recovery {
-        Recovery::Nothing => parse_by(rt, alloc, work, &plan, parser, input, out, err),
-        Recovery::Cheapest { limit } | Recovery::Complete { limit } => {
-            let parser = parser.recoverer(cheapest(alloc, limit, table)?);
-            parse_by(rt, alloc, work, &plan, parser, input, out, err)
-        }
-    }
-}
-
-// Parses the inputs by a parser, with the number of lexemes that have to follow a repair, if the words say one. It's a success if each
-// has a tree, and no error.
-fn parse_by<R: Files, P: Recoverer<u32, Token<u32>> + Drop, I: Read + Drop, O: Write, E: Write>(
-    rt: &R,
-    alloc: Global,
-    work: Work<'_>,
-    plan: &Plan<'_>,
-    parser: RTParserBuilder<'_, u32, TokenTypes, P>,
-    input: I,
-    out: &mut O,
-    err: &mut E,
-) -> Result<Status, Fault> {
-    let parser = with_shifts(parser, plan.shifts)?;
-    let mut completing = Completing::new(plan.recovery);
-    let mut input = Some(input);
+    let mut repairs = repairs_of(alloc, &plan)?;
+    let mut stdin = Some(input);
     let mut are_clean = true;
     for path in &work.options.inputs {
-        let text = read_input(rt, alloc, path, &mut input)?;
-        let is_clean = parse(
-            alloc,
-            &parser,
-            &mut completing,
-            plan,
+        let text = read_input(rt, alloc, path, &mut stdin)?;
+        let input = Input {
             path,
-            text.as_str(),
-            out,
-            err,
-        )?;
+            text: text.as_str(),
+        };
+        let is_clean = parse(alloc, &mut repairs, &plan, input, out, err)?;
         are_clean = is_clean && are_clean;
     }
     Ok(Status::of(are_clean))
+}
+
+// What repairs the errors of inputs.
+fn repairs_of<'a>(alloc: Global, plan: &Plan<'a>) -> Result<Repairs<'a>, Fault> {
+    if plan.shifts == Some(0) {
+        return Err(Fault::ZeroShifts);
+    }
+    let searches = match plan.recovery {
+        Recovery::Nothing => None,
+        Recovery::Cheapest { limit } | Recovery::Complete { limit } => {
+            Some(Searches::new(alloc, limit, plan.table)?)
+        }
+    };
+    let completer = Completer::new(plan.recovery);
+    Ok(Repairs {
+        searches,
+        completer,
+    })
 }
 
 // The text of an input.

@@ -1,4 +1,4 @@
-//! What repairs the errors of inputs: a search for the cheapest repairs, and a completion where it finds none.
+//! What repairs the errors of inputs: searches for the cheapest repairs, and a completion where they find none.
 use crate::grammar::GrammarTable;
 use lrpar_grammar::span::TIdx;
 use lrpar_lexer::Token;
@@ -11,21 +11,36 @@ use lrpar_parse_repair::repair::{Recoverer, RecoveryPoint, RepairStep};
 use program_files::parsing::TextError;
 use std::alloc::{AllocError, Global};
 
-/// How many searches of an input may keep as many configurations as the limit allows.
-const FULL_SEARCHES: usize = 500;
+/// A later error of an input has one part in so many of the limit of the first one. Nearly all errors need no more, and a text that is wrong
+/// everywhere takes little longer than one with a few errors.
+const PARTS: usize = 64;
 
-/// What searches for the cheapest repairs with this limit, those last that insert one of the tokens to be avoided. All searches of an
-/// input together may keep `FULL_SEARCHES` times as many configurations.
-pub(crate) fn cheapest(
-    alloc: Global,
-    limit: usize,
-    table: &GrammarTable,
-) -> Result<CpctPlus, AllocError> {
+/// The searches for the cheapest repairs of an input: at its first error, and at each later one.
+#[derive(Drop)]
+pub(crate) struct Searches {
+    first: CpctPlus,
+    later: CpctPlus,
+}
+
+impl Searches {
+    /// The searches with this limit at the first error.
+    pub(crate) fn new(
+        alloc: Global,
+        limit: usize,
+        table: &GrammarTable,
+    ) -> Result<Self, AllocError> {
+        let first = search_of(alloc, limit, table)?;
+        let later = search_of(alloc, limit / PARTS, table)?;
+        Ok(Searches { first, later })
+    }
+}
+
+// A search with this limit. It lists those repairs last that insert one of the tokens to be avoided.
+fn search_of(alloc: Global, limit: usize, table: &GrammarTable) -> Result<CpctPlus, AllocError> {
     let recoverer = match table.hidden {
         Some(token) => with_dear_token(alloc, limit, token)?,
         None => CpctPlus::new(limit),
     };
-    let recoverer = recoverer.within(limit.saturating_mul(FULL_SEARCHES));
     if table.avoided.is_empty() {
         Ok(recoverer)
     } else {
@@ -33,7 +48,7 @@ pub(crate) fn cheapest(
     }
 }
 
-// What searches for the cheapest repairs with this limit, if it costs as much as can be to insert this token.
+// A search with this limit, in which it costs as much as can be to insert this token.
 fn with_dear_token(alloc: Global, limit: usize, token: TIdx<u32>) -> Result<CpctPlus, AllocError> {
     let mut costs = vec![in alloc; 1u8; usize::from(token).saturating_add(1)]?;
     if let Some(cost) = costs.get_mut(usize::from(token)) {
@@ -45,23 +60,40 @@ fn with_dear_token(alloc: Global, limit: usize, token: TIdx<u32>) -> Result<Cpct
     }
 }
 
-/// A search for the cheapest repairs, and a completion for the errors at which it finds none.
+/// What repairs the errors of an input by the searches. The input was parsed before without repairs.
 #[derive(Drop)]
-pub(crate) struct Both<'a> {
-    pub(crate) cheapest: CpctPlus,
-    pub(crate) completion: TableCompletion<'a, u32>,
-}
-
-/// What repairs the errors of an input that was parsed before with the search alone. It makes none of the searches of that parse again:
-/// its repairs are those that the errors have, and a completion for an error that has none.
-#[derive(Drop)]
-pub(crate) struct Again<'a, 'b> {
-    /// The errors of the parse before, in the order of the input.
+pub(crate) struct Searching<'b> {
+    /// The error of that parse.
     pub(crate) errors: &'b [TextError],
-    pub(crate) both: &'b Both<'a>,
+    pub(crate) searches: &'b Searches,
 }
 
-impl Recoverer<u32, Token<u32>> for Again<'_, '_> {
+impl Recoverer<u32, Token<u32>> for Searching<'_> {
+    ghost allows = { λ _ _ _. Unit {0} };
+
+    fn recover(
+        &self,
+        alloc: Global,
+        point: &RecoveryPoint<'_, u32, Token<u32>>,
+    ) -> Result<Vec<Vec<RepairStep<u32>>>, AllocError> {
+        match error_at(self.errors, point) {
+            Some(_) => self.searches.first.recover(alloc, point),
+            None => self.searches.later.recover(alloc, point),
+        }
+    }
+}
+
+/// What repairs the errors of an input by the searches and by a completion, for an error at which they find nothing. The input was parsed
+/// before with the searches alone. None of those is made again: the repairs of these errors are those that they have.
+#[derive(Drop)]
+pub(crate) struct Completing<'a, 'b> {
+    /// The errors of that parse.
+    pub(crate) errors: &'b [TextError],
+    pub(crate) searches: &'b Searches,
+    pub(crate) completion: &'b TableCompletion<'a, u32>,
+}
+
+impl Recoverer<u32, Token<u32>> for Completing<'_, '_> {
     ghost allows = { λ _ _ _. Unit {0} };
 
     fn recover(
@@ -71,10 +103,10 @@ impl Recoverer<u32, Token<u32>> for Again<'_, '_> {
     ) -> Result<Vec<Vec<RepairStep<u32>>>, AllocError> {
         let found = match error_at(self.errors, point) {
             Some(error) => steps_of_repairs(alloc, error.repairs())?,
-            None => self.both.cheapest.recover(alloc, point)?,
+            None => self.searches.later.recover(alloc, point)?,
         };
         if found.is_empty() {
-            self.both.completion.recover(alloc, point)
+            self.completion.recover(alloc, point)
         } else {
             Ok(found)
         }

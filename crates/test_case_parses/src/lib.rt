@@ -5,6 +5,7 @@ mod at_errors;
 mod calls;
 pub mod chain;
 mod clones;
+pub mod completable;
 pub mod expected;
 mod lexemes;
 pub mod parse;

@@ -8,7 +8,7 @@ use test_case_lexers::lrlex;
 use test_case_lines::cases::Case;
 use test_case_lines::fault::Fault;
 use test_case_lines::printed::Printed;
-use test_case_parses::{chain, expected, parse, precedence};
+use test_case_parses::{chain, completable, expected, parse, precedence};
 use test_case_tables::subject::Subject;
 use test_case_tables::{built, checks, refusals, rows, stacks, yacc_files};
 
@@ -31,6 +31,7 @@ pub(crate) fn inputs_of(kind: &str) -> &'static [&'static str] {
         "expected" => expected::INPUTS,
         "chain" => chain::INPUTS,
         "precedence" => precedence::INPUTS,
+        "completable" => completable::INPUTS,
         "full" | "stored" | "sets" => refusals::INPUTS,
         "underlines" => underlines::INPUTS,
         "report" => reports::INPUTS,
@@ -70,6 +71,7 @@ pub(crate) fn outcome<R: Files>(
             None => Err(Fault::Line(case.number, "a table in front is wanted")),
         },
         "precedence" => precedence::outcome(out, rt, alloc, case),
+        "completable" => completable::outcome(out, alloc, case),
         "full" => refusals::outcome_of_rows(out, alloc, case),
         "stored" => refusals::outcome_of_entries(out, alloc, case),
         "sets" => refusals::outcome_of_sets(out, alloc, case),

@@ -1,7 +1,6 @@
 //! The completion of inputs, which is made when an error first needs it.
-use crate::grammar::{GrammarFile, GrammarTable};
-use crate::plan::Recovery;
-use crate::recoverers::{Both, cheapest};
+use crate::grammar::GrammarFile;
+use crate::plan::{Plan, Recovery};
 use crate::show::write_messages;
 use crate::states::push_symbol;
 use lrpar_grammar::span::{StIdx, Symbol};
@@ -16,45 +15,41 @@ use std::io::Write;
 /// How many stacks of a table are told apart at most, before it counts as too large for a completion.
 const MAX_STACKS: usize = 20_000;
 
-/// What repairs an error for which the search finds nothing.
+/// What inputs are completed by, where the searches find nothing.
 #[derive(Drop)]
-pub(crate) enum Completing<'a> {
+pub(crate) enum Completer<'a> {
     /// Nothing: no completion is asked for, or the table is refused.
-    Never,
+    None,
     /// A completion, which wasn't needed yet.
-    Unmade {
-        /// The limit of the search.
-        limit: usize,
-    },
+    Unmade,
     /// This completion.
-    Made(Both<'a>),
+    Made(TableCompletion<'a, u32>),
 }
 
-impl<'a> Completing<'a> {
+impl<'a> Completer<'a> {
     /// What is asked for.
     pub(crate) fn new(recovery: Recovery) -> Self {
         match recovery {
-            Recovery::Complete { limit } => Completing::Unmade { limit },
-            Recovery::Nothing | Recovery::Cheapest { .. } => Completing::Never,
+            Recovery::Complete { .. } => Completer::Unmade,
+            Recovery::Nothing | Recovery::Cheapest { .. } => Completer::None,
         }
     }
 
-    /// The search and the completion, if there is one. It is made where it is first asked for. If the table is refused then, a note says
-    /// why, unless the program is to be quiet.
-    pub(crate) fn both<O: Write, E: Write>(
+    /// The completion, if there is one. It is made where it is first asked for. If the table is refused then, a note says why, unless the
+    /// program is to be quiet.
+    pub(crate) fn completion<O: Write, E: Write>(
         &mut self,
         alloc: Global,
-        file: GrammarFile<'_>,
-        table: &'a GrammarTable,
+        plan: &Plan<'a>,
         out: &mut O,
         err: &mut E,
-    ) -> Result<Option<&Both<'a>>, Fault> {
-        if let Completing::Unmade { limit } = *self {
-            *self = make(alloc, file, table, limit, out, err)?;
+    ) -> Result<Option<&TableCompletion<'a, u32>>, Fault> {
+        if let Completer::Unmade = self {
+            *self = make(alloc, plan, out, err)?;
         }
         match self {
-            Completing::Made(both) => Ok(Some(both)),
-            Completing::Never | Completing::Unmade { .. } => Ok(None),
+            Completer::Made(completion) => Ok(Some(completion)),
+            Completer::None | Completer::Unmade => Ok(None),
         }
     }
 }
@@ -62,27 +57,19 @@ impl<'a> Completing<'a> {
 // Makes the completion, if the table is fit for it. Otherwise a note says why it isn't, unless the program is to be quiet.
 fn make<'a, O: Write, E: Write>(
     alloc: Global,
-    file: GrammarFile<'_>,
-    table: &'a GrammarTable,
-    limit: usize,
+    plan: &Plan<'a>,
     out: &mut O,
     err: &mut E,
-) -> Result<Completing<'a>, Fault> {
-    match TableCompletion::with_max_stacks(alloc, &table.data, MAX_STACKS) {
-        Ok(completion) => {
-            let cheapest = cheapest(alloc, limit, table)?;
-            Ok(Completing::Made(Both {
-                cheapest,
-                completion,
-            }))
-        }
+) -> Result<Completer<'a>, Fault> {
+    match TableCompletion::with_max_stacks(alloc, plan.data(), MAX_STACKS) {
+        Ok(completion) => Ok(Completer::Made(completion)),
         Err(Incompletable::Memory) => Err(Fault::Memory),
         Err(refusal) => {
-            if !file.asked.is_quiet {
-                let text = refusal_note(alloc, file, &table.data, &refusal)?;
+            if !plan.is_quiet {
+                let text = refusal_note(alloc, plan.grammar, plan.data(), &refusal)?;
                 write_messages(out, err, text.as_str())?;
             }
-            Ok(Completing::Never)
+            Ok(Completer::None)
         }
     }
 }
