@@ -35,9 +35,9 @@ pub(crate) struct Finder<'a, StorageT: StorageIndex> {
 impl<'a, StorageT: StorageIndex> Finder<'a, StorageT> {
     ghost use Rattle.lrpar_parse_completion.specs.FinderView.{AcceptsStates, AddsNext, AddsNextAt, AllCanFinish, AreStacksOf, FindsAfter, FindsBy, FindsFinish, HasShortest, HasStackOf, HasStates, InsertsOne};
 
-    /// Tokens that finish the stack, bottom first. They are those of the completion that the grammar's minimal sentences make, where that
-    /// one is right. Where conflicts that were resolved lead it astray, stacks are searched that are reached by one token, by two, and so
-    /// on, up to the first that accepts, or from which such a completion is right.
+    /// Tokens that finish the stack, bottom first. They are those of its cheapest completion, or else those of the completion that the
+    /// grammar's minimal sentences make, if these are right. If conflicts that were resolved lead both astray, stacks are searched that are
+    /// reached by one token, by two, and so on, up to the first that accepts, or from which such a completion is right.
     pub(crate) fn find(
         &self,
         alloc: Global,
@@ -64,7 +64,7 @@ impl<'a, StorageT: StorageIndex> Finder<'a, StorageT> {
         unreachable!()
     }
 
-    // The tokens that lead to the stack, with those that finish it: none, if it accepts; or those of its completion, if that is right.
+    // The tokens that lead to the stack, with those that finish it: none, if it accepts; or those of a completion of it that is right.
     fn finish(
         &self,
         alloc: Global,

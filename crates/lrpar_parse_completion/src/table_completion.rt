@@ -24,11 +24,11 @@ const MAX_STACKS: usize = 100_000;
 /// states are merged, or whose grammar has rules that derive no text, if no run gets stuck there. `check_completable` says whether a table is
 /// such.
 ///
-/// At an error point it finds tokens that finish the stack: fed from there, they lead to a stack that accepts. They are those of `Completion`,
-/// the grammar's minimal sentences, where these are right; where a resolved conflict leads them astray, it searches stacks that are reached by
-/// one token, by two, and so on, up to the first from which they are. Then it goes on as `Completion` does: the answer is one sequence, which
-/// inserts some first of these tokens, deletes the lexemes before the nearest one at which the parse can go on after that, and of equally near
-/// ones has the fewest tokens.
+/// At an error point it finds tokens that finish the stack: fed from there, they lead to a stack that accepts. It tries the fewest that the
+/// items of the stack's states ask for, each by a minimal sentence, and then those of `Completion`. A resolved conflict can lead both astray:
+/// then it searches stacks that are reached by one token, by two, and so on, up to the first from which one of them is right. Then it goes on
+/// as `Completion` does: the answer is one sequence, which inserts some first of these tokens, deletes the lexemes before the nearest one at
+/// which the parse can go on after that, and of equally near ones has the fewest tokens.
 ///
 /// Over another table than its own it may find nothing; what it finds works.
 #[derive(Debug)]

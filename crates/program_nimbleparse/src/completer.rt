@@ -35,9 +35,9 @@ impl<'a> Completer<'a> {
         }
     }
 
-    /// The completion, if there is one. It is made where it is first asked for. If the table is refused then, a note says why, unless the
-    /// program is to be quiet.
-    pub(crate) fn completion<O: Write, E: Write>(
+    /// Makes the completion, if there is one and it isn't made yet, and returns it. If the table is refused, a note says why, unless the program
+    /// is to be quiet.
+    pub(crate) fn make_completion<O: Write, E: Write>(
         &mut self,
         alloc: Global,
         plan: &Plan<'a>,

@@ -120,7 +120,7 @@ fn search_repairs<'a, 'input, L: NonStreamingLexer<'input, TokenTypes>, O: Write
     if !lacks_repair(&errors) {
         return Ok((tree, errors));
     }
-    match completer.completion(alloc, plan, out, err)? {
+    match completer.make_completion(alloc, plan, out, err)? {
         Some(completion) => {
             let completing = Completing {
                 errors: &errors,
