@@ -19,7 +19,7 @@ const MAX_STACKS: usize = 20_000;
 #[derive(Drop)]
 pub(crate) enum Completer<'a> {
     /// Nothing: no completion is asked for, or the table is refused.
-    None,
+    Never,
     /// A completion, which wasn't needed yet.
     Unmade,
     /// This completion.
@@ -31,7 +31,7 @@ impl<'a> Completer<'a> {
     pub(crate) fn new(recovery: Recovery) -> Self {
         match recovery {
             Recovery::Complete { .. } => Completer::Unmade,
-            Recovery::Nothing | Recovery::Cheapest { .. } => Completer::None,
+            Recovery::Nothing | Recovery::Cheapest { .. } => Completer::Never,
         }
     }
 
@@ -49,7 +49,7 @@ impl<'a> Completer<'a> {
         }
         match self {
             Completer::Made(completion) => Ok(Some(completion)),
-            Completer::None | Completer::Unmade => Ok(None),
+            Completer::Never | Completer::Unmade => Ok(None),
         }
     }
 }
@@ -69,7 +69,7 @@ fn make<'a, O: Write, E: Write>(
                 let text = refusal_note(alloc, plan.grammar, plan.data(), &refusal)?;
                 write_messages(out, err, text.as_str())?;
             }
-            Ok(Completer::None)
+            Ok(Completer::Never)
         }
     }
 }
