@@ -71,7 +71,7 @@ impl<'a, StorageT: StorageIndex> TableCompletion<'a, StorageT> {
     ) -> Result<Self, Incompletable<StorageT>>
         ensures made { IfOk result (λ c. c ≡ record { checked = checked.now; most = 8 }) }
         ensures completable { OnOk result (AreAllCompletable checked.now.grammar checked.now.table) }
-        ensures refused { IfErr result (IsFault StorageT.index checked.now.table) }
+        ensures refused { IfErr result (IsFault StorageT.index checked.now.grammar checked.now.table) }
     {
         TableCompletion::with_max_stacks(alloc, checked, MAX_STACKS)
     }
@@ -85,7 +85,7 @@ impl<'a, StorageT: StorageIndex> TableCompletion<'a, StorageT> {
     ) -> Result<Self, Incompletable<StorageT>>
         ensures made { IfOk result (λ c. c ≡ record { checked = checked.now; most = 8 }) }
         ensures completable { OnOk result (AreAllCompletable checked.now.grammar checked.now.table) }
-        ensures refused { IfErr result (IsFault StorageT.index checked.now.table) }
+        ensures refused { IfErr result (IsFault StorageT.index checked.now.grammar checked.now.table) }
     {
         let _lemma = checked.stable();
         check_completable(alloc, checked, max_stacks)?;

@@ -9,3 +9,16 @@ pub mod PopLemmas
 pub mod TransitionLemmas
 pub mod GoodLemmas
 pub mod SearchLemmas
+pub mod StuckLemmas
+pub mod PlaceLemmas
+pub mod GrowthLemmas
+pub mod FoundAllLemmas
+pub mod FollowAllLemmas
+pub mod StoredAllLemmas
+pub mod SaturateLemmas
+pub mod KeptLemmas
+pub mod MarkLemmas
+pub mod RoundLemmas
+pub mod ClosedLemmas
+pub mod AllGoodLemmas
+pub mod GoodAllLemmas

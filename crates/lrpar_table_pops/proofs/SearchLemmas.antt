@@ -13,9 +13,11 @@ use Rattle.lrpar_table_stacks.specs.ReductionStep.{FitsGrammar}
 use Rattle.lrpar_table_stacks.specs.Stack.{AreJoined, HasGotoTo, HasShiftTo, IsJoined, IsStack, states_of}
 use Rattle.lrpar_table_pops.specs.Completable.{AreAllCompletable}
 use Rattle.lrpar_table_pops.specs.Exits.{HasExit}
+use Rattle.lrpar_table_rows.specs.Graph.{Graph}
+use Rattle.lrpar_table_pops.specs.AllGood.{LeadToAll}
 use Rattle.lrpar_table_pops.specs.Good.{AreGoodOver, LeadToExits, LeadToReductions}
 use Rattle.lrpar_table_pops.specs.Pops.{Control, Pops, PopsAll, Reading}
-use Rattle.lrpar_table_pops.specs.Searched.{AreDone, AreReductionsAt, AreStacks, CompletesAt, IsCovered, IsGoneOnAt, IsJoinedAt, IsMet, IsMetAt, IsOnEarlier, IsStackAt, KeepsStacks}
+use Rattle.lrpar_table_pops.specs.Searched.{AreAllReductionsAt, AreDone, AreReductionsAt, AreStacks, CompletesAt, IsCovered, IsGoneOnAt, IsJoinedAt, IsMet, IsMetAt, IsOnEarlier, IsStackAt, KeepsStacks}
 use Rattle.lrpar_table_pops.specs.declared.exits.Exit.{Exit}
 use Rattle.lrpar_table_pops.specs.declared.searched.Stack.{Stack}
 use Rattle.lrpar_table_pops.proofs.ExitLemmas.{before_more}
@@ -35,11 +37,11 @@ get_front [] x i low = absurd (omega (arith, low))
 get_front (y ∷ xs) x zero low = refl
 get_front (y ∷ xs) x (suc i) low = get_front xs x i (omega (arith, low))
 
-get_last : {X : Type 0} (xs : List X) (x : X) → slice_get (xs ++ x ∷ []) (length xs) ≡ Some x
+pub get_last : {X : Type 0} (xs : List X) (x : X) → slice_get (xs ++ x ∷ []) (length xs) ≡ Some x
 get_last [] x = refl
 get_last (y ∷ xs) x = get_last xs x
 
-get_pushed : {X : Type 0} (xs : List X) (x : X) (i : ℕ) (y : X) → slice_get (xs ++ x ∷ []) i ≡ Some y → (slice_get xs i ≡ Some y) ⊎ ((i ≡ length xs) × (y ≡ x))
+pub get_pushed : {X : Type 0} (xs : List X) (x : X) (i : ℕ) (y : X) → slice_get (xs ++ x ∷ []) i ≡ Some y → (slice_get xs i ≡ Some y) ⊎ ((i ≡ length xs) × (y ≡ x))
 get_pushed {X} [] x zero y is = let same : y ≡ x = cc in inr (refl, same)
 get_pushed [] x (suc i) y is = absurd (let none : ⊥ = cc in none)
 get_pushed (z ∷ xs) x zero y is = inl is
@@ -253,6 +255,11 @@ module _ {S : Type 0} (index : S → ℕ) (g : Grammar) (table : Table) (old now
 
   pub reductions_at : (reduced : List (List Bool)) → LeadToReductions g table (index under.top.0) under.good reduced → AreReductionsAt index g table now place reduced
   reductions_at reduced leads stack there = subst (λ (x : Stack S). LeadToReductions g table (index x.top.0) x.good reduced) (is_under stack there) leads
+
+  pub all_reductions_at : (graph : Graph) (reduced : List (List Bool)) → LeadToAll g graph table (index under.top.0) under.good reduced
+      → AreAllReductionsAt index g graph table now place reduced
+  all_reductions_at graph reduced leads stack there =
+      subst (λ (x : Stack S). LeadToAll g graph table (index x.top.0) x.good reduced) (is_under stack there) leads
 
   pub joined_at : (next : ℕ) → IsJoined table (index under.top.0) next → IsJoinedAt index table now place next
   joined_at next joined stack there = subst (λ (x : Stack S). IsJoined table (index x.top.0) next) (is_under stack there) joined

@@ -1,11 +1,12 @@
 -- Sets of tokens, as they are changed.
-use Rattle.std.proofs.Common.{◌≡◌, ◌≢◌, ◌<◌, ◌≤◌, ◌+◌, ◌∙◌, ◌||◌, ◌==◌, inl, inr, refl, sym, ap, subst, arith, ℕ, zero, suc, Bool, true, false, List, [], ◌∷◌, ◌++◌, length}
+use Rattle.std.proofs.Common.{◌≡◌, ◌≢◌, ◌<◌, ◌≤◌, ◌+◌, ◌∙◌, ◌||◌, ◌==◌, inl, inr, refl, sym, ap, subst, arith, ℕ, zero, suc, Bool, true, false, List, [], ◌∷◌, ◌++◌, get_or, length}
 use Rattle.std.proofs.Math.ListN.{set}
 use Rattle.std.specs.Prelude.{IsTrue}
 use Rattle.std.proofs.lemmas.Bool.{cases_eq, cases_lt}
 use Rattle.std.proofs.lemmas.Bool.Decides.{eqb_tells}
 use Rattle.lrpar_grammar.specs.Tokens.{IsEmptySet, PutsToken, has, missing}
 use Rattle.lrpar_grammar.proofs.TokenSetLemmas.{fewer_missing}
+use Rattle.lrpar_table_pops.specs.Growth.{KeepRoom}
 use Rattle.lrpar_table_pops.specs.Sets.{HaveNoTokens, tokens_by}
 
 -- a token more is a place less
@@ -68,3 +69,41 @@ all_empty sets n all empty r t is =
           absurd (let never : ⊥ = cc in never)
       | inl low ↦ empty_none (tokens_by sets r) (empty r low) t is
     ]
+
+-- the set that was there
+pub set_there : (sets : List (List Bool)) (i : ℕ) (old : List Bool) → i < length sets → old ≡ get_or sets i old → tokens_by sets i ≡ old
+set_there [] i old low there = absurd (omega (arith, low))
+set_there (x ∷ sets) zero old low there = sym there
+set_there (x ∷ sets) (suc i) old low there = set_there sets i old (omega (arith, low)) there
+
+-- a set was replaced by one with as much room
+pub room_kept : (sets : List (List Bool)) (i : ℕ) (old new : List Bool) → i < length sets → old ≡ get_or sets i old → length new ≡ length old
+    → KeepRoom sets (set sets i new)
+room_kept sets i old new low there long r =
+    elim (cases_eq r i) as (λ _. length (tokens_by (set sets i new) r) ≡ length (tokens_by sets r)) [
+      | inl here ↦
+          let now : length (tokens_by (set sets i new) i) ≡ length new = ap (λ (l : List Bool). length l) (tokens_set sets i new low) in
+          let was : length (tokens_by sets i) ≡ length old = ap (λ (l : List Bool). length l) (set_there sets i old low there) in
+          subst (λ (k : ℕ). length (tokens_by (set sets i new) k) ≡ length (tokens_by sets k)) (sym here) (now ∙ long ∙ sym was)
+      | inr other ↦ ap (λ (l : List Bool). length l) (tokens_kept sets i r new other)
+    ]
+
+-- one more set with room
+pub room_pushed : (sets : List (List Bool)) (bits : List Bool) (n count : ℕ) → length sets ≡ count → ((r : ℕ) → r < count → length (tokens_by sets r) ≡ n)
+    → length bits ≡ n → (r : ℕ) → r < count + 1 → length (tokens_by (sets ++ bits ∷ []) r) ≡ n
+room_pushed sets bits n count long before here r below =
+    elim (cases_lt r count) as (λ _. length (tokens_by (sets ++ bits ∷ []) r) ≡ n) [
+      | inl low ↦ ap (λ (l : List Bool). length l) (front sets r (omega (arith, long, low))) ∙ before r low
+      | inr past ↦
+          let last : r ≡ length sets = omega (arith, past, below, long) in
+          subst (λ (k : ℕ). length (tokens_by (sets ++ bits ∷ []) k) ≡ n) (sym last) (ap (λ (l : List Bool). length l) (end sets) ∙ here)
+    ]
+  where
+    front : (l : List (List Bool)) (k : ℕ) → k < length l → tokens_by (l ++ bits ∷ []) k ≡ tokens_by l k
+    front [] k low = absurd (omega (arith, low))
+    front (x ∷ l) zero low = refl
+    front (x ∷ l) (suc k) low = front l k (omega (arith, low))
+
+    end : (l : List (List Bool)) → tokens_by (l ++ bits ∷ []) (length l) ≡ bits
+    end [] = refl
+    end (x ∷ l) = end l

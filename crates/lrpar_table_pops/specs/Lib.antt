@@ -2,11 +2,17 @@ pub mod Pops
 pub mod Completable
 pub mod Sets
 pub mod Exits
+pub mod Growth
 pub mod Entries
 pub mod Found
 pub mod StoredPops
+pub mod Closed
+pub mod FoundAll
+pub mod FollowAll
+pub mod StoredAll
 pub mod Steps
 pub mod StoredSteps
 pub mod Good
+pub mod AllGood
 pub mod Searched
 pub mod Stuck

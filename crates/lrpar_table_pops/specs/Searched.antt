@@ -1,12 +1,16 @@
 -- The stacks that a search over a table tells apart: each by its top, and by exits of the top that are good over the states below. One such
 -- place is for many stacks of the table: it is for each stack with this top over whose states below the exits are good.
-use Rattle.std.specs.Prelude.{◌≡◌, ◌<◌, ◌≤◌, ℕ, Bool, List, [], Some, length, slice_get}
+use Rattle.std.specs.Prelude.{◌≡◌, ◌<◌, ◌≤◌, ℕ, Bool, List, [], ◌∷◌, Some, length, slice_get}
 use Rattle.lrpar_grammar.specs.Grammar.{Grammar}
 use Rattle.lrpar_table_rows.specs.PlainRows.{plain_action}
 use Rattle.lrpar_table_rows.specs.Table.{ShiftTo, Table, states_len}
 use Rattle.lrpar_table_rows.specs.declared.rows.Action.{Action}
 use Rattle.lrpar_table_stacks.specs.Stack.{IsJoined}
 use Rattle.lrpar_table_pops.specs.Exits.{HaveAllExits, HaveExitInCommon}
+use Rattle.lrpar_table_rows.specs.Graph.{Graph}
+use Rattle.lrpar_table_pops.specs.AllGood.{AreAllGoodOver, LeadToAll}
+use Rattle.lrpar_table_pops.specs.Growth.{HasLookahead}
+use Rattle.lrpar_table_pops.specs.declared.exits.Way.{Way}
 use Rattle.lrpar_table_pops.specs.Good.{AreGoodOver, LeadToExits, LeadToReductions}
 use Rattle.lrpar_table_pops.specs.declared.exits.Exit.{Exit}
 use Rattle.lrpar_table_pops.specs.declared.searched.Stack.{Stack}
@@ -86,3 +90,33 @@ pub record AreStacks {S : Type 0} (index : S → ℕ) (g : Grammar) (table : Tab
 pub record KeepsStacks {S : Type 0} (old new : List (Stack S)) : Type 0 where
   pub more : length old ≤ length new
   pub same : (place : ℕ) → place < length old → slice_get new place ≡ slice_get old place
+
+-- these states, top first, lie below the top of the stack at the place: the top of the stack at the place that it names, and so on
+pub data LiesOn {S : Type 0} (index : S → ℕ) (stacks : List (Stack S)) : ℕ → List ℕ → Type 0 where
+  bottom : LiesOn index stacks 0 []
+  upon : (place : ℕ) (stack below : Stack S) (rest : List ℕ) → 0 < place → IsStackAt stacks place stack → IsStackAt stacks stack.below below
+      → LiesOn index stacks stack.below rest → LiesOn index stacks place (index below.top.0 ∷ rest)
+
+-- the exits of each stack are all that are good over the states below its top
+abbrev pub AreAllGood : {S : Type 0} → (S → ℕ) → Grammar → Graph → Table → List (Stack S) → Type 0
+AreAllGood {S} index g graph table stacks =
+    (place : ℕ) (stack : Stack S) (below : List ℕ) → IsStackAt stacks place stack → LiesOn index stacks place below
+    → AreAllGoodOver g graph table (index stack.top.0) below stack.good
+
+-- by its good exits, the reductions are all that are good on top of the stack at the place
+abbrev pub AreAllReductionsAt : {S : Type 0} → (S → ℕ) → Grammar → Graph → Table → List (Stack S) → ℕ → List (List Bool) → Type 0
+AreAllReductionsAt {S} index g graph table stacks place reduced =
+    (stack : Stack S) → IsStackAt stacks place stack → LeadToAll g graph table (index stack.top.0) stack.good reduced
+
+-- these states, top first, are the stack at the place
+abbrev pub IsTopFirst : {S : Type 0} → (S → ℕ) → List (Stack S) → ℕ → List ℕ → Type 0
+IsTopFirst {S} index stacks place states =
+    (stack : Stack S) × (below : List ℕ) × IsStackAt stacks place stack × LiesOn index stacks place below × (states ≡ index stack.top.0 ∷ below)
+
+-- none of these exits of the stack's top is good
+abbrev pub HasNoneGood : {S : Type 0} → (S → ℕ) → (ℕ → List Exit) → Stack S → Type 0
+HasNoneGood {S} index exits stack = (way : Way) (t : ℕ) → HasLookahead (exits (index stack.top.0)) way t → ¬ (HasLookahead stack.good way t)
+
+-- none of these exits of the top of the stack at the place is good
+abbrev pub HasNoneGoodAt : {S : Type 0} → (S → ℕ) → (ℕ → List Exit) → List (Stack S) → ℕ → Type 0
+HasNoneGoodAt {S} index exits stacks place = (stack : Stack S) → IsStackAt stacks place stack → HasNoneGood index exits stack

@@ -1,7 +1,9 @@
 //! The check whether each stack of a table can be completed.
 ghost use Rattle.std.specs.Prelude.{◌≡◌, ◌<◌, ◌≤◌, IfErr, OnOk, length};
 ghost use Rattle.lrpar_table_pops.specs.Completable.{AreAllCompletable};
-ghost use Rattle.lrpar_table_pops.specs.Searched.{AreDone, AreStacks, CompletesAt, IsGoneOnAt, KeepsStacks};
+ghost use Rattle.lrpar_table_pops.specs.Searched.{AreAllGood, AreDone, AreStacks, CompletesAt, IsGoneOnAt, KeepsStacks};
+ghost use Rattle.lrpar_table_pops.specs.Closed.{AreAllPopsOf};
+ghost use Rattle.lrpar_table_pops.specs.StoredAll.{IsSoundTable};
 ghost use Rattle.lrpar_table_pops.specs.StoredPops.{ArePopsOf, any_of};
 ghost use Rattle.lrpar_table_pops.specs.Stuck.{IsFault};
 
@@ -17,7 +19,7 @@ use std::alloc::Global;
 /// The check goes over all stacks, from the start state up. It tells stacks apart by their tops, and by the ways in which a run can leave the
 /// top and go on to accept; a stack is left out if a known one will do. `most` limits how many it tells apart.
 ///
-/// `Stuck` gives a stack of the table for which the check finds no such tokens. `TooMany` means that there are more stacks to tell apart than
+/// `Stuck` gives a stack of the table for which there are no such tokens. `TooMany` means that there are more stacks to tell apart than
 /// `most`, and says nothing of the table. `Memory` means that an allocation failed.
 ///
 /// Each stack that it tells apart takes memory for a set of tokens for each kernel core of its top. It takes time for some passes over the
@@ -28,10 +30,15 @@ pub fn check_completable<StorageT: StorageIndex>(
     most: usize,
 ) -> Result<(), Incompletable<StorageT>>
     ensures completable { OnOk result (AreAllCompletable checked.now.grammar checked.now.table) }
-    ensures fault { IfErr result (IsFault StorageT.index checked.now.table) }
+    ensures fault { IfErr result (IsFault StorageT.index checked.now.grammar checked.now.table) }
 {
-    // The proof needs that the table is safe.
+    // The proof needs that the table is safe, and has the tokens and rules of the grammar alone.
     let _lemma = checked.stable();
+    let _lengths = (
+        checked.stable().states_len(),
+        checked.stable().tokens_len(),
+        checked.stable().rules_len(),
+    );
     let pops = Pops::new(alloc, checked)?;
     let mut searched = Searched::new(alloc, checked)?;
     search(alloc, checked, &pops, &mut searched, most)
@@ -47,9 +54,12 @@ fn search<StorageT: StorageIndex>(
 ) -> Result<(), Incompletable<StorageT>>
     requires pops { ArePopsOf checked.now.grammar checked.now.table pops.now }
     requires stacks { AreStacks StorageT.index checked.now.grammar checked.now.table searched.old.stacks.items }
+    requires sound { IsSoundTable checked.now.grammar checked.now.graph checked.now.table }
+    requires all_pops { AreAllPopsOf checked.now.grammar checked.now.table pops.now }
+    requires all_good { AreAllGood StorageT.index checked.now.grammar checked.now.graph checked.now.table searched.old.stacks.items }
     ensures stacks { OnOk result (AreStacks StorageT.index checked.now.grammar checked.now.table searched.new.stacks.items) }
     ensures done { OnOk result (AreDone StorageT.index checked.now.grammar checked.now.table (any_of pops.now) searched.new.stacks.items (length searched.new.stacks.items)) }
-    ensures fault { IfErr result (IsFault StorageT.index checked.now.table) }
+    ensures fault { IfErr result (IsFault StorageT.index checked.now.grammar checked.now.table) }
 {
     let mut place = 0;
     'stacks: while place < searched.len() {
@@ -72,12 +82,16 @@ fn go_on<StorageT: StorageIndex>(
 ) -> Result<(), Incompletable<StorageT>>
     requires pops { ArePopsOf checked.now.grammar checked.now.table pops.now }
     requires stacks { AreStacks StorageT.index checked.now.grammar checked.now.table searched.old.stacks.items }
+    requires sound { IsSoundTable checked.now.grammar checked.now.graph checked.now.table }
+    requires all_pops { AreAllPopsOf checked.now.grammar checked.now.table pops.now }
+    requires all_good { AreAllGood StorageT.index checked.now.grammar checked.now.graph checked.now.table searched.old.stacks.items }
     requires place { place < length searched.old.stacks.items }
     ensures stacks { OnOk result (AreStacks StorageT.index checked.now.grammar checked.now.table searched.new.stacks.items) }
     ensures keeps { OnOk result (KeepsStacks searched.old.stacks.items searched.new.stacks.items) }
+    ensures all_good { OnOk result (AreAllGood StorageT.index checked.now.grammar checked.now.graph checked.now.table searched.new.stacks.items) }
     ensures completes { OnOk result (CompletesAt StorageT.index (any_of pops.now) searched.old.stacks.items place) }
     ensures gone_on { OnOk result (IsGoneOnAt StorageT.index checked.now.grammar checked.now.table searched.new.stacks.items place) }
-    ensures fault { IfErr result (IsFault StorageT.index checked.now.table) }
+    ensures fault { IfErr result (IsFault StorageT.index checked.now.grammar checked.now.table) }
 {
     if !searched.can_complete(place, pops) {
         let states = searched.states(alloc, checked, place)?;

@@ -1,7 +1,7 @@
 //! The entries of a state: those past the last state are none.
-ghost use Rattle.std.specs.Prelude.{◌≡◌, IfSome, length};
-ghost use Rattle.lrpar_grammar.specs.Grammar.{prod_len};
-ghost use Rattle.lrpar_table_pops.specs.Entries.{AreActionsOf, AreGotosOf};
+ghost use Rattle.std.specs.Prelude.{◌≡◌, ◌≤◌, IfSome, None, length};
+ghost use Rattle.lrpar_grammar.specs.Grammar.{prod_len, prods_len};
+ghost use Rattle.lrpar_table_pops.specs.Entries.{AreActionsOf, AreAllRulesOf, AreAllTokensOf, AreGotosOf};
 
 use lrpar_grammar::grammar::YaccGrammar;
 use lrpar_grammar::span::{PIdx, RIdx, StIdx, StorageIndex, TIdx};
@@ -13,6 +13,7 @@ pub(crate) fn actions_at<StorageT: StorageIndex>(
     s: StIdx<StorageT>,
 ) -> (&[TIdx<StorageT>], &[Action<StorageT>])
     ensures paired { length result.1.now ≡ length result.0.now }
+    ensures all { AreAllTokensOf StorageT.index stable.now s result.0.now }
     ensures actions { AreActionsOf StorageT.index stable.now s result.0.now result.1.now }
 {
     if usize::from(s) >= stable.states_len() {
@@ -27,6 +28,7 @@ pub(crate) fn gotos_at<StorageT: StorageIndex>(
     s: StIdx<StorageT>,
 ) -> (&[RIdx<StorageT>], &[StIdx<StorageT>])
     ensures paired { length result.1.now ≡ length result.0.now }
+    ensures all { AreAllRulesOf StorageT.index stable.now s result.0.now }
     ensures gotos { AreGotosOf StorageT.index stable.now s result.0.now result.1.now }
 {
     if usize::from(s) >= stable.states_len() {
@@ -40,7 +42,8 @@ pub(crate) fn symbols_len<StorageT: StorageIndex>(
     grm: &YaccGrammar<StorageT>,
     prod: PIdx<StorageT>,
 ) -> Option<usize>
-    ensures { IfSome result (λ len. len ≡ prod_len grm.now (StorageT.index prod.0)) }
+    ensures len { IfSome result (λ len. len ≡ prod_len grm.now (StorageT.index prod.0)) }
+    ensures none { result ≡ None → prods_len grm.now ≤ StorageT.index prod.0 }
 {
     if usize::from(prod) >= grm.prods_len() {
         return None;

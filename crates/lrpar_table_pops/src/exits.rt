@@ -1,9 +1,13 @@
 //! The exits of a state: in which controls a run can leave it.
-ghost use Rattle.std.specs.Prelude.{◌≡◌, ◌<◌, Contains, IfOk, IfSome, Some, length, slice_get};
+ghost use Rattle.std.specs.Prelude.{◌≡◌, ◌<◌, Contains, IfOk, IfSome, IsTrue, ℕ, None, Some, length, slice_get};
 ghost use Rattle.std.specs.Bool.{OnFalse, OnTrue};
 ghost use Rattle.lrpar_table_pops.specs.Pops.{Control};
 ghost use Rattle.lrpar_table_rows.specs.Graph.{graph_len};
 ghost use Rattle.lrpar_table_pops.specs.Exits.{AddsOnly, AreTokensAt, HasExit, HasNoExit, HaveAllExits, HaveExitInCommon, IsIndexOf, LeavesIn, control_of, room_left};
+ghost use Rattle.lrpar_grammar.specs.Tokens.{has};
+ghost use Rattle.lrpar_table_pops.specs.declared.exits.Way.{Way};
+ghost use Rattle.lrpar_table_pops.specs.FoundAll.{AreExitsFor};
+ghost use Rattle.lrpar_table_pops.specs.Growth.{AreLookaheadsOf, GrowsBy, HasLookahead, HasWay, IsFirstOf, KeepsWays, SomeHasLookahead, ways_of};
 
 use crate::sets::{insert, unite};
 use lrpar_grammar::span::{StIdx, StorageIndex};
@@ -60,7 +64,8 @@ impl Exits {
         state: StIdx<StorageT>,
     ) -> Result<Self, AllocError>
         requires { StorageT.index state.0 < graph_len checked.now.graph }
-        ensures { IfOk result HasNoExit }
+        ensures none { IfOk result HasNoExit }
+        ensures places { IfOk result (AreExitsFor checked.now.grammar checked.now.graph (StorageT.index state.0)) }
     {
         let len = checked.grm().tokens_len();
         let mut exits = Vec::new(alloc);
@@ -80,7 +85,8 @@ impl Exits {
 
     /// Removes all lookaheads.
     pub(crate) fn clear(&mut self)
-        ensures { HasNoExit self.new }
+        ensures none { HasNoExit self.new }
+        ensures places { KeepsWays self.old self.new }
     {
         clear_all(&mut self.exits);
     }
@@ -103,7 +109,8 @@ impl Exits {
 
     // The place of the exit this way, if the state has it.
     fn index_of(&self, way: Way) -> Option<usize>
-        ensures { IfSome result (IsIndexOf self.now way) }
+        ensures place { IfSome result (IsFirstOf self.now way) }
+        ensures none { result ≡ None → ¬ (HasWay self.now way) }
     {
         for place in 0..self.exits.len() {
             if self.exits[place].way == way {
@@ -115,7 +122,9 @@ impl Exits {
 
     /// The lookaheads of the exit this way, if the state has it.
     pub(crate) fn tokens_at(&self, way: Way) -> Option<&TokenSet>
-        ensures { IfSome result (λ tokens. AreTokensAt self.now way tokens.now) }
+        ensures tokens { IfSome result (λ tokens. AreTokensAt self.now way tokens.now) }
+        ensures all { IfSome result (λ tokens. AreLookaheadsOf self.now way tokens.now) }
+        ensures none { result ≡ None → ¬ (HasWay self.now way) }
     {
         for exit in &self.exits {
             if exit.way == way {
@@ -128,6 +137,8 @@ impl Exits {
     /// Adds the lookaheads to the exit this way, if the state has it. Returns whether any was new.
     pub(crate) fn unite(&mut self, way: Way, tokens: &TokenSet) -> bool
         ensures adds { AddsOnly (LeavesIn way tokens.now) self.old self.new }
+        ensures all { GrowsBy (λ w t. (w ≡ way) × IsTrue (has tokens.now t)) self.old self.new }
+        ensures ways { ways_of self.new ≡ ways_of self.old }
         ensures grown { OnTrue result (room_left self.new < room_left self.old) }
         ensures same { OnFalse result (self.new ≡ self.old) }
     {
@@ -140,6 +151,7 @@ impl Exits {
     /// Adds the lookahead to the exit this way, if the state has it.
     pub(crate) fn insert(&mut self, way: Way, token: usize)
         ensures adds { AddsOnly (λ r. control_of way token ≡ r) self.old self.new }
+        ensures all { GrowsBy (λ w t. (w ≡ way) × (t ≡ token)) self.old self.new }
     {
         if let Some(place) = self.index_of(way) {
             insert(&mut self.exits[place].tokens, token);
@@ -149,6 +161,7 @@ impl Exits {
     /// Adds the others. Returns whether any lookahead was new.
     pub(crate) fn unite_all(&mut self, others: &Exits) -> bool
         ensures adds { AddsOnly (HasExit others.now) self.old self.new }
+        ensures all { GrowsBy (SomeHasLookahead others.now) self.old self.new }
         ensures grown { OnTrue result (room_left self.new < room_left self.old) }
         ensures same { OnFalse result (self.new ≡ self.old) }
     {
@@ -164,7 +177,8 @@ impl Exits {
 
     /// Whether they have an exit in common.
     pub(crate) fn meet(&self, others: &Exits) -> bool
-        ensures { OnTrue result (HaveExitInCommon self.now others.now) }
+        ensures common { OnTrue result (HaveExitInCommon self.now others.now) }
+        ensures all { (way : Way) (t : ℕ) → SomeHasLookahead self.now way t → HasLookahead others.now way t → IsTrue result }
     {
         for place in 0..self.len() {
             if others.meets(self.get(place)) {
@@ -176,7 +190,8 @@ impl Exits {
 
     // Whether they have this exit with one of its lookaheads.
     fn meets(&self, other: &Exit) -> bool
-        ensures { OnTrue result ((r : Control) × HasExit self.now r × LeavesIn other.now.way other.now.tokens r) }
+        ensures common { OnTrue result ((r : Control) × HasExit self.now r × LeavesIn other.now.way other.now.tokens r) }
+        ensures all { (t : ℕ) → HasLookahead self.now other.now.way t → IsTrue (has other.now.tokens t) → IsTrue result }
     {
         match self.tokens_at(other.way) {
             Some(tokens) => tokens.has_common(&other.tokens),
@@ -209,7 +224,8 @@ impl Exits {
 
 // Removes all lookaheads of these exits.
 fn clear_all(exits: &mut Vec<Exit>)
-    ensures { HasNoExit exits.new.items }
+    ensures none { HasNoExit exits.new.items }
+    ensures places { KeepsWays exits.old.items exits.new.items }
 {
     for place in 0..exits.len() {
         exits[place].tokens.clear();

@@ -9,8 +9,8 @@ use thiserror::Error;
 /// Why `check_completable` doesn't pass a table.
 #[derive(Debug, Drop, Error)]
 pub enum Incompletable<StorageT: StorageIndex> {
-    /// The check finds no tokens that complete this stack of the table, bottom first.
-    #[error("no tokens are found that complete a stack of {} states", .0.len())]
+    /// No tokens complete this stack of the table, bottom first.
+    #[error("no tokens complete a stack of {} states", .0.len())]
     Stuck(Vec<StIdx<StorageT>>),
     /// There are more stacks to tell apart than the limit. That says nothing of the table.
     #[error("more stacks to tell apart than the limit")]

@@ -1,9 +1,13 @@
 //! What follows for a state from the exits of those to which it goes.
 ghost use Rattle.std.specs.Prelude.{◌≡◌, ◌<◌, ◌≤◌};
-ghost use Rattle.std.specs.Bool.{OnTrue};
+ghost use Rattle.std.specs.Bool.{OnFalse, OnTrue};
 ghost use Rattle.lrpar_table_rows.specs.declared.rows.Action.{Action};
 ghost use Rattle.lrpar_table_rows.specs.declared.rows.Action.TheVariants.{Reduce};
+ghost use Rattle.lrpar_table_rows.specs.PlainRows.{plain_action};
+ghost use Rattle.lrpar_table_rows.specs.Table.{ReduceBy};
+ghost use Rattle.lrpar_table_pops.specs.Growth.{IsStored};
 ghost use Rattle.lrpar_table_pops.specs.Sets.{room_in};
+ghost use Rattle.lrpar_table_pops.specs.StoredPops.{at_of};
 
 use crate::entries::{actions_at, gotos_at, symbols_len};
 use crate::found::Found;
@@ -14,6 +18,8 @@ use lrpar_table_check::check::ParserData;
 use lrpar_table_rows::table::{Action, StateTable};
 
 impl Pops {
+    ghost use Rattle.lrpar_table_pops.specs.FoundAll.{FindsAll, IsDone, IsUnchanged};
+    ghost use Rattle.lrpar_table_pops.specs.FollowAll.{AreAllDone, FollowsAllAt, FollowsAllBy, FollowsAllFor, FollowsAllOf, IsRuleDone, StartsAll};
     ghost use Rattle.lrpar_table_pops.specs.Steps.{FollowsAt, FollowsRule, FollowsState, StartsAt, FollowsAction};
 
     /// A state acts so at the token.
@@ -24,7 +30,9 @@ impl Pops {
         action: Action<StorageT>,
         found: &mut Found,
     )
-        ensures { StartsAt StorageT.index grm.now self.now token action found.old found.new }
+        ensures right { StartsAt StorageT.index grm.now self.now token action found.old found.new }
+        ensures followed { found.new.followed ≡ found.old.followed }
+        ensures all { StartsAll StorageT.index grm.now self.now token action found.old found.new }
     {
         match action {
             Action::Shift(next) => {
@@ -52,6 +60,7 @@ impl Pops {
         found: &mut Found,
     )
         ensures follows { FollowsAction StorageT.index grm.now self.now next token action found.old found.new }
+        ensures all { FollowsAllBy StorageT.index grm.now self.now next token (plain_action StorageT.index action) found.old found.new }
         ensures followed { found.new.followed ≡ found.old.followed }
     {
         match action {
@@ -72,6 +81,7 @@ impl Pops {
         found: &mut Found,
     )
         ensures follows { FollowsAction StorageT.index grm.now self.now next token (Reduce prod) found.old found.new }
+        ensures all { FollowsAllBy StorageT.index grm.now self.now next token (ReduceBy (StorageT.index prod.0)) found.old found.new }
         ensures followed { found.new.followed ≡ found.old.followed }
     {
         let Some(len) = symbols_len(grm, prod) else {
@@ -93,6 +103,7 @@ impl Pops {
         found: &mut Found,
     )
         ensures follows { (action : Action StorageT) → FollowsAction StorageT.index grm.now self.now next token action found.old found.new }
+        ensures all { FindsAll grm.now (IsStored grm.now (at_of self.now (StorageT.index next.0) (StorageT.index token.0))) found.old found.new }
         ensures followed { found.new.followed ≡ found.old.followed }
     {
         if let Some(exits) = self.at(next, usize::from(token)) {
@@ -112,6 +123,9 @@ impl Pops {
         found: &mut Found,
     ) -> bool
         ensures follows { FollowsAt StorageT.index grm.now self.now rule next token action found.old found.new }
+        ensures all { FollowsAllAt StorageT.index grm.now self.now rule next token action found.old found.new }
+        ensures done { OnFalse result (IsDone found.old rule (StorageT.index token.0)) }
+        ensures same { OnFalse result (IsUnchanged found.old found.new) }
         ensures less { OnTrue result (room_in found.new.followed.items < room_in found.old.followed.items) }
         ensures no_more { room_in found.new.followed.items ≤ room_in found.old.followed.items }
     {
@@ -132,6 +146,9 @@ impl Pops {
         found: &mut Found,
     ) -> bool
         ensures follows { FollowsRule StorageT.index grm.now stable.now self.now rule next found.old found.new }
+        ensures all { FollowsAllOf StorageT.index grm.now stable.now self.now rule next found.old found.new }
+        ensures done { OnFalse result (IsRuleDone StorageT.index stable.now rule next found.old) }
+        ensures same { OnFalse result (IsUnchanged found.old found.new) }
         ensures less { OnTrue result (room_in found.new.followed.items < room_in found.old.followed.items) }
         ensures no_more { room_in found.new.followed.items ≤ room_in found.old.followed.items }
     {
@@ -156,6 +173,9 @@ impl Pops {
         found: &mut Found,
     ) -> bool
         ensures follows { FollowsState StorageT.index checked.now.grammar checked.now.table self.now state found.old found.new }
+        ensures all { FollowsAllFor StorageT.index checked.now.grammar checked.now.table self.now state found.old found.new }
+        ensures done { OnFalse result (AreAllDone checked.now.table (StorageT.index state.0) found.old) }
+        ensures same { OnFalse result (IsUnchanged found.old found.new) }
         ensures less { OnTrue result (room_in found.new.followed.items < room_in found.old.followed.items) }
     {
         let (grm, stable) = (checked.grm(), checked.stable());
@@ -176,7 +196,9 @@ impl Pops {
         state: StIdx<StorageT>,
         found: &mut Found,
     )
-        ensures { FollowsState StorageT.index checked.now.grammar checked.now.table self.now state found.old found.new }
+        ensures follows { FollowsState StorageT.index checked.now.grammar checked.now.table self.now state found.old found.new }
+        ensures all { FollowsAllFor StorageT.index checked.now.grammar checked.now.table self.now state found.old found.new }
+        ensures done { AreAllDone checked.now.table (StorageT.index state.0) found.new }
     {
         'passes: while self.follow_once(checked, state, found) {}
     }

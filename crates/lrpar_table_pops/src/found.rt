@@ -1,12 +1,17 @@
 //! What is found of a state: its exits, and the reductions that can be made on top of it.
-ghost use Rattle.std.specs.Prelude.{◌≡◌, ◌<◌, ◌≤◌, ℕ, IfSome, IsTrue, OnOk};
-ghost use Rattle.std.specs.Bool.{OnTrue};
+ghost use Rattle.std.specs.Prelude.{◌≡◌, ◌<◌, ◌≤◌, ℕ, IfOk, IfSome, IsTrue, OnOk};
+ghost use Rattle.std.specs.Bool.{OnFalse, OnTrue};
 ghost use Rattle.lrpar_grammar.specs.Grammar.{Grammar, rule_of};
 ghost use Rattle.lrpar_grammar.specs.Tokens.{has, missing};
 ghost use Rattle.lrpar_table_rows.specs.Graph.{graph_len};
 ghost use Rattle.lrpar_table_pops.specs.Exits.{HasExit, HasNoExit, LeavesIn};
 ghost use Rattle.lrpar_table_pops.specs.Pops.{Done, Dropping};
 ghost use Rattle.lrpar_table_pops.specs.Sets.{HaveNoTokens, tokens_by, room_in};
+ghost use Rattle.lrpar_grammar.specs.Grammar.{end_token, prods_len, rules_len};
+ghost use Rattle.lrpar_table_pops.specs.FoundAll.{AreExitsFor, SetsGrowBy};
+ghost use Rattle.lrpar_table_pops.specs.Growth.{HaveRoomFor, KeepRoom, KeepsWays, SomeHasLookahead};
+ghost use Rattle.lrpar_table_pops.specs.Pops.{Control};
+ghost use Rattle.std.specs.Prelude.{None};
 
 use crate::exits::{Exit, Exits, Way};
 use crate::sets::{clear_sets, empty_sets, insert, insert_new, unite};
@@ -27,12 +32,16 @@ pub(crate) struct Found {
 
 impl Found {
     ghost use Rattle.lrpar_table_pops.specs.Found.{StaysFound};
+    ghost use Rattle.lrpar_table_pops.specs.FoundAll.{FindsAll, FollowsOnly, IsAmong, IsDone, IsUnchanged};
 
     /// Nothing.
     pub(crate) fn new<StorageT: StorageIndex>(
         alloc: Global,
         grm: &YaccGrammar<StorageT>,
-    ) -> Result<Self, AllocError> {
+    ) -> Result<Self, AllocError>
+        ensures reduced { IfOk result (λ found. HaveRoomFor grm.now found.reduced.items) }
+        ensures followed { IfOk result (λ found. HaveRoomFor grm.now found.followed.items) }
+    {
         let exits = Exits::none(alloc);
         let reduced = empty_sets(alloc, grm)?;
         let followed = empty_sets(alloc, grm)?;
@@ -58,6 +67,9 @@ impl Found {
         state: StIdx<StorageT>,
     ) -> Result<(), AllocError>
         requires { StorageT.index state.0 < graph_len checked.now.graph }
+        ensures places { OnOk result (AreExitsFor checked.now.grammar checked.now.graph (StorageT.index state.0) self.new.exits) }
+        ensures reduced { OnOk result (self.new.reduced ≡ self.old.reduced) }
+        ensures followed { OnOk result (self.new.followed ≡ self.old.followed) }
     {
         self.exits = Exits::new(alloc, checked, state)?;
         Ok(())
@@ -67,6 +79,10 @@ impl Found {
     pub(crate) fn clear(&mut self)
         ensures exits { HasNoExit self.new.exits }
         ensures reduced { HaveNoTokens self.new.reduced.items }
+        ensures followed { HaveNoTokens self.new.followed.items }
+        ensures places { KeepsWays self.old.exits self.new.exits }
+        ensures room { KeepRoom self.old.reduced.items self.new.reduced.items }
+        ensures followed_room { KeepRoom self.old.followed.items self.new.followed.items }
     {
         self.exits.clear();
         clear_sets(&mut self.reduced);
@@ -82,6 +98,7 @@ impl Found {
         token: usize,
     )
         ensures stays { StaysFound grm.now (λ q. q ≡ Dropping prod symbols token) self.old self.new }
+        ensures all { FindsAll grm.now (λ q. q ≡ Dropping prod symbols token) self.old self.new }
         ensures followed { self.new.followed ≡ self.old.followed }
     {
         if symbols == 0 {
@@ -100,6 +117,7 @@ impl Found {
         token: usize,
     )
         ensures stays { StaysFound grm.now (λ q. q ≡ Dropping prod 0 token) self.old self.new }
+        ensures all { FindsAll grm.now (λ q. q ≡ Dropping prod 0 token) self.old self.new }
         ensures followed { self.new.followed ≡ self.old.followed }
     {
         if let Some(rule) = rule_number(grm, prod)
@@ -112,6 +130,7 @@ impl Found {
     /// A run has accepted, with this token as lookahead.
     pub(crate) fn add_acceptance(&mut self, token: usize)
         ensures stays { (g : Grammar) → StaysFound g (λ q. q ≡ Done) self.old self.new }
+        ensures all { (g : Grammar) → FindsAll g (λ q. (q ≡ Done) × (token ≡ end_token g)) self.old self.new }
         ensures followed { self.new.followed ≡ self.old.followed }
     {
         self.exits.insert(Way::Acceptance, token);
@@ -124,6 +143,7 @@ impl Found {
         above: &Exits,
     )
         ensures stays { StaysFound grm.now (HasExit above.now) self.old self.new }
+        ensures all { FindsAll grm.now (IsAmong grm.now (SomeHasLookahead above.now)) self.old self.new }
         ensures followed { self.new.followed ≡ self.old.followed }
     {
         for place in 0..above.len() {
@@ -134,6 +154,7 @@ impl Found {
     // A run left the state above by this exit.
     fn add_exit<StorageT: StorageIndex>(&mut self, grm: &YaccGrammar<StorageT>, above: &Exit)
         ensures stays { StaysFound grm.now (LeavesIn above.now.way above.now.tokens) self.old self.new }
+        ensures all { FindsAll grm.now (IsAmong grm.now (λ w t. (w ≡ above.now.way) × IsTrue (has above.now.tokens t))) self.old self.new }
         ensures followed { self.new.followed ≡ self.old.followed }
     {
         match above.way {
@@ -153,6 +174,7 @@ impl Found {
         tokens: &TokenSet,
     )
         ensures stays { StaysFound grm.now (λ q. (t : ℕ) × IsTrue (has tokens.now t) × (q ≡ Dropping prod symbols t)) self.old self.new }
+        ensures all { FindsAll grm.now (λ q. (t : ℕ) × IsTrue (has tokens.now t) × (q ≡ Dropping prod symbols t)) self.old self.new }
         ensures followed { self.new.followed ≡ self.old.followed }
     {
         if symbols == 0 {
@@ -171,6 +193,7 @@ impl Found {
         tokens: &TokenSet,
     )
         ensures stays { StaysFound grm.now (λ q. (t : ℕ) × IsTrue (has tokens.now t) × (q ≡ Dropping prod 0 t)) self.old self.new }
+        ensures all { FindsAll grm.now (λ q. (t : ℕ) × IsTrue (has tokens.now t) × (q ≡ Dropping prod 0 t)) self.old self.new }
         ensures followed { self.new.followed ≡ self.old.followed }
     {
         if let Some(rule) = rule_number(grm, prod)
@@ -181,7 +204,9 @@ impl Found {
     }
 
     /// Whether the rule's goto is to be followed at some token.
-    pub(crate) fn is_rule_due(&self, rule: usize) -> bool {
+    pub(crate) fn is_rule_due(&self, rule: usize) -> bool
+        ensures { OnFalse result ((t : ℕ) → IsDone self.now rule t) }
+    {
         match (self.reduced.get(rule), self.followed.get(rule)) {
             (Some(reduced), Some(followed)) => !followed.covers(reduced),
             (Some(_), None) | (None, Some(_)) | (None, None) => false,
@@ -194,6 +219,10 @@ impl Found {
         ensures exits { self.new.exits ≡ self.old.exits }
         ensures reduced { self.new.reduced ≡ self.old.reduced }
         ensures less { OnTrue result (room_in self.new.followed.items < room_in self.old.followed.items) }
+        ensures grows { SetsGrowBy (λ r t. IsTrue result × (r ≡ rule) × (t ≡ token)) self.old.followed.items self.new.followed.items }
+        ensures only { FollowsOnly rule token self.old self.new }
+        ensures not_due { OnFalse result (IsDone self.old rule token) }
+        ensures same { OnFalse result (IsUnchanged self.old self.new) }
         ensures no_more { room_in self.new.followed.items ≤ room_in self.old.followed.items }
     {
         if !self.has_reduced(rule, token) || rule >= self.followed.len() {
@@ -218,7 +247,9 @@ pub(crate) fn rule_number<StorageT: StorageIndex>(
     grm: &YaccGrammar<StorageT>,
     prod: usize,
 ) -> Option<usize>
-    ensures { IfSome result (λ rule. rule ≡ rule_of grm.now prod) }
+    ensures rule { IfSome result (λ rule. rule ≡ rule_of grm.now prod) }
+    ensures within { IfSome result (λ rule. rule < rules_len grm.now) }
+    ensures none { result ≡ None → prods_len grm.now ≤ prod }
 {
     if prod >= grm.prods_len() {
         return None;

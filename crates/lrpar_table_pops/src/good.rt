@@ -1,12 +1,21 @@
 //! The exits of a stack's top from which a run goes on to accept, whatever comes next.
 ghost use Rattle.std.specs.Prelude.{◌≡◌, ◌<◌, ◌≤◌, IfOk, IfSome, []};
-ghost use Rattle.std.specs.Bool.{OnTrue};
-ghost use Rattle.lrpar_grammar.specs.Grammar.{rule_of};
+ghost use Rattle.std.specs.Bool.{OnFalse, OnTrue};
+ghost use Rattle.std.specs.Prelude.{ℕ, IsTrue, None, Some, slice_get};
+ghost use Rattle.lrpar_grammar.specs.Tokens.{has};
+ghost use Rattle.lrpar_table_rows.specs.PlainRows.{plain_action};
+ghost use Rattle.lrpar_table_pops.specs.AllGood.{AreReductionsClosed, HasAllAbove, IsGoodExit, IsGoodControl, IsTokenClosed};
+ghost use Rattle.lrpar_table_pops.specs.Closed.{FollowsIn};
+ghost use Rattle.lrpar_table_pops.specs.FoundAll.{SetsGrowBy};
+ghost use Rattle.lrpar_table_pops.specs.Growth.{GrowsBy, HasLookahead, HaveRoomFor, IsStored, KeepRoom, SomeHasLookahead, ways_of};
+ghost use Rattle.lrpar_table_pops.specs.declared.exits.Way.{Way};
+ghost use Rattle.lrpar_table_pops.specs.declared.exits.Way.TheVariants.{Reduction};
+ghost use Rattle.lrpar_grammar.specs.Grammar.{prods_len, rule_of};
 ghost use Rattle.lrpar_table_rows.specs.StoredRows.{IsActionAt};
 ghost use Rattle.lrpar_table_rows.specs.Table.{states_len};
 ghost use Rattle.lrpar_table_pops.specs.Exits.{AddsOnly, HasExit, LeavesIn, control_of};
 ghost use Rattle.lrpar_table_pops.specs.Good.{AddsByGoto, AddsTokenBy, AllGoOn, AreGoodOver, GoesOn, KeepsReductions, LeadBoth, LeadToReductions, ReadsOn, SomeGoesOn};
-ghost use Rattle.lrpar_table_pops.specs.Pops.{Dropping};
+ghost use Rattle.lrpar_table_pops.specs.Pops.{Control, Done, Dropping};
 ghost use Rattle.lrpar_table_pops.specs.Sets.{room_in, tokens_by};
 ghost use Rattle.lrpar_table_pops.specs.StoredPops.{ArePopsOf, at_of};
 
@@ -26,7 +35,8 @@ pub(crate) fn good_at_start<StorageT: StorageIndex>(
     alloc: Global,
     checked: &ParserData<StorageT>,
 ) -> Result<Exits, AllocError>
-    ensures { IfOk result (AreGoodOver checked.now.grammar checked.now.table []) }
+    ensures good { IfOk result (AreGoodOver checked.now.grammar checked.now.table []) }
+    ensures all { IfOk result (λ good. IsStored checked.now.grammar good Done) }
 {
     let mut good = Exits::new(alloc, checked, checked.stable().start_state())?;
     good.insert(Way::Acceptance, usize::from(checked.grm().eof_token_idx()));
@@ -44,7 +54,9 @@ pub(crate) fn good_reductions<StorageT: StorageIndex>(
 ) -> Result<Vec<TokenSet>, AllocError>
     requires pops { ArePopsOf checked.now.grammar checked.now.table pops.now }
     requires state { StorageT.index state.0 < states_len checked.now.table }
-    ensures { IfOk result (λ reduced. LeadToReductions checked.now.grammar checked.now.table (StorageT.index state.0) good.now reduced.items) }
+    ensures good { IfOk result (λ reduced. LeadToReductions checked.now.grammar checked.now.table (StorageT.index state.0) good.now reduced.items) }
+    ensures room { IfOk result (λ reduced. HaveRoomFor checked.now.grammar reduced.items) }
+    ensures all { IfOk result (λ reduced. AreReductionsClosed checked.now.grammar checked.now.table pops.now (StorageT.index state.0) good.now reduced.items) }
 {
     let mut reduced = empty_sets(alloc, checked.grm())?;
     'passes: while add_all(checked, pops, state, good, &mut reduced) {}
@@ -62,6 +74,9 @@ fn add_all<StorageT: StorageIndex>(
     requires pops { ArePopsOf checked.now.grammar checked.now.table pops.now }
     requires state { StorageT.index state.0 < states_len checked.now.table }
     ensures keeps { KeepsReductions checked.now.grammar checked.now.table (StorageT.index state.0) good.now reduced.old.items reduced.new.items }
+    ensures keeps_room { KeepRoom reduced.old.items reduced.new.items }
+    ensures same { OnFalse result (reduced.new.items ≡ reduced.old.items) }
+    ensures all { OnFalse result (AreReductionsClosed checked.now.grammar checked.now.table pops.now (StorageT.index state.0) good.now reduced.old.items) }
     ensures room { room_in reduced.new.items ≤ room_in reduced.old.items }
     ensures grown { OnTrue result (room_in reduced.new.items < room_in reduced.old.items) }
 {
@@ -89,26 +104,66 @@ fn add_by_goto<StorageT: StorageIndex>(
     requires pops { ArePopsOf checked.now.grammar checked.now.table pops.now }
     requires next { StorageT.index next.0 < states_len checked.now.table }
     ensures keeps { AddsByGoto checked.now.grammar checked.now.table good.now rule (StorageT.index next.0) reduced.old.items reduced.new.items }
+    ensures keeps_room { KeepRoom reduced.old.items reduced.new.items }
+    ensures same { OnFalse result (reduced.new.items ≡ reduced.old.items) }
+    ensures all { OnFalse result ((t : ℕ) → IsTokenClosed checked.now.grammar checked.now.table pops.now good.now rule (StorageT.index next.0) reduced.old.items t) }
     ensures room { room_in reduced.new.items ≤ room_in reduced.old.items }
     ensures grown { OnTrue result (room_in reduced.new.items < room_in reduced.old.items) }
 {
     let (tokens, actions) = checked.stable().actions_of(next);
     let mut grown = false;
     'tokens: for (place, token) in tokens.iter().enumerate() {
-        if has_token(reduced, rule, usize::from(*token)) {
-            continue;
-        }
-        if reads_on(checked, pops, next, *token, actions[place], good, reduced)
-            && insert_by(reduced, rule, usize::from(*token))
-        {
+        if add_token(
+            checked,
+            pops,
+            rule,
+            next,
+            *token,
+            actions[place],
+            good,
+            reduced,
+        ) {
             grown = true;
         }
     }
     grown
 }
 
+// Adds the reduction to the rule at the token, where state `next` acts so, if a run takes the state below by a good exit after it. Returns
+// whether it was new.
+fn add_token<StorageT: StorageIndex>(
+    checked: &ParserData<StorageT>,
+    pops: &Pops,
+    rule: usize,
+    next: StIdx<StorageT>,
+    token: TIdx<StorageT>,
+    action: Action<StorageT>,
+    good: &Exits,
+    reduced: &mut Vec<TokenSet>,
+) -> bool
+    requires pops { ArePopsOf checked.now.grammar checked.now.table pops.now }
+    requires next { StorageT.index next.0 < states_len checked.now.table }
+    requires action { IsActionAt StorageT.index checked.now.table next token action }
+    ensures keeps { AddsByGoto checked.now.grammar checked.now.table good.now rule (StorageT.index next.0) reduced.old.items reduced.new.items }
+    ensures keeps_room { KeepRoom reduced.old.items reduced.new.items }
+    ensures same { OnFalse result (reduced.new.items ≡ reduced.old.items) }
+    ensures all { OnFalse result (IsTokenClosed checked.now.grammar checked.now.table pops.now good.now rule (StorageT.index next.0) reduced.old.items (StorageT.index token.0)) }
+    ensures room { room_in reduced.new.items ≤ room_in reduced.old.items }
+    ensures grown { OnTrue result (room_in reduced.new.items < room_in reduced.old.items) }
+{
+    if has_token(reduced, rule, usize::from(token)) {
+        return false;
+    }
+    if !reads_on(checked, pops, next, token, action, good, reduced) {
+        return false;
+    }
+    insert_by(reduced, rule, usize::from(token))
+}
+
 // Whether the token is one of the rule's.
-fn has_token(reduced: &[TokenSet], rule: usize, token: usize) -> bool {
+fn has_token(reduced: &[TokenSet], rule: usize, token: usize) -> bool
+    ensures { result ≡ has (tokens_by reduced.now rule) token }
+{
     match reduced.get(rule) {
         Some(tokens) => tokens.contains(token),
         None => false,
@@ -118,6 +173,8 @@ fn has_token(reduced: &[TokenSet], rule: usize, token: usize) -> bool {
 // Adds the token to those of the rule. Returns whether it was new.
 fn insert_by(reduced: &mut Vec<TokenSet>, rule: usize, token: usize) -> bool
     ensures adds { AddsTokenBy reduced.old.items reduced.new.items rule token }
+    ensures all { SetsGrowBy (λ r t. (r ≡ rule) × (t ≡ token)) reduced.old.items reduced.new.items }
+    ensures same { OnFalse result (reduced.new.items ≡ reduced.old.items) }
     ensures room { room_in reduced.new.items ≤ room_in reduced.old.items }
     ensures grown { OnTrue result (room_in reduced.new.items < room_in reduced.old.items) }
 {
@@ -140,7 +197,8 @@ fn reads_on<StorageT: StorageIndex>(
     requires pops { ArePopsOf checked.now.grammar checked.now.table pops.now }
     requires next { StorageT.index next.0 < states_len checked.now.table }
     requires action { IsActionAt StorageT.index checked.now.table next token action }
-    ensures { OnTrue result (ReadsOn checked.now.grammar checked.now.table good.now reduced.now (StorageT.index next.0) (StorageT.index token.0)) }
+    ensures reads { OnTrue result (ReadsOn checked.now.grammar checked.now.table good.now reduced.now (StorageT.index next.0) (StorageT.index token.0)) }
+    ensures all { (q : Control) → FollowsIn checked.now.grammar pops.now (StorageT.index next.0) (StorageT.index token.0) (plain_action StorageT.index action) q → IsGoodControl checked.now.grammar good.now reduced.now q → IsTrue result }
 {
     let grm = checked.grm();
     // The proof needs that the table is safe.
@@ -171,7 +229,8 @@ fn has_good_pop<StorageT: StorageIndex>(
     good: &Exits,
     reduced: &[TokenSet],
 ) -> bool
-    ensures { OnTrue result (SomeGoesOn grm.now good.now reduced.now (HasExit (at_of pops.now (StorageT.index state.0) token))) }
+    ensures good { OnTrue result (SomeGoesOn grm.now good.now reduced.now (HasExit (at_of pops.now (StorageT.index state.0) token))) }
+    ensures all { (way : Way) (t : ℕ) → HasLookahead (at_of pops.now (StorageT.index state.0) token) way t → IsGoodExit grm.now good.now reduced.now way t → IsTrue result }
 {
     match pops.at(state, token) {
         Some(above) => has_good(grm, above, good, reduced),
@@ -186,7 +245,8 @@ fn has_good<StorageT: StorageIndex>(
     good: &Exits,
     reduced: &[TokenSet],
 ) -> bool
-    ensures { OnTrue result (SomeGoesOn grm.now good.now reduced.now (HasExit above.now)) }
+    ensures good { OnTrue result (SomeGoesOn grm.now good.now reduced.now (HasExit above.now)) }
+    ensures all { (way : Way) (t : ℕ) → SomeHasLookahead above.now way t → IsGoodExit grm.now good.now reduced.now way t → IsTrue result }
 {
     for place in 0..above.len() {
         if is_good(grm, above.get(place), good, reduced) {
@@ -203,7 +263,8 @@ fn is_good<StorageT: StorageIndex>(
     good: &Exits,
     reduced: &[TokenSet],
 ) -> bool
-    ensures { OnTrue result (SomeGoesOn grm.now good.now reduced.now (LeavesIn exit.now.way exit.now.tokens)) }
+    ensures good { OnTrue result (SomeGoesOn grm.now good.now reduced.now (LeavesIn exit.now.way exit.now.tokens)) }
+    ensures all { (t : ℕ) → IsTrue (has exit.now.tokens t) → IsGoodExit grm.now good.now reduced.now exit.now.way t → IsTrue result }
 {
     match good_tokens(grm, exit.way, good, reduced) {
         Some(tokens) => tokens.has_common(&exit.tokens),
@@ -219,7 +280,8 @@ fn is_good_at<StorageT: StorageIndex>(
     good: &Exits,
     reduced: &[TokenSet],
 ) -> bool
-    ensures { OnTrue result (GoesOn grm.now good.now reduced.now (control_of way token)) }
+    ensures good { OnTrue result (GoesOn grm.now good.now reduced.now (control_of way token)) }
+    ensures all { IsGoodExit grm.now good.now reduced.now way token → IsTrue result }
 {
     match good_tokens(grm, way, good, reduced) {
         Some(tokens) => tokens.contains(token),
@@ -234,7 +296,9 @@ fn good_tokens<'a, StorageT: StorageIndex>(
     good: &'a Exits,
     reduced: &'a [TokenSet],
 ) -> Option<&'a TokenSet>
-    ensures { IfSome result (λ tokens. AllGoOn grm.now good.now reduced.now (control_of way) tokens.now) }
+    ensures good { IfSome result (λ tokens. AllGoOn grm.now good.now reduced.now (control_of way) tokens.now) }
+    ensures all { IfSome result (λ tokens. (t : ℕ) → IsGoodExit grm.now good.now reduced.now way t → IsTrue (has tokens.now t)) }
+    ensures none { result ≡ None → (t : ℕ) → ¬ (IsGoodExit grm.now good.now reduced.now way t) }
 {
     match way {
         Way::Acceptance => good.tokens_at(Way::Acceptance),
@@ -250,7 +314,9 @@ fn good_drops<'a, StorageT: StorageIndex>(
     good: &'a Exits,
     reduced: &'a [TokenSet],
 ) -> Option<&'a TokenSet>
-    ensures { IfSome result (λ tokens. AllGoOn grm.now good.now reduced.now (Dropping prod symbols) tokens.now) }
+    ensures good { IfSome result (λ tokens. AllGoOn grm.now good.now reduced.now (Dropping prod symbols) tokens.now) }
+    ensures all { IfSome result (λ tokens. (t : ℕ) → IsGoodExit grm.now good.now reduced.now (Reduction prod symbols) t → IsTrue (has tokens.now t)) }
+    ensures none { result ≡ None → (t : ℕ) → ¬ (IsGoodExit grm.now good.now reduced.now (Reduction prod symbols) t) }
 {
     if symbols == 0 {
         good_here(grm, prod, reduced)
@@ -266,9 +332,13 @@ fn good_here<'a, StorageT: StorageIndex>(
     prod: usize,
     reduced: &'a [TokenSet],
 ) -> Option<&'a TokenSet>
-    ensures { IfSome result (λ tokens. tokens.now ≡ tokens_by reduced.now (rule_of grm.now prod)) }
+    ensures tokens { IfSome result (λ tokens. tokens.now ≡ tokens_by reduced.now (rule_of grm.now prod)) }
+    ensures none { result ≡ None → (t : ℕ) → prod < prods_len grm.now → ¬ (IsTrue (has (tokens_by reduced.now (rule_of grm.now prod)) t)) }
 {
-    reduced.get(rule_number(grm, prod)?)
+    match rule_number(grm, prod) {
+        Some(rule) => reduced.get(rule),
+        None => None,
+    }
 }
 
 /// The good exits of state `next` on top of a stack, by the good exits of the stack's top and the good reductions on top of the stack.
@@ -280,7 +350,8 @@ pub(crate) fn good_above<StorageT: StorageIndex>(
     next: StIdx<StorageT>,
 ) -> Result<Exits, AllocError>
     requires { StorageT.index next.0 < states_len checked.now.table }
-    ensures { IfOk result (LeadBoth checked.now.grammar checked.now.table good.now reduced.now) }
+    ensures good { IfOk result (LeadBoth checked.now.grammar checked.now.table good.now reduced.now) }
+    ensures all { IfOk result (HasAllAbove checked.now.grammar checked.now.graph (StorageT.index next.0) good.now reduced.now) }
 {
     let grm = checked.grm();
     // The proof needs that the item sets have the table's states.
@@ -300,7 +371,9 @@ fn add_good<StorageT: StorageIndex>(
     good: &Exits,
     reduced: &[TokenSet],
 )
-    ensures { AddsOnly (GoesOn grm.now good.now reduced.now) above.old above.new }
+    ensures good { AddsOnly (GoesOn grm.now good.now reduced.now) above.old above.new }
+    ensures ways { ways_of above.new ≡ ways_of above.old }
+    ensures all { GrowsBy (λ w t. (slice_get (ways_of above.old) place ≡ Some w) × IsGoodExit grm.now good.now reduced.now w t) above.old above.new }
 {
     if place < above.len() {
         let way = above.get(place).way;

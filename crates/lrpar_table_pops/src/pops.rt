@@ -1,6 +1,8 @@
 //! The exits of all states: in which controls a run can leave each.
-ghost use Rattle.std.specs.Prelude.{◌≡◌, ◌<◌, ◌≤◌, ℕ, IfOk, IfSome, OnOk};
-ghost use Rattle.std.specs.Bool.{OnTrue};
+ghost use Rattle.std.specs.Prelude.{◌≡◌, ◌<◌, ◌≤◌, ℕ, IfOk, IfSome, None, OnOk, Some, [], slice_index_or};
+ghost use Rattle.std.specs.Bool.{OnFalse, OnTrue};
+ghost use Rattle.lrpar_table_pops.specs.Growth.{GrowsBy, SomeHasLookahead};
+ghost use Rattle.lrpar_table_pops.specs.StoredAll.{AreSameStored, StoresAll};
 ghost use Rattle.lrpar_table_pops.specs.Exits.{AddsOnly, HasExit};
 ghost use Rattle.lrpar_table_pops.specs.StoredSteps.{AddsExitsAt, AddsExitsOf};
 ghost use Rattle.lrpar_table_pops.specs.StoredPops.{AddsOnlyAt, ArePopsOf, any_of, at_of, room_of};
@@ -43,6 +45,8 @@ impl StateExits {
     // Adds these exits, at any lookahead. Returns whether any was new.
     fn unite_any(&mut self, exits: &Exits) -> bool
         ensures any { AddsOnly (HasExit exits.now) self.old.any self.new.any }
+        ensures all { GrowsBy (SomeHasLookahead exits.now) self.old.any self.new.any }
+        ensures same { OnFalse result (self.new.any ≡ self.old.any) }
         ensures at { self.new.at ≡ self.old.at }
         ensures less { OnTrue result (room_at self.new < room_at self.old) }
         ensures no_more { room_at self.new ≤ room_at self.old }
@@ -54,6 +58,8 @@ impl StateExits {
     fn unite_at(&mut self, token: usize, exits: &Exits) -> bool
         ensures any { self.new.any ≡ self.old.any }
         ensures at { AddsOnlyAt token (HasExit exits.now) self.old.at.items self.new.at.items }
+        ensures all { (t : ℕ) → GrowsBy (λ w u. (t ≡ token) × SomeHasLookahead exits.now w u) (slice_index_or self.old.at.items t []) (slice_index_or self.new.at.items t []) }
+        ensures same { OnFalse result (self.new.at.items ≡ self.old.at.items) }
         ensures less { OnTrue result (room_at self.new < room_at self.old) }
         ensures no_more { room_at self.new ≤ room_at self.old }
     {
@@ -67,7 +73,8 @@ impl StateExits {
 impl Pops {
     /// The exits of the state at any lookahead.
     pub(crate) fn any<StorageT: StorageIndex>(&self, state: StIdx<StorageT>) -> Option<&Exits>
-        ensures { IfSome result (λ exits. exits.now ≡ any_of self.now (StorageT.index state.0)) }
+        ensures exits { IfSome result (λ exits. exits.now ≡ any_of self.now (StorageT.index state.0)) }
+        ensures none { result ≡ None → any_of self.now (StorageT.index state.0) ≡ [] }
     {
         match self.states.get(usize::from(state)) {
             Some(state) => Some(&state.any),
@@ -81,7 +88,8 @@ impl Pops {
         state: StIdx<StorageT>,
         token: usize,
     ) -> Option<&Exits>
-        ensures { IfSome result (λ exits. exits.now ≡ at_of self.now (StorageT.index state.0) token) }
+        ensures exits { IfSome result (λ exits. exits.now ≡ at_of self.now (StorageT.index state.0) token) }
+        ensures none { result ≡ None → at_of self.now (StorageT.index state.0) token ≡ [] }
     {
         match self.states.get(usize::from(state)) {
             Some(state) => state.at.get(token),
@@ -94,7 +102,9 @@ impl Pops {
         &self,
         state: StIdx<StorageT>,
         token: TIdx<StorageT>,
-    ) -> bool {
+    ) -> bool
+        ensures { OnFalse result (at_of self.now (StorageT.index state.0) (StorageT.index token.0) ≡ []) }
+    {
         match self.at(state, usize::from(token)) {
             Some(exits) => exits.len() > 0,
             None => false,
@@ -104,6 +114,8 @@ impl Pops {
     /// Adds these exits of the state, at any lookahead. Returns whether any was new.
     pub(crate) fn unite_any(&mut self, state: usize, exits: &Exits) -> bool
         ensures stays { AddsExitsOf state exits.now self.old self.new }
+        ensures all { StoresAll state None exits.now self.old self.new }
+        ensures same { OnFalse result (AreSameStored self.old self.new) }
         ensures less { OnTrue result (room_of self.new < room_of self.old) }
         ensures no_more { room_of self.new ≤ room_of self.old }
     {
@@ -116,6 +128,8 @@ impl Pops {
     /// Adds these exits of the state at the token, if they are kept there. Returns whether any was new.
     pub(crate) fn unite_at(&mut self, state: usize, token: usize, exits: &Exits) -> bool
         ensures stays { AddsExitsAt state token exits.now self.old self.new }
+        ensures all { StoresAll state (Some token) exits.now self.old self.new }
+        ensures same { OnFalse result (AreSameStored self.old self.new) }
         ensures less { OnTrue result (room_of self.new < room_of self.old) }
         ensures no_more { room_of self.new ≤ room_of self.old }
     {

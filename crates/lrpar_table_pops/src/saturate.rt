@@ -1,22 +1,31 @@
 //! The saturation of a table: the exits of each state by those of the states to which it goes, until nothing more follows.
-ghost use Rattle.std.specs.Prelude.{◌≡◌, ◌<◌, ◌≤◌, IfOk, None, OnOk};
-ghost use Rattle.std.specs.Bool.{OnTrue};
+ghost use Rattle.std.specs.Prelude.{◌≡◌, ◌⊎◌, ◌<◌, ◌≤◌, ℕ, IfOk, None, OnOk, Some};
+ghost use Rattle.std.specs.Bool.{OnFalse, OnTrue};
+ghost use Rattle.std.specs.Prelude.{IsTrue, [], false, length, slice_index_or};
+ghost use Rattle.lrpar_table_pops.specs.StoredAll.{AreMarked, HaveWaysAt, IsMarked, IsUntouched, KeepsMarks};
 ghost use Rattle.lrpar_table_rows.specs.Graph.{graph_len};
 ghost use Rattle.lrpar_table_rows.specs.PlainRows.{plain_action};
-ghost use Rattle.lrpar_table_rows.specs.Table.{action_of};
+ghost use Rattle.lrpar_table_rows.specs.Table.{ShiftTo, action_of};
 ghost use Rattle.lrpar_table_pops.specs.Exits.{HasNoExit};
+ghost use Rattle.lrpar_table_pops.specs.Closed.{AreAllPopsOf, IsGotoState, IsKeptBy};
+ghost use Rattle.lrpar_table_pops.specs.FollowAll.{IsRightAction};
+ghost use Rattle.lrpar_table_pops.specs.FoundAll.{AreExitsFor};
 ghost use Rattle.lrpar_table_pops.specs.StoredPops.{AcceptsAtEndAlone, ArePopsOf, HasNoExits, HaveNoExits, room_of};
 
 use crate::entries::{actions_at, gotos_at, symbols_len};
 use crate::exits::Exits;
 use crate::found::Found;
 use crate::pops::{Pops, StateExits};
+use lrpar_grammar::grammar::YaccGrammar;
 use lrpar_grammar::span::{StIdx, StorageIndex, TIdx};
 use lrpar_table_check::check::ParserData;
 use lrpar_table_rows::table::{Action, StateTable};
 use std::alloc::{AllocError, Global};
 
 impl Pops {
+    ghost use Rattle.lrpar_table_pops.specs.FollowAll.{AreRightActions};
+    ghost use Rattle.lrpar_table_pops.specs.FoundAll.{FindsAll};
+    ghost use Rattle.lrpar_table_pops.specs.StoredAll.{AreClosedUnlessMarked, HaveAllWays, HaveSets, IsClosedIf, IsClosedState, IsSoundTable, SaturatesIf, SaturatesRound, SaturatesState, StartsFrom};
     ghost use Rattle.lrpar_table_pops.specs.Steps.{StaysRight};
 
     /// The exits of each state of the table.
@@ -26,8 +35,11 @@ impl Pops {
         alloc: Global,
         checked: &ParserData<StorageT>,
     ) -> Result<Self, AllocError>
-        ensures { IfOk result (ArePopsOf checked.now.grammar checked.now.table) }
+        ensures pops { IfOk result (ArePopsOf checked.now.grammar checked.now.table) }
+        ensures all { IfOk result (AreAllPopsOf checked.now.grammar checked.now.table) }
     {
+        // The proof needs that the table acts at the tokens of the grammar, and goes by its rules.
+        let _lemma = (checked.stable().tokens_len(), checked.stable().rules_len());
         let mut pops = Pops::empty(alloc, checked)?;
         let mut found = Found::new(alloc, checked.grm())?;
         let mut changed = vec![in alloc; true; checked.stable().states_len()]?;
@@ -48,7 +60,12 @@ impl Pops {
     ) -> Result<bool, AllocError>
         requires alone { AcceptsAtEndAlone checked.now.grammar checked.now.table }
         requires pops { ArePopsOf checked.now.grammar checked.now.table self.old }
+        requires sound { IsSoundTable checked.now.grammar checked.now.graph checked.now.table }
+        requires places { HaveAllWays checked.now.grammar checked.now.graph checked.now.table self.old }
+        requires settled { AreClosedUnlessMarked checked.now.grammar checked.now.graph checked.now.table self.old changed.old.items }
+        requires sets { HaveSets checked.now.grammar found.old }
         ensures pops { OnOk result (ArePopsOf checked.now.grammar checked.now.table self.new) }
+        ensures all { IfOk result (λ grown. SaturatesRound checked.now.grammar checked.now.graph checked.now.table grown self.new changed.new.items found.new) }
         ensures less { IfOk result (λ grown. OnTrue grown (room_of self.new < room_of self.old)) }
     {
         let states = checked.stable().states_len();
@@ -77,6 +94,7 @@ impl Pops {
         requires alone { AcceptsAtEndAlone checked.now.grammar checked.now.table }
         requires pops { ArePopsOf checked.now.grammar checked.now.table self.old }
         ensures pops { OnOk result (ArePopsOf checked.now.grammar checked.now.table self.new) }
+        ensures all { IfOk result (λ grown. SaturatesState checked.now.grammar checked.now.graph checked.now.table number grown (IsUntouched checked.now.table changed.now number ⊎ IsClosedState checked.now.grammar checked.now.graph checked.now.table self.old number) self.old self.new found.old found.new) }
         ensures less { IfOk result (λ grown. OnTrue grown (room_of self.new < room_of self.old)) }
         ensures no_more { OnOk result (room_of self.new ≤ room_of self.old) }
     {
@@ -102,6 +120,7 @@ impl Pops {
         requires alone { AcceptsAtEndAlone checked.now.grammar checked.now.table }
         requires pops { ArePopsOf checked.now.grammar checked.now.table self.old }
         ensures pops { OnOk result (ArePopsOf checked.now.grammar checked.now.table self.new) }
+        ensures all { IfOk result (λ grown. SaturatesState checked.now.grammar checked.now.graph checked.now.table (StorageT.index state.0) grown (IsClosedState checked.now.grammar checked.now.graph checked.now.table self.old (StorageT.index state.0)) self.old self.new found.old found.new) }
         ensures less { IfOk result (λ grown. OnTrue grown (room_of self.new < room_of self.old)) }
         ensures no_more { OnOk result (room_of self.new ≤ room_of self.old) }
     {
@@ -121,6 +140,7 @@ impl Pops {
         requires alone { AcceptsAtEndAlone checked.now.grammar checked.now.table }
         requires pops { ArePopsOf checked.now.grammar checked.now.table self.old }
         ensures pops { ArePopsOf checked.now.grammar checked.now.table self.new }
+        ensures all { SaturatesIf checked.now.grammar checked.now.graph checked.now.table (StorageT.index state.0) result ((t : ℕ) → IsClosedIf checked.now.grammar checked.now.graph checked.now.table self.old (StorageT.index state.0) (Some t)) self.old self.new found.old found.new }
         ensures less { OnTrue result (room_of self.new < room_of self.old) }
         ensures no_more { room_of self.new ≤ room_of self.old }
     {
@@ -147,6 +167,7 @@ impl Pops {
         requires alone { AcceptsAtEndAlone checked.now.grammar checked.now.table }
         requires pops { ArePopsOf checked.now.grammar checked.now.table self.old }
         ensures pops { ArePopsOf checked.now.grammar checked.now.table self.new }
+        ensures all { SaturatesIf checked.now.grammar checked.now.graph checked.now.table (StorageT.index state.0) result (IsClosedIf checked.now.grammar checked.now.graph checked.now.table self.old (StorageT.index state.0) (Some (StorageT.index token.0))) self.old self.new found.old found.new }
         ensures less { OnTrue result (room_of self.new < room_of self.old) }
         ensures no_more { room_of self.new ≤ room_of self.old }
     {
@@ -169,6 +190,7 @@ impl Pops {
         requires alone { AcceptsAtEndAlone checked.now.grammar checked.now.table }
         requires pops { ArePopsOf checked.now.grammar checked.now.table self.old }
         ensures pops { ArePopsOf checked.now.grammar checked.now.table self.new }
+        ensures all { SaturatesIf checked.now.grammar checked.now.graph checked.now.table (StorageT.index state.0) result (IsClosedIf checked.now.grammar checked.now.graph checked.now.table self.old (StorageT.index state.0) None) self.old self.new found.old found.new }
         ensures less { OnTrue result (room_of self.new < room_of self.old) }
         ensures no_more { room_of self.new ≤ room_of self.old }
     {
@@ -185,7 +207,9 @@ impl Pops {
         state: StIdx<StorageT>,
         found: &mut Found,
     )
-        ensures { StaysRight checked.now.grammar checked.now.table self.now (StorageT.index state.0) None found.old found.new }
+        ensures right { StaysRight checked.now.grammar checked.now.table self.now (StorageT.index state.0) None found.old found.new }
+        ensures followed { found.new.followed ≡ found.old.followed }
+        ensures all { AreRightActions checked.now.grammar checked.now.table → FindsAll checked.now.grammar (StartsFrom checked.now.grammar checked.now.table self.now (StorageT.index state.0)) found.old found.new }
     {
         let (tokens, actions) = actions_at(checked.stable(), state);
         for place in 0..tokens.len() {
@@ -198,7 +222,8 @@ impl Pops {
         alloc: Global,
         checked: &ParserData<StorageT>,
     ) -> Result<Self, AllocError>
-        ensures { IfOk result (ArePopsOf checked.now.grammar checked.now.table) }
+        ensures pops { IfOk result (ArePopsOf checked.now.grammar checked.now.table) }
+        ensures places { IfOk result (HaveAllWays checked.now.grammar checked.now.graph checked.now.table) }
     {
         let is_goto = goto_states(alloc, checked.stable())?;
         let mut states = Vec::new(alloc);
@@ -219,7 +244,8 @@ fn empty_exits<StorageT: StorageIndex>(
     is_goto: bool,
 ) -> Result<StateExits, AllocError>
     requires state { StorageT.index state.0 < graph_len checked.now.graph }
-    ensures { IfOk result HasNoExits }
+    ensures none { IfOk result HasNoExits }
+    ensures places { IfOk result (HaveWaysAt checked.now.grammar checked.now.graph checked.now.table (StorageT.index state.0) is_goto) }
 {
     let any = Exits::new(alloc, checked, state)?;
     let at = empty_at_tokens(alloc, checked, state, is_goto)?;
@@ -234,7 +260,8 @@ fn empty_at_tokens<StorageT: StorageIndex>(
     is_goto: bool,
 ) -> Result<Vec<Exits>, AllocError>
     requires state { StorageT.index state.0 < graph_len checked.now.graph }
-    ensures { IfOk result (λ at. HaveNoExits at.items) }
+    ensures none { IfOk result (λ at. HaveNoExits at.items) }
+    ensures places { IfOk result (λ at. IsTrue is_goto → (t : ℕ) → IsKeptBy checked.now.grammar (action_of checked.now.table (StorageT.index state.0) t) → AreExitsFor checked.now.grammar checked.now.graph (StorageT.index state.0) (slice_index_or at.items t [])) }
 {
     let mut at = Vec::new(alloc);
     if !is_goto {
@@ -255,7 +282,8 @@ fn empty_exits_at<StorageT: StorageIndex>(
     number: usize,
 ) -> Result<Exits, AllocError>
     requires state { StorageT.index state.0 < graph_len checked.now.graph }
-    ensures { IfOk result HasNoExit }
+    ensures none { IfOk result HasNoExit }
+    ensures places { IsKeptBy checked.now.grammar (action_of checked.now.table (StorageT.index state.0) number) → IfOk result (AreExitsFor checked.now.grammar checked.now.graph (StorageT.index state.0)) }
 {
     if is_kept_at(checked, state, number) {
         Exits::new(alloc, checked, state)
@@ -269,33 +297,53 @@ fn is_kept_at<StorageT: StorageIndex>(
     checked: &ParserData<StorageT>,
     state: StIdx<StorageT>,
     number: usize,
-) -> bool {
+) -> bool
+    ensures { IsKeptBy checked.now.grammar (action_of checked.now.table (StorageT.index state.0) number) → IsTrue result }
+{
     let (tokens, actions) = actions_at(checked.stable(), state);
     for place in 0..tokens.len() {
         if usize::from(tokens[place]) == number {
-            return match actions[place] {
-                Action::Shift(_) => true,
-                Action::Reduce(prod) => matches!(symbols_len(checked.grm(), prod), Some(0)),
-                Action::Accept | Action::Error => false,
-            };
+            return is_kept_by(checked.grm(), actions[place]);
         }
     }
     false
+}
+
+// Whether the action is a shift, or a reduction by a production without symbols.
+fn is_kept_by<StorageT: StorageIndex>(grm: &YaccGrammar<StorageT>, action: Action<StorageT>) -> bool
+    ensures { (t : ℕ) → IsRightAction grm.now t (plain_action StorageT.index action) → IsKeptBy grm.now (plain_action StorageT.index action) → IsTrue result }
+{
+    match action {
+        Action::Shift(_) => true,
+        Action::Reduce(prod) => matches!(symbols_len(grm, prod), Some(0)),
+        Action::Accept | Action::Error => false,
+    }
 }
 
 // For each state whether gotos lead to it.
 fn goto_states<StorageT: StorageIndex>(
     alloc: Global,
     stable: &StateTable<StorageT>,
-) -> Result<Vec<bool>, AllocError> {
+) -> Result<Vec<bool>, AllocError>
+    ensures { IfOk result (λ marks. (next : ℕ) → IsGotoState stable.now next → IsMarked marks.items next) }
+{
     let mut are = vec![in alloc; false; stable.states_len()]?;
     for number in 0..stable.states_len() {
         let (_, nexts) = gotos_at(stable, StIdx(StorageT::from_index(number).unwrap()));
-        for next in nexts {
-            set_mark(&mut are, usize::from(*next));
-        }
+        mark_all(&mut are, nexts);
     }
     Ok(are)
+}
+
+// Marks these states.
+fn mark_all<StorageT: StorageIndex>(marks: &mut Vec<bool>, states: &[StIdx<StorageT>])
+    ensures len { length marks.new.items ≡ length marks.old.items }
+    ensures keeps { KeepsMarks marks.old.items marks.new.items }
+    ensures all { AreMarked StorageT.index states.now (length states.now) marks.new.items }
+{
+    for state in states {
+        set_mark(marks, usize::from(*state));
+    }
 }
 
 // Whether the state, or one to which it goes, changed.
@@ -303,12 +351,12 @@ fn has_changed<StorageT: StorageIndex>(
     stable: &StateTable<StorageT>,
     changed: &[bool],
     state: StIdx<StorageT>,
-) -> bool {
+) -> bool
+    ensures { OnFalse result (IsUntouched stable.now changed.now (StorageT.index state.0)) }
+{
     let (_, actions) = actions_at(stable, state);
     for action in actions {
-        if let Action::Shift(next) = *action
-            && is_marked(changed, usize::from(next))
-        {
+        if shifts_to_marked(changed, *action) {
             return true;
         }
     }
@@ -321,8 +369,20 @@ fn has_changed<StorageT: StorageIndex>(
     is_marked(changed, usize::from(state))
 }
 
+// Whether the action is a shift to a state that is marked.
+fn shifts_to_marked<StorageT: StorageIndex>(marks: &[bool], action: Action<StorageT>) -> bool
+    ensures { OnFalse result ((next : ℕ) → plain_action StorageT.index action ≡ ShiftTo next → ¬ (IsMarked marks.now next)) }
+{
+    match action {
+        Action::Shift(next) => is_marked(marks, usize::from(next)),
+        Action::Reduce(_) | Action::Accept | Action::Error => false,
+    }
+}
+
 // Whether the place is marked.
-fn is_marked(marks: &[bool], place: usize) -> bool {
+fn is_marked(marks: &[bool], place: usize) -> bool
+    ensures { result ≡ slice_index_or marks.now place false }
+{
     match marks.get(place) {
         Some(mark) => *mark,
         None => false,
@@ -330,7 +390,11 @@ fn is_marked(marks: &[bool], place: usize) -> bool {
 }
 
 // Marks the place, if there is one.
-fn set_mark(marks: &mut Vec<bool>, place: usize) {
+fn set_mark(marks: &mut Vec<bool>, place: usize)
+    ensures len { length marks.new.items ≡ length marks.old.items }
+    ensures keeps { KeepsMarks marks.old.items marks.new.items }
+    ensures marks { place < length marks.old.items → IsMarked marks.new.items place }
+{
     if place < marks.len() {
         marks[place] = true;
     }

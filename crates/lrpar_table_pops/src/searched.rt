@@ -1,8 +1,11 @@
 //! The stacks that a search over a table tells apart: by their tops, and by the exits from which a run goes on to accept.
 ghost use Rattle.std.specs.Prelude.{◌≡◌, ◌<◌, ◌++◌, ◌∷◌, [], IfOk, OnOk, length};
-ghost use Rattle.std.specs.Bool.{OnTrue};
+ghost use Rattle.std.specs.Bool.{OnFalse, OnTrue};
+ghost use Rattle.std.specs.Prelude.{reverse};
+ghost use Rattle.lrpar_table_pops.specs.Closed.{AreAllPopsOf};
+ghost use Rattle.lrpar_table_pops.specs.StoredAll.{IsSoundTable};
 ghost use Rattle.lrpar_table_stacks.specs.Stack.{IsStack, states_of};
-ghost use Rattle.lrpar_table_pops.specs.Searched.{CanComplete};
+ghost use Rattle.lrpar_table_pops.specs.Searched.{CanComplete, HasNoneGood};
 ghost use Rattle.lrpar_table_pops.specs.StoredPops.{ArePopsOf, any_of};
 
 use crate::exits::Exits;
@@ -30,11 +33,12 @@ pub(crate) struct Searched<StorageT: StorageIndex> {
 }
 
 impl<StorageT: StorageIndex> Searched<StorageT> {
-    ghost use Rattle.lrpar_table_pops.specs.Searched.{AreReductionsAt, AreStacks, CompletesAt, IsCovered, IsGoneOnAt, IsJoinedAt, IsMetAt, IsShiftMetAt, IsStackAt, KeepsStacks, ShiftsFrom};
+    ghost use Rattle.lrpar_table_pops.specs.Searched.{AreAllGood, AreAllReductionsAt, AreReductionsAt, AreStacks, CompletesAt, HasNoneGoodAt, IsCovered, IsGoneOnAt, IsJoinedAt, IsMetAt, IsShiftMetAt, IsStackAt, IsTopFirst, KeepsStacks, ShiftsFrom};
 
     /// The start state alone.
     pub(crate) fn new(alloc: Global, checked: &ParserData<StorageT>) -> Result<Self, AllocError>
-        ensures { IfOk result (λ searched. AreStacks StorageT.index checked.now.grammar checked.now.table searched.stacks.items) }
+        ensures stacks { IfOk result (λ searched. AreStacks StorageT.index checked.now.grammar checked.now.table searched.stacks.items) }
+        ensures all_good { IfOk result (λ searched. AreAllGood StorageT.index checked.now.grammar checked.now.graph checked.now.table searched.stacks.items) }
     {
         let stable = checked.stable();
         let mut by_top = Vec::new(alloc);
@@ -69,7 +73,8 @@ impl<StorageT: StorageIndex> Searched<StorageT> {
 
     /// Whether the stack at the place can be completed: a run can leave its top by a good exit.
     pub(crate) fn can_complete(&self, place: usize, pops: &Pops) -> bool
-        ensures { OnTrue result (CompletesAt StorageT.index (any_of pops.now) self.now.stacks.items place) }
+        ensures completes { OnTrue result (CompletesAt StorageT.index (any_of pops.now) self.now.stacks.items place) }
+        ensures none { OnFalse result (HasNoneGoodAt StorageT.index (any_of pops.now) self.now.stacks.items place) }
     {
         match self.stacks.get(place) {
             Some(stack) => can_complete(stack, pops),
@@ -89,8 +94,12 @@ impl<StorageT: StorageIndex> Searched<StorageT> {
         requires pops { ArePopsOf checked.now.grammar checked.now.table pops.now }
         requires stacks { AreStacks StorageT.index checked.now.grammar checked.now.table self.old.stacks.items }
         requires place { place < length self.old.stacks.items }
+        requires all_pops { AreAllPopsOf checked.now.grammar checked.now.table pops.now }
+        requires sound { IsSoundTable checked.now.grammar checked.now.graph checked.now.table }
+        requires all_good { AreAllGood StorageT.index checked.now.grammar checked.now.graph checked.now.table self.old.stacks.items }
         ensures stacks { OnOk result (AreStacks StorageT.index checked.now.grammar checked.now.table self.new.stacks.items) }
         ensures keeps { OnOk result (KeepsStacks self.old.stacks.items self.new.stacks.items) }
+        ensures all_good { OnOk result (AreAllGood StorageT.index checked.now.grammar checked.now.graph checked.now.table self.new.stacks.items) }
         ensures gone_on { OnOk result (IsGoneOnAt StorageT.index checked.now.grammar checked.now.table self.new.stacks.items place) }
     {
         let stack = &self.stacks[place];
@@ -118,10 +127,14 @@ impl<StorageT: StorageIndex> Searched<StorageT> {
     ) -> Result<(), AllocError>
         requires stacks { AreStacks StorageT.index checked.now.grammar checked.now.table self.old.stacks.items }
         requires place { place < length self.old.stacks.items }
+        requires sound { IsSoundTable checked.now.grammar checked.now.graph checked.now.table }
+        requires all_good { AreAllGood StorageT.index checked.now.grammar checked.now.graph checked.now.table self.old.stacks.items }
+        requires all_reduced { AreAllReductionsAt StorageT.index checked.now.grammar checked.now.graph checked.now.table self.old.stacks.items place reduced.now }
         requires reduced { AreReductionsAt StorageT.index checked.now.grammar checked.now.table self.old.stacks.items place reduced.now }
         requires joined { ShiftsFrom StorageT.index checked.now.table self.old.stacks.items place action }
         ensures stacks { OnOk result (AreStacks StorageT.index checked.now.grammar checked.now.table self.new.stacks.items) }
         ensures keeps { OnOk result (KeepsStacks self.old.stacks.items self.new.stacks.items) }
+        ensures all_good { OnOk result (AreAllGood StorageT.index checked.now.grammar checked.now.graph checked.now.table self.new.stacks.items) }
         ensures met { OnOk result (IsShiftMetAt StorageT.index checked.now.grammar checked.now.table self.new.stacks.items place action) }
     {
         match action {
@@ -141,10 +154,14 @@ impl<StorageT: StorageIndex> Searched<StorageT> {
     ) -> Result<(), AllocError>
         requires stacks { AreStacks StorageT.index checked.now.grammar checked.now.table self.old.stacks.items }
         requires place { place < length self.old.stacks.items }
+        requires sound { IsSoundTable checked.now.grammar checked.now.graph checked.now.table }
+        requires all_good { AreAllGood StorageT.index checked.now.grammar checked.now.graph checked.now.table self.old.stacks.items }
+        requires all_reduced { AreAllReductionsAt StorageT.index checked.now.grammar checked.now.graph checked.now.table self.old.stacks.items place reduced.now }
         requires reduced { AreReductionsAt StorageT.index checked.now.grammar checked.now.table self.old.stacks.items place reduced.now }
         requires joined { IsJoinedAt StorageT.index checked.now.table self.old.stacks.items place (StorageT.index next.0) }
         ensures stacks { OnOk result (AreStacks StorageT.index checked.now.grammar checked.now.table self.new.stacks.items) }
         ensures keeps { OnOk result (KeepsStacks self.old.stacks.items self.new.stacks.items) }
+        ensures all_good { OnOk result (AreAllGood StorageT.index checked.now.grammar checked.now.graph checked.now.table self.new.stacks.items) }
         ensures met { OnOk result (IsMetAt StorageT.index checked.now.grammar checked.now.table self.new.stacks.items place (StorageT.index next.0)) }
     {
         // The proof needs that shifts and gotos lead to states of the table.
@@ -198,7 +215,8 @@ impl<StorageT: StorageIndex> Searched<StorageT> {
     ) -> Result<Vec<StIdx<StorageT>>, AllocError>
         requires stacks { AreStacks StorageT.index checked.now.grammar checked.now.table self.now.stacks.items }
         requires place { place < length self.now.stacks.items }
-        ensures { IfOk result (λ states. IsStack checked.now.table (states_of StorageT.index states.items)) }
+        ensures stack { IfOk result (λ states. IsStack checked.now.table (states_of StorageT.index states.items)) }
+        ensures whole { IfOk result (λ states. IsTopFirst StorageT.index self.now.stacks.items place (reverse (states_of StorageT.index states.items))) }
     {
         let mut states = Vec::new(alloc);
         let mut at = place;
@@ -215,7 +233,8 @@ impl<StorageT: StorageIndex> Searched<StorageT> {
 
 // Whether a run can leave the stack's top by a good exit.
 fn can_complete<StorageT: StorageIndex>(stack: &Stack<StorageT>, pops: &Pops) -> bool
-    ensures { OnTrue result (CanComplete StorageT.index (any_of pops.now) stack.now) }
+    ensures can { OnTrue result (CanComplete StorageT.index (any_of pops.now) stack.now) }
+    ensures none { OnFalse result (HasNoneGood StorageT.index (any_of pops.now) stack.now) }
 {
     match pops.any(stack.top) {
         Some(any) => any.meet(&stack.good),

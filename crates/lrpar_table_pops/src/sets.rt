@@ -1,5 +1,6 @@
 //! Sets of tokens, one for each rule.
 ghost use Rattle.std.specs.Prelude.{◌≡◌, ◌<◌, IfOk, IsTrue};
+ghost use Rattle.lrpar_table_pops.specs.Growth.{AddsAll, HaveRoomFor, KeepRoom};
 ghost use Rattle.std.specs.Bool.{OnFalse, OnTrue};
 ghost use Rattle.lrpar_grammar.specs.Tokens.{has, missing};
 ghost use Rattle.lrpar_table_pops.specs.Sets.{AddsOnlyToken, AddsOnlyTokens, HaveNoTokens, room_in};
@@ -14,7 +15,8 @@ pub(crate) fn empty_sets<StorageT: StorageIndex>(
     alloc: Global,
     grm: &YaccGrammar<StorageT>,
 ) -> Result<Vec<TokenSet>, AllocError>
-    ensures { IfOk result (λ sets. HaveNoTokens sets.items) }
+    ensures none { IfOk result (λ sets. HaveNoTokens sets.items) }
+    ensures room { IfOk result (λ sets. HaveRoomFor grm.now sets.items) }
 {
     let mut sets = Vec::new(alloc);
     'rules: for _ in 0..grm.rules_len() {
@@ -27,6 +29,7 @@ pub(crate) fn empty_sets<StorageT: StorageIndex>(
 /// Adds the tokens that there is room for. Returns whether any was new.
 pub(crate) fn unite(tokens: &mut TokenSet, others: &TokenSet) -> bool
     ensures adds { AddsOnlyTokens tokens.old tokens.new others.now }
+    ensures all { AddsAll (λ t. IsTrue (has others.now t)) tokens.old tokens.new }
     ensures grown { OnTrue result (missing tokens.new < missing tokens.old) }
     ensures same { OnFalse result (tokens.new ≡ tokens.old) }
 {
@@ -36,7 +39,8 @@ pub(crate) fn unite(tokens: &mut TokenSet, others: &TokenSet) -> bool
 
 /// Adds the token, if there is room for it.
 pub(crate) fn insert(tokens: &mut TokenSet, token: usize)
-    ensures { AddsOnlyToken tokens.old tokens.new token }
+    ensures adds { AddsOnlyToken tokens.old tokens.new token }
+    ensures all { AddsAll (λ t. t ≡ token) tokens.old tokens.new }
 {
     if token < tokens.len() {
         tokens.insert(token);
@@ -46,6 +50,7 @@ pub(crate) fn insert(tokens: &mut TokenSet, token: usize)
 /// Adds the token, if it is no member and there is room for it. Returns whether it was added.
 pub(crate) fn insert_new(tokens: &mut TokenSet, token: usize) -> bool
     ensures adds { AddsOnlyToken tokens.old tokens.new token }
+    ensures all { AddsAll (λ t. t ≡ token) tokens.old tokens.new }
     ensures grown { OnTrue result (missing tokens.new < missing tokens.old) }
     ensures same { OnFalse result (tokens.new ≡ tokens.old) }
 {
@@ -58,7 +63,8 @@ pub(crate) fn insert_new(tokens: &mut TokenSet, token: usize) -> bool
 
 /// Removes all tokens.
 pub(crate) fn clear_sets(sets: &mut Vec<TokenSet>)
-    ensures { HaveNoTokens sets.new.items }
+    ensures none { HaveNoTokens sets.new.items }
+    ensures room { KeepRoom sets.old.items sets.new.items }
 {
     for place in 0..sets.len() {
         sets[place].clear();

@@ -1,21 +1,35 @@
-use Rattle.std.proofs.Common.{◌≡◌, ◌∙◌, Bool, Global, List, subst, sym, true, Vec}
-use Rattle.std.proofs.lemmas.Bool.{OnTrue_at}
-use Rattle.lrpar_grammar.specs.declared.token_set.TokenSet.{TokenSet}
+use Rattle.std.proofs.Common.{◌≡◌, ◌+◌, ◌∙◌, Bool, false, List, refl, subst, sym, true, arith}
+use Rattle.std.specs.Bool.{OnFalse}
+use Rattle.std.proofs.lemmas.Bool.{OnFalse_at, OnTrue_at}
 use Rattle.lrpar_table_rows.specs.StoredRows.{IsActionAt}
 use Rattle.lrpar_table_rows.specs.Table.{Table}
-use Rattle.lrpar_table_pops.specs.Good.{AddsByGoto, AddsTokenBy, ReadsOn}
+use Rattle.lrpar_table_pops.specs.AllGood.{IsTokenClosed}
+use Rattle.lrpar_table_pops.specs.Entries.{AreAllTokensOf}
+use Rattle.lrpar_table_pops.specs.Good.{AddsByGoto}
+use Rattle.lrpar_table_pops.proofs.EntryLemmas.{all_tokens}
+use Rattle.lrpar_table_pops.proofs.FollowAllLemmas.{on_false_both}
+use Rattle.lrpar_table_pops.proofs.GoodAllLemmas.{AreTokensClosedBy, tokens_closed_by_all, tokens_closed_by_more}
+use Rattle.lrpar_table_pops.proofs.GoodLemmas.{IsAdding, adding_grown, adding_on}
+use Rattle.lrpar_table_pops.proofs.GrowthLemmas.{read_at}
 use Rattle.lrpar_table_pops.proofs.TransitionLemmas.{action_read}
-use Rattle.lrpar_table_pops.proofs.GoodLemmas.{IsAdding, adding_grown, adding_on, right_added}
-use Rattle.lrpar_table_pops.proofs.good.add_by_goto.Goals.{then-reads_on+then-insert_by, else-reads_on, else-reads_on-via-then-reads_on+else-insert_by, else-reads_on-via-else-reads_on}
+use Rattle.lrpar_table_pops.proofs.good.add_by_goto.Goals.{then-add_token, else-add_token}
 use Rattle.lrpar_table_pops.proofs.good.add_by_goto.Goals as goal
 
-pub reads_on-requires-clause-action : goal.reads_on-requires-clause-action
-reads_on-requires-clause-action g c =
+pub add_token-requires-clause-action : goal.add_token-requires-clause-action
+add_token-requires-clause-action g c =
     let index = g.StorageT.StorageIndex.index in
     let at = c.actions_of.ensures in
     subst (λ (t : Table). IsActionAt index t c.args.next c.index-tokens-place.result c.index-actions-place.result) c.stable.ensures.table
     (action_read index c.stable.result.now c.args.next c.actions_of.result.0.now c.actions_of.result.1.now at.entries at.actions at.exact
     c.tokens.place c.index-tokens-place.result c.index-actions-place.result c.tokens-test.true c.index-tokens-place.is c.index-actions-place.is)
+
+pub tokens-init : goal.tokens-init
+tokens-init g c = record {
+  adding = record { keeps = λ s goto leads. leads; room = omega arith; grown = tt };
+  keeps_room = λ r. refl;
+  same = refl;
+  all = λ i token low at. absurd (omega (arith, low));
+}
 
 pub tokens-preserved : goal.tokens-preserved
 tokens-preserved g c =
@@ -23,32 +37,63 @@ tokens-preserved g c =
     let gr = c.args.checked.now.grammar in
     let table = c.args.checked.now.table in
     let good = c.args.good.now in
+    let pops = c.args.pops.now in
     let next = index c.args.next.0 in
-    let token = index c.index-tokens-place.result.0 in
+    let rule = c.args.rule in
+    let token = c.index-tokens-place.result in
+    let tokens = c.actions_of.result.0.now in
+    let l = c.tokens in
     let old = c.args.reduced.now.items in
-    let now = c.tokens.reduced.items in
-    let K = AddsByGoto gr table good c.args.rule next old in
-    let adds = λ (is : c.reads_on.result ≡ true) (new : List (List Bool)) (added : AddsTokenBy now new c.args.rule token) (before : K now).
-    let right = right_added gr table good c.args.rule next token now new added
-    (subst (λ (l : List (List Bool)). ReadsOn gr table good l next token) c.deref-in-tokens.ensures.value (OnTrue_at is c.reads_on.ensures)) in
-    let after : K new = λ s goto leads. right s goto (before s goto leads) in after in
-    elim c.if-reads_on.branch [
-      | then-reads_on+then-insert_by w ↦
-          let new = w.insert_by.new.reduced.items in
-          let added = subst (AddsTokenBy now new c.args.rule) w.from-then-reads_on.ensures w.insert_by.ensures.adds in
-          subst (λ (b : Bool). IsAdding K old c.if-reads_on.reduced.items b) (sym w.grown-is)
-          (subst (λ (v : Vec TokenSet Global). IsAdding K old v.items true) (sym w.reduced-is)
-          (adding_grown K old now new c.tokens.grown c.tokens.invariant (adds w.if-reads_on.true new added)
-          (OnTrue_at w.if-insert_by.true w.insert_by.ensures.grown)))
-      | else-reads_on w ↦
-          subst (λ (b : Bool). IsAdding K old c.if-reads_on.reduced.items b) (sym w.grown-is)
-          (elim w.else-reads_on.branch [
-            | else-reads_on-via-then-reads_on+else-insert_by w' ↦
-                let new = w'.insert_by.new.reduced.items in
-                let added = subst (AddsTokenBy now new c.args.rule) w'.from-then-reads_on.ensures w'.insert_by.ensures.adds in
-                subst (λ (v : Vec TokenSet Global). IsAdding K old v.items c.tokens.grown) (sym (w.reduced-is ∙ w'.reduced-is))
-                (adding_on K old now new c.tokens.grown c.tokens.invariant (adds w'.if-reads_on.true new added) w'.insert_by.ensures.room)
-            | else-reads_on-via-else-reads_on w' ↦
-                subst (λ (v : Vec TokenSet Global). IsAdding K old v.items c.tokens.grown) (sym (w.reduced-is ∙ w'.reduced-is)) c.tokens.invariant
-          ])
-    ]
+    let now = l.reduced.items in
+    let new = c.add_token.new.reduced.items in
+    let K = AddsByGoto gr table good rule next old in
+    let there = read_at tokens tokens l.place token refl c.tokens-test.true c.index-tokens-place.is in
+    let more : K now → K new = λ before s goto leads. c.add_token.ensures.keeps s goto (before s goto leads) in
+    let Closed = AreTokensClosedBy index gr table pops good rule next old tokens (l.place + 1) in
+    let adding : IsAdding K old new c.if-add_token.grown = elim c.if-add_token.branch [
+      | then-add_token w ↦
+          subst (λ (b : Bool). IsAdding K old new b) (sym w.grown-is)
+          (adding_grown K old now new l.grown l.invariant.adding more (OnTrue_at w.if-add_token.true c.add_token.ensures.grown))
+      | else-add_token w ↦
+          subst (λ (b : Bool). IsAdding K old new b) (sym w.grown-is) (adding_on K old now new l.grown l.invariant.adding more c.add_token.ensures.room)
+    ] in
+    let same : OnFalse c.if-add_token.grown (new ≡ old) = elim c.if-add_token.branch [
+      | then-add_token w ↦ subst (λ (b : Bool). OnFalse b (new ≡ old)) (sym w.grown-is) tt
+      | else-add_token w ↦
+          subst (λ (b : Bool). OnFalse b (new ≡ old)) (sym w.grown-is)
+          (on_false_both l.grown l.invariant.same l.invariant.same (λ before _. OnFalse_at w.if-add_token.false c.add_token.ensures.same ∙ before))
+    ] in
+    let all : OnFalse c.if-add_token.grown Closed = elim c.if-add_token.branch [
+      | then-add_token w ↦ subst (λ (b : Bool). OnFalse b Closed) (sym w.grown-is) tt
+      | else-add_token w ↦
+          subst (λ (b : Bool). OnFalse b Closed) (sym w.grown-is)
+          (on_false_both l.grown l.invariant.same l.invariant.all (λ before closed.
+          tokens_closed_by_more index gr table pops good rule next old now tokens l.place token there before closed
+          (OnFalse_at w.if-add_token.false c.add_token.ensures.all)))
+    ] in
+    record {
+      adding = adding;
+      keeps_room = λ r. c.add_token.ensures.keeps_room r ∙ l.invariant.keeps_room r;
+      same = same;
+      all = all;
+    }
+
+pub returns : goal.returns
+returns g c =
+    let index = g.StorageT.StorageIndex.index in
+    let gr = c.args.checked.now.grammar in
+    let table = c.args.checked.now.table in
+    let l = c.tokens in
+    let tokens = c.actions_of.result.0.now in
+    let at = c.actions_of.ensures in
+    let all = subst (λ (t : Table). AreAllTokensOf index t c.args.next tokens) c.stable.ensures.table
+    (all_tokens index c.stable.result.now c.args.next tokens c.actions_of.result.1.now at.entries at.actions at.exact) in
+    record {
+      keeps = l.invariant.adding.keeps;
+      keeps_room = l.invariant.keeps_room;
+      same = l.invariant.same;
+      all = on_false_both l.grown l.invariant.all l.invariant.all (λ closed _.
+          tokens_closed_by_all index gr table c.args.pops.now c.args.good.now c.args.rule c.args.next c.args.reduced.now.items tokens l.place c.tokens-test.false all closed);
+      room = l.invariant.adding.room;
+      grown = l.invariant.adding.grown;
+    }

@@ -1,7 +1,61 @@
+use Rattle.std.proofs.Common.{◌≡◌, ◌∙◌, ap, arith, Bool, List, subst, sym, true, ℕ}
+use Rattle.std.proofs.lemmas.Bool.{OnFalse_at}
+use Rattle.lrpar_grammar.specs.Grammar.{Grammar}
+use Rattle.lrpar_table_rows.specs.Table.{FailsPastStates, FailsPastTokens, HasNoGotoPastRules, states_len}
+use Rattle.lrpar_table_pops.specs.Growth.{HaveRoomFor}
+use Rattle.lrpar_table_pops.specs.StoredAll.{IsMarked, IsSoundTable}
+use Rattle.lrpar_table_pops.proofs.MarkLemmas.{all_marked}
+use Rattle.lrpar_table_pops.proofs.RoundLemmas.{all_settled}
 use Rattle.lrpar_table_pops.proofs.StepLemmas.{safe_alone}
 use Rattle.lrpar_table_pops.proofs.pops.Pops.new.Goals as goal
 
 pub add_round-requires-clause-alone : goal.add_round-requires-clause-alone
 add_round-requires-clause-alone g c =
     let d = c.args.checked.now in
-    safe_alone d.grammar d.graph d.table c.stable.ensures.checked.safe (rw c.stable.ensures.table at c.states_len.ensures.no_action)
+    safe_alone d.grammar d.graph d.table c.stable.ensures.checked.safe (subst FailsPastStates c.stable-3.ensures.table c.states_len.ensures.no_action)
+
+pub add_round-requires-clause-sound : goal.add_round-requires-clause-sound
+add_round-requires-clause-sound g c = record {
+  safe = c.stable.ensures.checked.safe;
+  closed = c.stable.ensures.checked.closed;
+  states = subst FailsPastStates c.stable-3.ensures.table c.states_len.ensures.no_action;
+  tokens = subst FailsPastTokens c.stable.ensures.table c.tokens_len.ensures.end;
+  rules = subst HasNoGotoPastRules c.stable-2.ensures.table c.rules_len.ensures.end;
+}
+
+pub rounds-init : goal.rounds-init
+rounds-init g c =
+    let d = c.args.checked.now in
+    let made = c.in_ok-changed.ensures.items_if_clones_equal (λ y same. same) in
+    let states = c.states_len.ensures.states ∙ ap states_len c.stable-3.ensures.table in
+    record {
+      pops = c.in_ok-pops.ensures.pops;
+      places = c.in_ok-pops.ensures.places;
+      sets = (
+        subst (λ (x : Grammar). HaveRoomFor x c.in_ok-found.found.reduced.items) c.grm.ensures c.in_ok-found.ensures.reduced,
+        subst (λ (x : Grammar). HaveRoomFor x c.in_ok-found.found.followed.items) c.grm.ensures c.in_ok-found.ensures.followed,
+      );
+      settled = λ s low untouched. absurd (untouched.itself
+          (subst (λ (m : List Bool). IsMarked m s) (sym made) (all_marked c.states_len.result s (omega (arith, low, states)))));
+    }
+
+pub rounds-preserved : goal.rounds-preserved
+rounds-preserved g c = record {
+  pops = c.in_ok-add_round.ensures.pops;
+  places = c.in_ok-add_round.ensures.all.ways;
+  sets = c.in_ok-add_round.ensures.all.sets;
+  settled = c.in_ok-add_round.ensures.all.closed;
+}
+
+pub returns-then-not-branch-clause-all : goal.returns-then-not-branch-clause-all
+returns-then-not-branch-clause-all g c =
+    let d = c.args.checked.now in
+    let round = c.in_ok-add_round.ensures.all in
+    let sound : IsSoundTable d.grammar d.graph d.table = record {
+      safe = c.stable.ensures.checked.safe;
+      closed = c.stable.ensures.checked.closed;
+      states = subst FailsPastStates c.stable-3.ensures.table c.states_len.ensures.no_action;
+      tokens = subst FailsPastTokens c.stable.ensures.table c.tokens_len.ensures.end;
+      rules = subst HasNoGotoPastRules c.stable-2.ensures.table c.rules_len.ensures.end;
+    } in
+    all_settled d.grammar d.graph d.table c.add_round.new.self c.add_round.new.changed.items sound round.closed (OnFalse_at c.if-not-branch.true round.marks)

@@ -4,9 +4,10 @@ use Rattle.lrpar_grammar_places.specs.declared.span.StIdx.{StIdx}
 use Rattle.lrpar_table_rows.proofs.ItemLemmas.{Contains-image, Contains-preimage}
 use Rattle.lrpar_table_rows.specs.PlainRows.{plain_action}
 use Rattle.lrpar_table_rows.specs.Table.{ShiftTo, TableAction}
-use Rattle.lrpar_table_pops.specs.Searched.{AreReductionsAt, IsMetAt, IsShiftMetAt}
+use Rattle.lrpar_table_pops.specs.Searched.{AreAllReductionsAt, AreReductionsAt, IsMetAt, IsShiftMetAt}
 use Rattle.lrpar_table_pops.proofs.TransitionLemmas.{goto_read, shift_read}
-use Rattle.lrpar_table_pops.proofs.SearchLemmas.{all_met, at_read, contains_none, each_all, each_more, joined_at, keeps_all, keeps_then, met_kept, reductions_at, shifts_kept, shifts_met}
+use Rattle.lrpar_table_pops.proofs.AllGoodLemmas.{reductions_all}
+use Rattle.lrpar_table_pops.proofs.SearchLemmas.{all_met, all_reductions_at, at_read, contains_none, each_all, each_more, joined_at, keeps_all, keeps_then, met_kept, reductions_at, shifts_kept, shifts_met}
 use Rattle.lrpar_table_pops.proofs.searched.Searched.add_above.Goals as goal
 
 pub add_shift-requires-clause-place : goal.add_shift-requires-clause-place
@@ -22,7 +23,7 @@ add_shift-requires-clause-reduced g c =
     let at = at_read old c.args.place under c.requires.place c.index-stack.ensures in
     let now = c.shifts.self.stacks.items in
     subst (AreReductionsAt index gr table now c.args.place) (sym c.deref.ensures.value)
-    (reductions_at index gr table old now c.shifts.invariant.keeps c.args.place under at c.in_ok-reduced.reduced.items c.in_ok-reduced.ensures)
+    (reductions_at index gr table old now c.shifts.invariant.keeps c.args.place under at c.in_ok-reduced.reduced.items c.in_ok-reduced.ensures.good)
 
 pub add_shift-requires-clause-joined : goal.add_shift-requires-clause-joined
 add_shift-requires-clause-joined g c = λ next shift.
@@ -43,6 +44,7 @@ add_shift-requires-clause-joined g c = λ next shift.
 pub shifts-init : goal.shifts-init
 shifts-init g c = record {
   stacks = c.requires.stacks;
+  all_good = c.requires.all_good;
   keeps = keeps_all c.args.self.now.stacks.items;
   met = λ action there. absurd (contains_none action there);
 }
@@ -60,6 +62,7 @@ shifts-preserved g c =
     let low : c.args.place < length now = omega (arith, place, more) in
     record {
       stacks = added.stacks;
+      all_good = added.all_good;
       keeps = keeps_then c.args.self.now.stacks.items now new c.shifts.invariant.keeps added.keeps;
       met = each_more (IsShiftMetAt index gr table new c.args.place) c.actions_of.result.1.now c.shifts.action-index c.action-item.result c.shifts-test.true
           c.action-item.is
@@ -82,6 +85,7 @@ gotos-init g c =
     each_all (IsShiftMetAt index gr table now c.args.place) actions c.shifts.action-index c.shifts-test.false c.shifts.invariant.met in
     record {
       stacks = c.shifts.invariant.stacks;
+      all_good = c.shifts.invariant.all_good;
       keeps = c.shifts.invariant.keeps;
       shifts = shifts_met index gr table old now c.shifts.invariant.keeps c.args.place under at (λ next shift.
           let read =
@@ -104,7 +108,7 @@ add-requires-clause-reduced g c =
     let at = at_read old c.args.place under c.requires.place c.index-stack.ensures in
     let now = c.gotos.self.stacks.items in
     subst (AreReductionsAt index gr table now c.args.place) (sym c.deref-in-gotos.ensures.value)
-    (reductions_at index gr table old now c.gotos.invariant.keeps c.args.place under at c.in_ok-reduced.reduced.items c.in_ok-reduced.ensures)
+    (reductions_at index gr table old now c.gotos.invariant.keeps c.args.place under at c.in_ok-reduced.reduced.items c.in_ok-reduced.ensures.good)
 
 pub add-requires-clause-joined : goal.add-requires-clause-joined
 add-requires-clause-joined g c =
@@ -135,6 +139,7 @@ gotos-preserved g c =
     let low : c.args.place < length now = omega (arith, place, more) in
     record {
       stacks = added.stacks;
+      all_good = added.all_good;
       keeps = keeps_then c.args.self.now.stacks.items now new c.gotos.invariant.keeps added.keeps;
       shifts = shifts_kept index gr table now new added.keeps c.args.place low c.gotos.invariant.shifts;
       met = each_more (λ (x : StIdx g.row.StorageT.Denot). IsMetAt index gr table new c.args.place (index x.0)) c.gotos_of.result.1.now c.gotos.next-index
@@ -161,3 +166,31 @@ returns-clause-gone_on g c =
     goto_read index c.stable-2.result.now table c.stable-2.ensures.table under.top next c.gotos_of.result.0.now nexts by.entries by.states by.exact by.within in
     let state = Contains-preimage (λ (x : StIdx g.row.StorageT.Denot). index x.0) nexts next (read.1 goto) in
     subst (IsMetAt index gr table now c.args.place) state.2 (all state.0 state.1))
+
+pub add_shift-requires-clause-all_reduced : goal.add_shift-requires-clause-all_reduced
+add_shift-requires-clause-all_reduced g c =
+    let index = g.StorageT.StorageIndex.index in
+    let d = c.args.checked.now in
+    let old = c.args.self.now.stacks.items in
+    let under = c.index-stack.result.now in
+    let at = at_read old c.args.place under c.requires.place c.index-stack.ensures in
+    let now = c.shifts.self.stacks.items in
+    let reduced = c.in_ok-reduced.reduced.items in
+    let leads = reductions_all d.grammar d.graph d.table c.requires.sound c.args.pops.now c.requires.all_pops under.good reduced c.in_ok-reduced.ensures.room
+    (index under.top.0) (c.requires.stacks.within c.args.place under at) c.in_ok-reduced.ensures.all in
+    subst (AreAllReductionsAt index d.grammar d.graph d.table now c.args.place) (sym c.deref.ensures.value)
+    (all_reductions_at index d.grammar d.table old now c.shifts.invariant.keeps c.args.place under at d.graph reduced leads)
+
+pub add-requires-clause-all_reduced : goal.add-requires-clause-all_reduced
+add-requires-clause-all_reduced g c =
+    let index = g.StorageT.StorageIndex.index in
+    let d = c.args.checked.now in
+    let old = c.args.self.now.stacks.items in
+    let under = c.index-stack.result.now in
+    let at = at_read old c.args.place under c.requires.place c.index-stack.ensures in
+    let now = c.gotos.self.stacks.items in
+    let reduced = c.in_ok-reduced.reduced.items in
+    let leads = reductions_all d.grammar d.graph d.table c.requires.sound c.args.pops.now c.requires.all_pops under.good reduced c.in_ok-reduced.ensures.room
+    (index under.top.0) (c.requires.stacks.within c.args.place under at) c.in_ok-reduced.ensures.all in
+    subst (AreAllReductionsAt index d.grammar d.graph d.table now c.args.place) (sym c.deref-in-gotos.ensures.value)
+    (all_reductions_at index d.grammar d.table old now c.gotos.invariant.keeps c.args.place under at d.graph reduced leads)
