@@ -22,3 +22,5 @@ pub mod RoundLemmas
 pub mod ClosedLemmas
 pub mod AllGoodLemmas
 pub mod GoodAllLemmas
+pub mod PartLemmas
+pub mod RowLemmas

@@ -10,6 +10,7 @@ pub mod Closed
 pub mod FoundAll
 pub mod FollowAll
 pub mod StoredAll
+pub mod Parts
 pub mod Steps
 pub mod StoredSteps
 pub mod Good

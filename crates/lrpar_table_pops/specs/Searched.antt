@@ -9,10 +9,12 @@ use Rattle.lrpar_table_stacks.specs.Stack.{IsJoined}
 use Rattle.lrpar_table_pops.specs.Exits.{HaveAllExits, HaveExitInCommon}
 use Rattle.lrpar_table_rows.specs.Graph.{Graph}
 use Rattle.lrpar_table_pops.specs.AllGood.{AreAllGoodOver, LeadToAll}
+use Rattle.lrpar_table_pops.specs.Closed.{AreAllPopsOf}
 use Rattle.lrpar_table_pops.specs.Growth.{HasLookahead}
 use Rattle.lrpar_table_pops.specs.declared.exits.Way.{Way}
 use Rattle.lrpar_table_pops.specs.Good.{AreGoodOver, LeadToExits, LeadToReductions}
 use Rattle.lrpar_table_pops.specs.declared.exits.Exit.{Exit}
+use Rattle.lrpar_table_pops.specs.declared.pops.StateExits.{StateExits}
 use Rattle.lrpar_table_pops.specs.declared.searched.Stack.{Stack}
 
 -- the stack is at this place
@@ -107,6 +109,18 @@ AreAllGood {S} index g graph table stacks =
 abbrev pub AreAllReductionsAt : {S : Type 0} → (S → ℕ) → Grammar → Graph → Table → List (Stack S) → ℕ → List (List Bool) → Type 0
 AreAllReductionsAt {S} index g graph table stacks place reduced =
     (stack : Stack S) → IsStackAt stacks place stack → LeadToAll g graph table (index stack.top.0) stack.good reduced
+
+-- if the exits of each old stack were all that are good over it, and the reductions are all that are good on top of the stack at the place,
+-- the exits of each new stack are all that are good over it
+abbrev pub KeepsAllGood : {S : Type 0} → (S → ℕ) → Grammar → Graph → Table → ℕ → List (List Bool) → List (Stack S) → List (Stack S) → Type 0
+KeepsAllGood index g graph table place reduced old new =
+    AreAllGood index g graph table old → AreAllReductionsAt index g graph table old place reduced → AreAllGood index g graph table new
+
+-- if runs can leave states by the exits in `pops` alone, and the exits of each old stack were all that are good over it, those of each new
+-- stack are
+abbrev pub GoesOnAllGood : {S : Type 0} → (S → ℕ) → Grammar → Graph → Table → List StateExits → List (Stack S) → List (Stack S) → Type 0
+GoesOnAllGood index g graph table pops old new =
+    AreAllPopsOf g table pops → AreAllGood index g graph table old → AreAllGood index g graph table new
 
 -- these states, top first, are the stack at the place
 abbrev pub IsTopFirst : {S : Type 0} → (S → ℕ) → List (Stack S) → ℕ → List ℕ → Type 0

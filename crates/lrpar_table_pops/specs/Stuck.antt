@@ -12,3 +12,7 @@ abbrev pub IsFault : {S : Type 0} → (S → ℕ) → Grammar → Table → Inco
 IsFault index g table (Stuck states) = IsStack table (states_of index states.items) × ¬ (IsCompletable g table (states_of index states.items))
 IsFault index g table TooMany = Unit {0}
 IsFault index g table Memory = Unit {0}
+
+-- if the premise holds, the states of `Stuck` are such a stack
+abbrev pub IsFaultIf : {S : Type 0} → (S → ℕ) → Grammar → Table → Type 0 → Incompletable S → Type 0
+IsFaultIf index g table premise fault = premise → IsFault index g table fault

@@ -1,16 +1,22 @@
 //! The check whether each stack of a table can be completed.
 ghost use Rattle.std.specs.Prelude.{◌≡◌, ◌<◌, ◌≤◌, IfErr, OnOk, length};
 ghost use Rattle.lrpar_table_pops.specs.Completable.{AreAllCompletable};
-ghost use Rattle.lrpar_table_pops.specs.Searched.{AreAllGood, AreDone, AreStacks, CompletesAt, IsGoneOnAt, KeepsStacks};
+ghost use Rattle.std.specs.Prelude.{IfOk};
+ghost use Rattle.std.specs.Bool.{OnTrue};
+ghost use Rattle.lrpar_table_pops.specs.Searched.{AreAllGood, AreDone, AreStacks, CompletesAt, GoesOnAllGood, IsGoneOnAt, KeepsStacks};
 ghost use Rattle.lrpar_table_pops.specs.Closed.{AreAllPopsOf};
 ghost use Rattle.lrpar_table_pops.specs.StoredAll.{IsSoundTable};
 ghost use Rattle.lrpar_table_pops.specs.StoredPops.{ArePopsOf, any_of};
-ghost use Rattle.lrpar_table_pops.specs.Stuck.{IsFault};
+ghost use Rattle.lrpar_table_pops.specs.Stuck.{IsFault, IsFaultIf};
 
+use crate::automaton::Automaton;
 pub use crate::fault::Incompletable;
+use crate::likely::likely_tokens;
+use crate::part::part_at;
 use crate::pops::Pops;
 use crate::searched::Searched;
 use lrpar_grammar::span::StorageIndex;
+use lrpar_grammar::token_set::TokenSet;
 use lrpar_table_check::check::ParserData;
 use std::alloc::Global;
 
@@ -34,20 +40,75 @@ pub fn check_completable<StorageT: StorageIndex>(
 {
     // The proof needs that the table is safe, and has the tokens and rules of the grammar alone.
     let _lemma = checked.stable();
-    let _lengths = (
+    let _lemma = (
         checked.stable().states_len(),
         checked.stable().tokens_len(),
         checked.stable().rules_len(),
     );
-    let pops = Pops::new(alloc, checked)?;
+    let whole = Automaton::new(checked.grm(), checked.sgraph(), checked.stable());
+    check_whole(alloc, &whole, most)
+}
+
+// Checks that each stack of the whole table can be completed. Most tables pass by few tokens, which is found soon.
+fn check_whole<StorageT: StorageIndex>(
+    alloc: Global,
+    whole: &Automaton<'_, StorageT>,
+    most: usize,
+) -> Result<(), Incompletable<StorageT>>
+    ensures completable { OnOk result (AreAllCompletable whole.now.grammar whole.now.table) }
+    ensures fault { IfErr result (IsFault StorageT.index whole.now.grammar whole.now.table) }
+{
+    let likely = likely_tokens(alloc, whole)?;
+    if are_completable_by(alloc, whole, &likely, most)? {
+        return Ok(());
+    }
+    let pops = Pops::new(alloc, whole)?;
+    search_all(alloc, whole, &pops, most)
+}
+
+// Whether it is found that each stack can be completed by runs that read these tokens alone. If not, that says nothing of the table.
+fn are_completable_by<StorageT: StorageIndex>(
+    alloc: Global,
+    whole: &Automaton<'_, StorageT>,
+    tokens: &TokenSet,
+    most: usize,
+) -> Result<bool, Incompletable<StorageT>>
+    ensures completable { IfOk result (λ yes. OnTrue yes (AreAllCompletable whole.now.grammar whole.now.table)) }
+    ensures fault { IfErr result (IsFault StorageT.index whole.now.grammar whole.now.table) }
+{
+    let Some(stable) = part_at(alloc, whole.stable(), tokens)? else {
+        return Ok(false);
+    };
+    let part = Automaton::new(whole.grm(), whole.sgraph(), &stable);
+    let pops = Pops::new(alloc, &part)?;
+    match search_all(alloc, whole, &pops, most) {
+        Ok(()) => Ok(true),
+        Err(Incompletable::Memory) => Err(Incompletable::Memory),
+        Err(Incompletable::Stuck(_) | Incompletable::TooMany) => Ok(false),
+    }
+}
+
+// Goes over the stacks of the table, from the start state up, until one can't be completed by these exits.
+fn search_all<StorageT: StorageIndex>(
+    alloc: Global,
+    checked: &Automaton<'_, StorageT>,
+    pops: &Pops,
+    most: usize,
+) -> Result<(), Incompletable<StorageT>>
+    requires pops { ArePopsOf checked.now.grammar checked.now.table pops.now }
+    ensures completable { OnOk result (AreAllCompletable checked.now.grammar checked.now.table) }
+    ensures fault { IfErr result (IsFaultIf StorageT.index checked.now.grammar checked.now.table (AreAllPopsOf checked.now.grammar checked.now.table pops.now)) }
+{
+    // The proof needs that the table is safe.
+    let _lemma = checked.stable();
     let mut searched = Searched::new(alloc, checked)?;
-    search(alloc, checked, &pops, &mut searched, most)
+    search(alloc, checked, pops, &mut searched, most)
 }
 
 // Goes on from each stack in turn, until none is left.
 fn search<StorageT: StorageIndex>(
     alloc: Global,
-    checked: &ParserData<StorageT>,
+    checked: &Automaton<'_, StorageT>,
     pops: &Pops,
     searched: &mut Searched<StorageT>,
     most: usize,
@@ -55,11 +116,10 @@ fn search<StorageT: StorageIndex>(
     requires pops { ArePopsOf checked.now.grammar checked.now.table pops.now }
     requires stacks { AreStacks StorageT.index checked.now.grammar checked.now.table searched.old.stacks.items }
     requires sound { IsSoundTable checked.now.grammar checked.now.graph checked.now.table }
-    requires all_pops { AreAllPopsOf checked.now.grammar checked.now.table pops.now }
     requires all_good { AreAllGood StorageT.index checked.now.grammar checked.now.graph checked.now.table searched.old.stacks.items }
     ensures stacks { OnOk result (AreStacks StorageT.index checked.now.grammar checked.now.table searched.new.stacks.items) }
     ensures done { OnOk result (AreDone StorageT.index checked.now.grammar checked.now.table (any_of pops.now) searched.new.stacks.items (length searched.new.stacks.items)) }
-    ensures fault { IfErr result (IsFault StorageT.index checked.now.grammar checked.now.table) }
+    ensures fault { IfErr result (IsFaultIf StorageT.index checked.now.grammar checked.now.table (AreAllPopsOf checked.now.grammar checked.now.table pops.now)) }
 {
     let mut place = 0;
     'stacks: while place < searched.len() {
@@ -75,7 +135,7 @@ fn search<StorageT: StorageIndex>(
 // Goes on from the stack at the place, if that can be completed.
 fn go_on<StorageT: StorageIndex>(
     alloc: Global,
-    checked: &ParserData<StorageT>,
+    checked: &Automaton<'_, StorageT>,
     pops: &Pops,
     searched: &mut Searched<StorageT>,
     place: usize,
@@ -83,15 +143,13 @@ fn go_on<StorageT: StorageIndex>(
     requires pops { ArePopsOf checked.now.grammar checked.now.table pops.now }
     requires stacks { AreStacks StorageT.index checked.now.grammar checked.now.table searched.old.stacks.items }
     requires sound { IsSoundTable checked.now.grammar checked.now.graph checked.now.table }
-    requires all_pops { AreAllPopsOf checked.now.grammar checked.now.table pops.now }
-    requires all_good { AreAllGood StorageT.index checked.now.grammar checked.now.graph checked.now.table searched.old.stacks.items }
     requires place { place < length searched.old.stacks.items }
     ensures stacks { OnOk result (AreStacks StorageT.index checked.now.grammar checked.now.table searched.new.stacks.items) }
     ensures keeps { OnOk result (KeepsStacks searched.old.stacks.items searched.new.stacks.items) }
-    ensures all_good { OnOk result (AreAllGood StorageT.index checked.now.grammar checked.now.graph checked.now.table searched.new.stacks.items) }
+    ensures all_good { OnOk result (GoesOnAllGood StorageT.index checked.now.grammar checked.now.graph checked.now.table pops.now searched.old.stacks.items searched.new.stacks.items) }
     ensures completes { OnOk result (CompletesAt StorageT.index (any_of pops.now) searched.old.stacks.items place) }
     ensures gone_on { OnOk result (IsGoneOnAt StorageT.index checked.now.grammar checked.now.table searched.new.stacks.items place) }
-    ensures fault { IfErr result (IsFault StorageT.index checked.now.grammar checked.now.table) }
+    ensures fault { IfErr result (IsFaultIf StorageT.index checked.now.grammar checked.now.table (AreAllPopsOf checked.now.grammar checked.now.table pops.now × AreAllGood StorageT.index checked.now.grammar checked.now.graph checked.now.table searched.old.stacks.items)) }
 {
     if !searched.can_complete(place, pops) {
         let states = searched.states(alloc, checked, place)?;

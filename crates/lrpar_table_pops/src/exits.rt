@@ -9,10 +9,10 @@ ghost use Rattle.lrpar_table_pops.specs.declared.exits.Way.{Way};
 ghost use Rattle.lrpar_table_pops.specs.FoundAll.{AreExitsFor};
 ghost use Rattle.lrpar_table_pops.specs.Growth.{AreLookaheadsOf, GrowsBy, HasLookahead, HasWay, IsFirstOf, KeepsWays, SomeHasLookahead, ways_of};
 
+use crate::automaton::Automaton;
 use crate::sets::{insert, unite};
 use lrpar_grammar::span::{StIdx, StorageIndex};
 use lrpar_grammar::token_set::TokenSet;
-use lrpar_table_check::check::ParserData;
 use std::alloc::{AllocError, Global};
 use std::marker::Model;
 
@@ -60,7 +60,7 @@ impl Exits {
     /// The exits of the state, as yet without lookaheads.
     pub(crate) fn new<StorageT: StorageIndex>(
         alloc: Global,
-        checked: &ParserData<StorageT>,
+        checked: &Automaton<'_, StorageT>,
         state: StIdx<StorageT>,
     ) -> Result<Self, AllocError>
         requires { StorageT.index state.0 < graph_len checked.now.graph }

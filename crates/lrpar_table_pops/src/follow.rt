@@ -9,12 +9,12 @@ ghost use Rattle.lrpar_table_pops.specs.Growth.{IsStored};
 ghost use Rattle.lrpar_table_pops.specs.Sets.{room_in};
 ghost use Rattle.lrpar_table_pops.specs.StoredPops.{at_of};
 
+use crate::automaton::Automaton;
 use crate::entries::{actions_at, gotos_at, symbols_len};
 use crate::found::Found;
 use crate::pops::Pops;
 use lrpar_grammar::grammar::YaccGrammar;
 use lrpar_grammar::span::{PIdx, StIdx, StorageIndex, TIdx};
-use lrpar_table_check::check::ParserData;
 use lrpar_table_rows::table::{Action, StateTable};
 
 impl Pops {
@@ -168,7 +168,7 @@ impl Pops {
     // Follows each goto of the state. Returns whether any was due.
     fn follow_once<StorageT: StorageIndex>(
         &self,
-        checked: &ParserData<StorageT>,
+        checked: &Automaton<'_, StorageT>,
         state: StIdx<StorageT>,
         found: &mut Found,
     ) -> bool
@@ -192,7 +192,7 @@ impl Pops {
     /// Follows the gotos of the state until none is due.
     pub(crate) fn follow<StorageT: StorageIndex>(
         &self,
-        checked: &ParserData<StorageT>,
+        checked: &Automaton<'_, StorageT>,
         state: StIdx<StorageT>,
         found: &mut Found,
     )

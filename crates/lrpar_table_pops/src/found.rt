@@ -13,12 +13,12 @@ ghost use Rattle.lrpar_table_pops.specs.Growth.{HaveRoomFor, KeepRoom, KeepsWays
 ghost use Rattle.lrpar_table_pops.specs.Pops.{Control};
 ghost use Rattle.std.specs.Prelude.{None};
 
+use crate::automaton::Automaton;
 use crate::exits::{Exit, Exits, Way};
 use crate::sets::{clear_sets, empty_sets, insert, insert_new, unite};
 use lrpar_grammar::grammar::YaccGrammar;
 use lrpar_grammar::span::{PIdx, StIdx, StorageIndex};
 use lrpar_grammar::token_set::TokenSet;
-use lrpar_table_check::check::ParserData;
 use std::alloc::{AllocError, Global};
 
 /// What is found of a state: its exits; for each rule the tokens at which all symbols of one of its productions are dropped above the state;
@@ -63,7 +63,7 @@ impl Found {
     pub(crate) fn enter<StorageT: StorageIndex>(
         &mut self,
         alloc: Global,
-        checked: &ParserData<StorageT>,
+        checked: &Automaton<'_, StorageT>,
         state: StIdx<StorageT>,
     ) -> Result<(), AllocError>
         requires { StorageT.index state.0 < graph_len checked.now.graph }

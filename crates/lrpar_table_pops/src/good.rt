@@ -19,6 +19,7 @@ ghost use Rattle.lrpar_table_pops.specs.Pops.{Control, Done, Dropping};
 ghost use Rattle.lrpar_table_pops.specs.Sets.{room_in, tokens_by};
 ghost use Rattle.lrpar_table_pops.specs.StoredPops.{ArePopsOf, at_of};
 
+use crate::automaton::Automaton;
 use crate::exits::{Exit, Exits, Way};
 use crate::found::rule_number;
 use crate::pops::Pops;
@@ -26,14 +27,13 @@ use crate::sets::{empty_sets, insert_new};
 use lrpar_grammar::grammar::YaccGrammar;
 use lrpar_grammar::span::{StIdx, StorageIndex, TIdx};
 use lrpar_grammar::token_set::TokenSet;
-use lrpar_table_check::check::ParserData;
 use lrpar_table_rows::table::Action;
 use std::alloc::{AllocError, Global};
 
 /// The good exits of the start state alone: a run has accepted.
 pub(crate) fn good_at_start<StorageT: StorageIndex>(
     alloc: Global,
-    checked: &ParserData<StorageT>,
+    checked: &Automaton<'_, StorageT>,
 ) -> Result<Exits, AllocError>
     ensures good { IfOk result (AreGoodOver checked.now.grammar checked.now.table []) }
     ensures all { IfOk result (λ good. IsStored checked.now.grammar good Done) }
@@ -47,7 +47,7 @@ pub(crate) fn good_at_start<StorageT: StorageIndex>(
 /// good exits of the state.
 pub(crate) fn good_reductions<StorageT: StorageIndex>(
     alloc: Global,
-    checked: &ParserData<StorageT>,
+    checked: &Automaton<'_, StorageT>,
     pops: &Pops,
     state: StIdx<StorageT>,
     good: &Exits,
@@ -65,7 +65,7 @@ pub(crate) fn good_reductions<StorageT: StorageIndex>(
 
 // Adds the reductions, by each goto of the state, after which a run takes the state off by a good exit. Returns whether any was new.
 fn add_all<StorageT: StorageIndex>(
-    checked: &ParserData<StorageT>,
+    checked: &Automaton<'_, StorageT>,
     pops: &Pops,
     state: StIdx<StorageT>,
     good: &Exits,
@@ -94,7 +94,7 @@ fn add_all<StorageT: StorageIndex>(
 // Adds the reductions to the rule after which a run takes the state below by a good exit, if that has this goto by the rule. Returns whether
 // any was new.
 fn add_by_goto<StorageT: StorageIndex>(
-    checked: &ParserData<StorageT>,
+    checked: &Automaton<'_, StorageT>,
     pops: &Pops,
     rule: usize,
     next: StIdx<StorageT>,
@@ -132,7 +132,7 @@ fn add_by_goto<StorageT: StorageIndex>(
 // Adds the reduction to the rule at the token, where state `next` acts so, if a run takes the state below by a good exit after it. Returns
 // whether it was new.
 fn add_token<StorageT: StorageIndex>(
-    checked: &ParserData<StorageT>,
+    checked: &Automaton<'_, StorageT>,
     pops: &Pops,
     rule: usize,
     next: StIdx<StorageT>,
@@ -186,7 +186,7 @@ fn insert_by(reduced: &mut Vec<TokenSet>, rule: usize, token: usize) -> bool
 
 // Whether a run that reads the token, with state `next` on top, takes that state off, and goes on to accept.
 fn reads_on<StorageT: StorageIndex>(
-    checked: &ParserData<StorageT>,
+    checked: &Automaton<'_, StorageT>,
     pops: &Pops,
     next: StIdx<StorageT>,
     token: TIdx<StorageT>,
@@ -344,7 +344,7 @@ fn good_here<'a, StorageT: StorageIndex>(
 /// The good exits of state `next` on top of a stack, by the good exits of the stack's top and the good reductions on top of the stack.
 pub(crate) fn good_above<StorageT: StorageIndex>(
     alloc: Global,
-    checked: &ParserData<StorageT>,
+    checked: &Automaton<'_, StorageT>,
     good: &Exits,
     reduced: &[TokenSet],
     next: StIdx<StorageT>,

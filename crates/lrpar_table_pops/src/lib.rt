@@ -1,6 +1,7 @@
 //! What runs take off a stack, and whether each stack of a table can be completed.
 #![tactic(auto)]
 
+mod automaton;
 pub mod check_completable;
 mod entries;
 mod exits;
@@ -9,6 +10,8 @@ mod follow;
 mod found;
 mod good;
 pub mod laws;
+mod likely;
+mod part;
 mod pops;
 mod saturate;
 mod searched;

@@ -11,7 +11,6 @@ use crate::exits::Exits;
 use crate::found::Found;
 use lrpar_grammar::grammar::YaccGrammar;
 use lrpar_grammar::span::{StIdx, StorageIndex, TIdx};
-use lrpar_table_check::check::ParserData;
 use lrpar_table_rows::table::{Action, StateTable};
 use std::alloc::{AllocError, Global};
 use std::marker::Model;

@@ -12,13 +12,13 @@ ghost use Rattle.lrpar_table_pops.specs.FollowAll.{IsRightAction};
 ghost use Rattle.lrpar_table_pops.specs.FoundAll.{AreExitsFor};
 ghost use Rattle.lrpar_table_pops.specs.StoredPops.{AcceptsAtEndAlone, ArePopsOf, HasNoExits, HaveNoExits, room_of};
 
+use crate::automaton::Automaton;
 use crate::entries::{actions_at, gotos_at, symbols_len};
 use crate::exits::Exits;
 use crate::found::Found;
 use crate::pops::{Pops, StateExits};
 use lrpar_grammar::grammar::YaccGrammar;
 use lrpar_grammar::span::{StIdx, StorageIndex, TIdx};
-use lrpar_table_check::check::ParserData;
 use lrpar_table_rows::table::{Action, StateTable};
 use std::alloc::{AllocError, Global};
 
@@ -33,13 +33,11 @@ impl Pops {
     /// Each round goes over the states; there are few in practice, and at most as many as there are exits.
     pub(crate) fn new<StorageT: StorageIndex>(
         alloc: Global,
-        checked: &ParserData<StorageT>,
+        checked: &Automaton<'_, StorageT>,
     ) -> Result<Self, AllocError>
         ensures pops { IfOk result (ArePopsOf checked.now.grammar checked.now.table) }
         ensures all { IfOk result (AreAllPopsOf checked.now.grammar checked.now.table) }
     {
-        // The proof needs that the table acts at the tokens of the grammar, and goes by its rules.
-        let _lemma = (checked.stable().tokens_len(), checked.stable().rules_len());
         let mut pops = Pops::empty(alloc, checked)?;
         let mut found = Found::new(alloc, checked.grm())?;
         let mut changed = vec![in alloc; true; checked.stable().states_len()]?;
@@ -54,7 +52,7 @@ impl Pops {
     fn add_round<StorageT: StorageIndex>(
         &mut self,
         alloc: Global,
-        checked: &ParserData<StorageT>,
+        checked: &Automaton<'_, StorageT>,
         found: &mut Found,
         changed: &mut Vec<bool>,
     ) -> Result<bool, AllocError>
@@ -86,7 +84,7 @@ impl Pops {
     fn add_number<StorageT: StorageIndex>(
         &mut self,
         alloc: Global,
-        checked: &ParserData<StorageT>,
+        checked: &Automaton<'_, StorageT>,
         number: usize,
         found: &mut Found,
         changed: &[bool],
@@ -112,7 +110,7 @@ impl Pops {
     fn add_state<StorageT: StorageIndex>(
         &mut self,
         alloc: Global,
-        checked: &ParserData<StorageT>,
+        checked: &Automaton<'_, StorageT>,
         state: StIdx<StorageT>,
         found: &mut Found,
     ) -> Result<bool, AllocError>
@@ -133,7 +131,7 @@ impl Pops {
     // Adds what follows for the state at each of its tokens. Returns whether anything was new.
     fn add_at_tokens<StorageT: StorageIndex>(
         &mut self,
-        checked: &ParserData<StorageT>,
+        checked: &Automaton<'_, StorageT>,
         state: StIdx<StorageT>,
         found: &mut Found,
     ) -> bool
@@ -157,7 +155,7 @@ impl Pops {
     // Adds what follows for the state at the token, where it acts so, if that is kept. Returns whether anything was new.
     fn add_at<StorageT: StorageIndex>(
         &mut self,
-        checked: &ParserData<StorageT>,
+        checked: &Automaton<'_, StorageT>,
         state: StIdx<StorageT>,
         token: TIdx<StorageT>,
         action: Action<StorageT>,
@@ -183,7 +181,7 @@ impl Pops {
     // Adds what follows for the state at any token. Returns whether anything was new.
     fn add_at_any<StorageT: StorageIndex>(
         &mut self,
-        checked: &ParserData<StorageT>,
+        checked: &Automaton<'_, StorageT>,
         state: StIdx<StorageT>,
         found: &mut Found,
     ) -> bool
@@ -203,7 +201,7 @@ impl Pops {
     // The state acts at each of its tokens.
     fn start_all<StorageT: StorageIndex>(
         &self,
-        checked: &ParserData<StorageT>,
+        checked: &Automaton<'_, StorageT>,
         state: StIdx<StorageT>,
         found: &mut Found,
     )
@@ -220,7 +218,7 @@ impl Pops {
     // No exits yet.
     fn empty<StorageT: StorageIndex>(
         alloc: Global,
-        checked: &ParserData<StorageT>,
+        checked: &Automaton<'_, StorageT>,
     ) -> Result<Self, AllocError>
         ensures pops { IfOk result (ArePopsOf checked.now.grammar checked.now.table) }
         ensures places { IfOk result (HaveAllWays checked.now.grammar checked.now.graph checked.now.table) }
@@ -239,7 +237,7 @@ impl Pops {
 // No exits of the state yet; if gotos lead to it, those at the tokens at which they are kept.
 fn empty_exits<StorageT: StorageIndex>(
     alloc: Global,
-    checked: &ParserData<StorageT>,
+    checked: &Automaton<'_, StorageT>,
     state: StIdx<StorageT>,
     is_goto: bool,
 ) -> Result<StateExits, AllocError>
@@ -255,7 +253,7 @@ fn empty_exits<StorageT: StorageIndex>(
 // No exits of the state at any token yet, and no room for them unless gotos lead to it.
 fn empty_at_tokens<StorageT: StorageIndex>(
     alloc: Global,
-    checked: &ParserData<StorageT>,
+    checked: &Automaton<'_, StorageT>,
     state: StIdx<StorageT>,
     is_goto: bool,
 ) -> Result<Vec<Exits>, AllocError>
@@ -277,7 +275,7 @@ fn empty_at_tokens<StorageT: StorageIndex>(
 // No exits of the state at the token with this number yet, if any are kept.
 fn empty_exits_at<StorageT: StorageIndex>(
     alloc: Global,
-    checked: &ParserData<StorageT>,
+    checked: &Automaton<'_, StorageT>,
     state: StIdx<StorageT>,
     number: usize,
 ) -> Result<Exits, AllocError>
@@ -294,7 +292,7 @@ fn empty_exits_at<StorageT: StorageIndex>(
 
 // Whether the exits of the state at the token with this number are kept: it shifts the token, or reduces by a production without symbols.
 fn is_kept_at<StorageT: StorageIndex>(
-    checked: &ParserData<StorageT>,
+    checked: &Automaton<'_, StorageT>,
     state: StIdx<StorageT>,
     number: usize,
 ) -> bool

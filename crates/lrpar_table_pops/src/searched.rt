@@ -2,18 +2,17 @@
 ghost use Rattle.std.specs.Prelude.{◌≡◌, ◌<◌, ◌++◌, ◌∷◌, [], IfOk, OnOk, length};
 ghost use Rattle.std.specs.Bool.{OnFalse, OnTrue};
 ghost use Rattle.std.specs.Prelude.{reverse};
-ghost use Rattle.lrpar_table_pops.specs.Closed.{AreAllPopsOf};
 ghost use Rattle.lrpar_table_pops.specs.StoredAll.{IsSoundTable};
 ghost use Rattle.lrpar_table_stacks.specs.Stack.{IsStack, states_of};
 ghost use Rattle.lrpar_table_pops.specs.Searched.{CanComplete, HasNoneGood};
 ghost use Rattle.lrpar_table_pops.specs.StoredPops.{ArePopsOf, any_of};
 
+use crate::automaton::Automaton;
 use crate::exits::Exits;
 use crate::good::{good_above, good_at_start, good_reductions};
 use crate::pops::Pops;
 use lrpar_grammar::span::{StIdx, StorageIndex};
 use lrpar_grammar::token_set::TokenSet;
-use lrpar_table_check::check::ParserData;
 use lrpar_table_rows::table::Action;
 use std::alloc::{AllocError, Global};
 
@@ -33,10 +32,10 @@ pub(crate) struct Searched<StorageT: StorageIndex> {
 }
 
 impl<StorageT: StorageIndex> Searched<StorageT> {
-    ghost use Rattle.lrpar_table_pops.specs.Searched.{AreAllGood, AreAllReductionsAt, AreReductionsAt, AreStacks, CompletesAt, HasNoneGoodAt, IsCovered, IsGoneOnAt, IsJoinedAt, IsMetAt, IsShiftMetAt, IsStackAt, IsTopFirst, KeepsStacks, ShiftsFrom};
+    ghost use Rattle.lrpar_table_pops.specs.Searched.{AreAllGood, AreReductionsAt, AreStacks, CompletesAt, GoesOnAllGood, HasNoneGoodAt, IsCovered, IsGoneOnAt, IsJoinedAt, IsMetAt, IsShiftMetAt, IsStackAt, IsTopFirst, KeepsAllGood, KeepsStacks, ShiftsFrom};
 
     /// The start state alone.
-    pub(crate) fn new(alloc: Global, checked: &ParserData<StorageT>) -> Result<Self, AllocError>
+    pub(crate) fn new(alloc: Global, checked: &Automaton<'_, StorageT>) -> Result<Self, AllocError>
         ensures stacks { IfOk result (λ searched. AreStacks StorageT.index checked.now.grammar checked.now.table searched.stacks.items) }
         ensures all_good { IfOk result (λ searched. AreAllGood StorageT.index checked.now.grammar checked.now.graph checked.now.table searched.stacks.items) }
     {
@@ -87,19 +86,17 @@ impl<StorageT: StorageIndex> Searched<StorageT> {
     pub(crate) fn add_above(
         &mut self,
         alloc: Global,
-        checked: &ParserData<StorageT>,
+        checked: &Automaton<'_, StorageT>,
         pops: &Pops,
         place: usize,
     ) -> Result<(), AllocError>
         requires pops { ArePopsOf checked.now.grammar checked.now.table pops.now }
         requires stacks { AreStacks StorageT.index checked.now.grammar checked.now.table self.old.stacks.items }
         requires place { place < length self.old.stacks.items }
-        requires all_pops { AreAllPopsOf checked.now.grammar checked.now.table pops.now }
         requires sound { IsSoundTable checked.now.grammar checked.now.graph checked.now.table }
-        requires all_good { AreAllGood StorageT.index checked.now.grammar checked.now.graph checked.now.table self.old.stacks.items }
         ensures stacks { OnOk result (AreStacks StorageT.index checked.now.grammar checked.now.table self.new.stacks.items) }
         ensures keeps { OnOk result (KeepsStacks self.old.stacks.items self.new.stacks.items) }
-        ensures all_good { OnOk result (AreAllGood StorageT.index checked.now.grammar checked.now.graph checked.now.table self.new.stacks.items) }
+        ensures all_good { OnOk result (GoesOnAllGood StorageT.index checked.now.grammar checked.now.graph checked.now.table pops.now self.old.stacks.items self.new.stacks.items) }
         ensures gone_on { OnOk result (IsGoneOnAt StorageT.index checked.now.grammar checked.now.table self.new.stacks.items place) }
     {
         let stack = &self.stacks[place];
@@ -120,7 +117,7 @@ impl<StorageT: StorageIndex> Searched<StorageT> {
     fn add_shift(
         &mut self,
         alloc: Global,
-        checked: &ParserData<StorageT>,
+        checked: &Automaton<'_, StorageT>,
         place: usize,
         reduced: &[TokenSet],
         action: Action<StorageT>,
@@ -128,13 +125,11 @@ impl<StorageT: StorageIndex> Searched<StorageT> {
         requires stacks { AreStacks StorageT.index checked.now.grammar checked.now.table self.old.stacks.items }
         requires place { place < length self.old.stacks.items }
         requires sound { IsSoundTable checked.now.grammar checked.now.graph checked.now.table }
-        requires all_good { AreAllGood StorageT.index checked.now.grammar checked.now.graph checked.now.table self.old.stacks.items }
-        requires all_reduced { AreAllReductionsAt StorageT.index checked.now.grammar checked.now.graph checked.now.table self.old.stacks.items place reduced.now }
         requires reduced { AreReductionsAt StorageT.index checked.now.grammar checked.now.table self.old.stacks.items place reduced.now }
         requires joined { ShiftsFrom StorageT.index checked.now.table self.old.stacks.items place action }
         ensures stacks { OnOk result (AreStacks StorageT.index checked.now.grammar checked.now.table self.new.stacks.items) }
         ensures keeps { OnOk result (KeepsStacks self.old.stacks.items self.new.stacks.items) }
-        ensures all_good { OnOk result (AreAllGood StorageT.index checked.now.grammar checked.now.graph checked.now.table self.new.stacks.items) }
+        ensures all_good { OnOk result (KeepsAllGood StorageT.index checked.now.grammar checked.now.graph checked.now.table place reduced.now self.old.stacks.items self.new.stacks.items) }
         ensures met { OnOk result (IsShiftMetAt StorageT.index checked.now.grammar checked.now.table self.new.stacks.items place action) }
     {
         match action {
@@ -147,7 +142,7 @@ impl<StorageT: StorageIndex> Searched<StorageT> {
     fn add(
         &mut self,
         alloc: Global,
-        checked: &ParserData<StorageT>,
+        checked: &Automaton<'_, StorageT>,
         place: usize,
         reduced: &[TokenSet],
         next: StIdx<StorageT>,
@@ -155,13 +150,11 @@ impl<StorageT: StorageIndex> Searched<StorageT> {
         requires stacks { AreStacks StorageT.index checked.now.grammar checked.now.table self.old.stacks.items }
         requires place { place < length self.old.stacks.items }
         requires sound { IsSoundTable checked.now.grammar checked.now.graph checked.now.table }
-        requires all_good { AreAllGood StorageT.index checked.now.grammar checked.now.graph checked.now.table self.old.stacks.items }
-        requires all_reduced { AreAllReductionsAt StorageT.index checked.now.grammar checked.now.graph checked.now.table self.old.stacks.items place reduced.now }
         requires reduced { AreReductionsAt StorageT.index checked.now.grammar checked.now.table self.old.stacks.items place reduced.now }
         requires joined { IsJoinedAt StorageT.index checked.now.table self.old.stacks.items place (StorageT.index next.0) }
         ensures stacks { OnOk result (AreStacks StorageT.index checked.now.grammar checked.now.table self.new.stacks.items) }
         ensures keeps { OnOk result (KeepsStacks self.old.stacks.items self.new.stacks.items) }
-        ensures all_good { OnOk result (AreAllGood StorageT.index checked.now.grammar checked.now.graph checked.now.table self.new.stacks.items) }
+        ensures all_good { OnOk result (KeepsAllGood StorageT.index checked.now.grammar checked.now.graph checked.now.table place reduced.now self.old.stacks.items self.new.stacks.items) }
         ensures met { OnOk result (IsMetAt StorageT.index checked.now.grammar checked.now.table self.new.stacks.items place (StorageT.index next.0)) }
     {
         // The proof needs that shifts and gotos lead to states of the table.
@@ -210,7 +203,7 @@ impl<StorageT: StorageIndex> Searched<StorageT> {
     pub(crate) fn states(
         &self,
         alloc: Global,
-        checked: &ParserData<StorageT>,
+        checked: &Automaton<'_, StorageT>,
         place: usize,
     ) -> Result<Vec<StIdx<StorageT>>, AllocError>
         requires stacks { AreStacks StorageT.index checked.now.grammar checked.now.table self.now.stacks.items }

@@ -6,7 +6,7 @@ use Rattle.lrpar_table_pops.proofs.check_completable.search.Goals as goal
 pub stacks-init : goal.stacks-init
 stacks-init g c = record {
   stacks = c.requires.stacks;
-  all_good = c.requires.all_good;
+  all_good = λ pops. c.requires.all_good;
   done = done_none g.StorageT.StorageIndex.index c.args.checked.now.grammar c.args.checked.now.table (any_of c.args.pops.now) c.args.searched.now.stacks.items;
 }
 
@@ -17,7 +17,7 @@ stacks-preserved g c =
     let len = c.len.ensures in
     record {
       stacks = went.stacks;
-      all_good = went.all_good;
+      all_good = λ pops. went.all_good pops (c.stacks.invariant.all_good pops);
       done = done_more g.StorageT.StorageIndex.index c.args.checked.now.grammar c.args.checked.now.table (any_of c.args.pops.now) c.stacks.searched.stacks.items
           c.go_on.new.searched.stacks.items c.stacks.place went.keeps (omega (arith, test, len)) c.stacks.invariant.done went.completes went.gone_on;
     }

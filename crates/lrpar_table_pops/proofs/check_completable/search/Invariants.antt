@@ -1,4 +1,5 @@
 use Rattle.std.proofs.Common.{◌-◌}
+use Rattle.lrpar_table_pops.specs.Closed.{AreAllPopsOf}
 use Rattle.lrpar_table_pops.specs.StoredPops.{any_of}
 use Rattle.lrpar_table_pops.specs.Searched.{AreAllGood, AreDone, AreStacks}
 use Rattle.lrpar_table_pops.proofs.check_completable.search.Given as goal
@@ -9,7 +10,7 @@ invariant-stacks g l =
     let index = g.StorageT.StorageIndex.index in
     record {
       stacks : AreStacks index l.checked.grammar l.checked.table l.searched.stacks.items;
-      all_good : AreAllGood index l.checked.grammar l.checked.graph l.checked.table l.searched.stacks.items;
+      all_good : AreAllPopsOf l.checked.grammar l.checked.table l.pops → AreAllGood index l.checked.grammar l.checked.graph l.checked.table l.searched.stacks.items;
       done : AreDone index l.checked.grammar l.checked.table (any_of l.pops) l.searched.stacks.items l.place;
     }
 

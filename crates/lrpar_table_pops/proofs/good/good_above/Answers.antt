@@ -9,7 +9,7 @@ use Rattle.lrpar_table_pops.proofs.GoodLemmas.{both_lead}
 use Rattle.lrpar_table_pops.proofs.good.good_above.Goals as goal
 
 pub new-requires : goal.new-requires
-new-requires g c = let is = c.stable-lemma.ensures.checked.safe.shape.states in let low = c.requires in omega (arith, is, low)
+new-requires g c = let is = c.stable-lemma.ensures.sound.safe.shape.states in let low = c.requires in omega (arith, is, low)
 
 pub loop-place-init : goal.loop-place-init
 loop-place-init g c = record {
@@ -48,6 +48,6 @@ returns g c =
     let len = c.len-place-end.ensures in
     record {
       good = both_lead d.grammar d.table c.args.good.now c.args.reduced.now l.above l.invariant.good;
-      all = ways_good_all d.grammar d.graph d.table c.stable-lemma.ensures.checked.safe (g.StorageT.StorageIndex.index c.args.next.0) c.args.good.now c.args.reduced.now l.above
+      all = ways_good_all d.grammar d.graph d.table c.stable-lemma.ensures.sound.safe (g.StorageT.StorageIndex.index c.args.next.0) c.args.good.now c.args.reduced.now l.above
           l.place (let same = l.invariant.len in omega (arith, end, len, same)) l.invariant.places l.invariant.all;
     }

@@ -24,7 +24,7 @@ pub returns-in-Accept-clause-reads : goal.returns-in-Accept-clause-reads
 returns-in-Accept-clause-reads g c =
     let index = g.StorageT.StorageIndex.index in
     let action = sym c.requires.action ∙ ap (plain_action index) c.in-Accept.is in
-    let end = (c.stable-lemma.ensures.checked.safe.each S7 (index c.args.next.0) c.requires.next (index c.args.token.0) action).0 in
+    let end = (c.stable-lemma.ensures.sound.safe.each S7 (index c.args.next.0) c.requires.next (index c.args.token.0) action).0 in
     OnTrue_from c.is_good_at.result _ (λ is.
     accept_reads c.args.checked.now.grammar c.args.good.now c.args.reduced.now c.args.checked.now.table (index c.args.next.0) (index c.args.token.0) end action
     (subst (λ (x : Grammar). GoesOn x c.args.good.now c.args.reduced.now Done) c.grm-grm.ensures (OnTrue_at is c.is_good_at.ensures.good)))
@@ -82,7 +82,7 @@ returns-in-Accept-clause-all g c = λ q follows taken.
     let next = index c.args.next.0 in
     let t = index c.args.token.0 in
     let action = sym c.requires.action ∙ ap (plain_action index) c.in-Accept.is in
-    let end = (c.stable-lemma.ensures.checked.safe.each S7 next c.requires.next t action).0 in
+    let end = (c.stable-lemma.ensures.sound.safe.each S7 next c.requires.next t action).0 in
     let done = subst (λ (a : TableAction). FollowsIn gr c.args.pops.now next t a q) (ap (plain_action index) c.in-Accept.is) follows in
     let here = done_reads gr good reduced t q end done taken in
     c.is_good_at.ensures.all (subst (λ (u : ℕ). IsGoodExit c.grm-grm.result.now good reduced Acceptance u) (sym c.from.ensures)

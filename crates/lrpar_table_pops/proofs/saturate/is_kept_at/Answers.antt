@@ -28,7 +28,7 @@ returns-then-from-number g c = λ kept.
     let read = rw c.stable.ensures.table at (c.actions_at.ensures.actions c.loop-place.place c.index-tokens-place.result c.index-actions-place.result c.loop-place-test.true
     c.index-tokens-place.is c.index-actions-place.is) in
     let acts : action_of d.table s number ≡ action = ap (action_of d.table s) (sym at) ∙ read in
-    let right = kept_right d.grammar d.graph d.table c.stable.ensures.checked.safe s number (action_of d.table s number) refl kept in
+    let right = kept_right d.grammar d.graph d.table c.stable.ensures.sound.safe s number (action_of d.table s number) refl kept in
     let here = subst (λ (x : Grammar). (t : ℕ) → IsRightAction x t action → IsKeptBy x action → IsTrue c.is_kept_by.result) c.grm.ensures c.is_kept_by.ensures in
     here number (subst (IsRightAction d.grammar number) acts right) (subst (IsKeptBy d.grammar) acts kept)
 

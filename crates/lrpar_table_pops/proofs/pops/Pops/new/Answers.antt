@@ -12,22 +12,17 @@ use Rattle.lrpar_table_pops.proofs.pops.Pops.new.Goals as goal
 pub add_round-requires-clause-alone : goal.add_round-requires-clause-alone
 add_round-requires-clause-alone g c =
     let d = c.args.checked.now in
-    safe_alone d.grammar d.graph d.table c.stable.ensures.checked.safe (subst FailsPastStates c.stable-3.ensures.table c.states_len.ensures.no_action)
+    let sound = c.stable.ensures.sound in
+    safe_alone d.grammar d.graph d.table sound.safe sound.states
 
 pub add_round-requires-clause-sound : goal.add_round-requires-clause-sound
-add_round-requires-clause-sound g c = record {
-  safe = c.stable.ensures.checked.safe;
-  closed = c.stable.ensures.checked.closed;
-  states = subst FailsPastStates c.stable-3.ensures.table c.states_len.ensures.no_action;
-  tokens = subst FailsPastTokens c.stable.ensures.table c.tokens_len.ensures.end;
-  rules = subst HasNoGotoPastRules c.stable-2.ensures.table c.rules_len.ensures.end;
-}
+add_round-requires-clause-sound g c = c.stable.ensures.sound
 
 pub rounds-init : goal.rounds-init
 rounds-init g c =
     let d = c.args.checked.now in
     let made = c.in_ok-changed.ensures.items_if_clones_equal (λ y same. same) in
-    let states = c.states_len.ensures.states ∙ ap states_len c.stable-3.ensures.table in
+    let states = c.states_len.ensures.states ∙ ap states_len c.stable.ensures.table in
     record {
       pops = c.in_ok-pops.ensures.pops;
       places = c.in_ok-pops.ensures.places;
@@ -51,11 +46,5 @@ pub returns-then-not-branch-clause-all : goal.returns-then-not-branch-clause-all
 returns-then-not-branch-clause-all g c =
     let d = c.args.checked.now in
     let round = c.in_ok-add_round.ensures.all in
-    let sound : IsSoundTable d.grammar d.graph d.table = record {
-      safe = c.stable.ensures.checked.safe;
-      closed = c.stable.ensures.checked.closed;
-      states = subst FailsPastStates c.stable-3.ensures.table c.states_len.ensures.no_action;
-      tokens = subst FailsPastTokens c.stable.ensures.table c.tokens_len.ensures.end;
-      rules = subst HasNoGotoPastRules c.stable-2.ensures.table c.rules_len.ensures.end;
-    } in
+    let sound = c.stable.ensures.sound in
     all_settled d.grammar d.graph d.table c.add_round.new.self c.add_round.new.changed.items sound round.closed (OnFalse_at c.if-not-branch.true round.marks)

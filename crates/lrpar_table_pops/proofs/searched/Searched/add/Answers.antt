@@ -20,6 +20,9 @@ returns-then-is_covered-clause-met g c = λ stack there.
     subst (λ (x : Stack g.row.StorageT.Denot). IsMet index gr table stacks x next) (at_same stacks c.args.place under stack at there)
     (covered_met index gr table stacks under next c.in_ok-good.good (OnTrue_at c.if-is_covered.true c.is_covered.ensures) leads)
 
+pub returns-then-is_covered-clause-all_good : goal.returns-then-is_covered-clause-all_good
+returns-then-is_covered-clause-all_good g c = λ all_good all_reduced. all_good
+
 pub returns-clause-stacks : goal.returns-clause-stacks
 returns-clause-stacks g c =
     let index = g.StorageT.StorageIndex.index in
@@ -29,7 +32,7 @@ returns-clause-stacks g c =
     let under = c.index.result.now in
     let new : Stack g.row.StorageT.Denot = record { below = c.args.place; top = c.args.next; good = c.in_ok-good.good } in
     let at : IsStackAt stacks c.args.place under = at_read stacks c.args.place under c.requires.place c.index.ensures in
-    let within = joined_within table (index under.top.0) (index c.args.next.0) c.stable-lemma.ensures.checked.closed (c.requires.joined under at) in
+    let within = joined_within table (index under.top.0) (index c.args.next.0) c.stable-lemma.ensures.sound.closed (c.requires.joined under at) in
     subst (λ (l : List (Stack g.row.StorageT.Denot)). AreStacks index gr table l) (sym c.in_ok-push.ensures)
     (stacks_pushed index gr table stacks new c.requires.stacks c.requires.place c.requires.joined within)
 
@@ -64,6 +67,7 @@ returns-clause-all_good g c =
     let under = c.index.result.now in
     let new : Stack g.row.StorageT.Denot = record { below = c.args.place; top = c.args.next; good = c.in_ok-good.good } in
     let at : IsStackAt stacks c.args.place under = at_read stacks c.args.place under c.requires.place c.index.ensures in
+    λ all_good all_reduced.
     subst (λ (l : List (Stack g.row.StorageT.Denot)). AreAllGood index d.grammar d.graph d.table l) (sym c.in_ok-push.ensures)
-    (all_good_pushed index d.grammar d.graph d.table c.requires.sound stacks new under c.args.reduced.now c.requires.stacks c.requires.all_good at
-    (c.requires.joined under at) (c.requires.all_reduced under at) c.in_ok-good.ensures.all)
+    (all_good_pushed index d.grammar d.graph d.table c.requires.sound stacks new under c.args.reduced.now c.requires.stacks all_good at
+    (c.requires.joined under at) (all_reduced under at) c.in_ok-good.ensures.all)

@@ -44,13 +44,14 @@ add_shift-requires-clause-joined g c = λ next shift.
 pub shifts-init : goal.shifts-init
 shifts-init g c = record {
   stacks = c.requires.stacks;
-  all_good = c.requires.all_good;
+  all_good = λ pops good. good;
   keeps = keeps_all c.args.self.now.stacks.items;
   met = λ action there. absurd (contains_none action there);
 }
 
 pub shifts-preserved : goal.shifts-preserved
 shifts-preserved g c =
+    let graph = c.args.checked.now.graph in
     let index = g.StorageT.StorageIndex.index in
     let gr = c.args.checked.now.grammar in
     let table = c.args.checked.now.table in
@@ -62,7 +63,15 @@ shifts-preserved g c =
     let low : c.args.place < length now = omega (arith, place, more) in
     record {
       stacks = added.stacks;
-      all_good = added.all_good;
+      all_good = λ pops good.
+          let under = c.index-stack.result.now in
+          let old = c.args.self.now.stacks.items in
+          let at = at_read old c.args.place under c.requires.place c.index-stack.ensures in
+          let reduced = c.in_ok-reduced.reduced.items in
+          let leads = reductions_all gr graph table c.requires.sound c.args.pops.now pops under.good reduced c.in_ok-reduced.ensures.room
+          (index under.top.0) (c.requires.stacks.within c.args.place under at) c.in_ok-reduced.ensures.all in
+          added.all_good (c.shifts.invariant.all_good pops good) (subst (AreAllReductionsAt index gr graph table now c.args.place) (sym c.deref.ensures.value)
+          (all_reductions_at index gr table old now c.shifts.invariant.keeps c.args.place under at graph reduced leads));
       keeps = keeps_then c.args.self.now.stacks.items now new c.shifts.invariant.keeps added.keeps;
       met = each_more (IsShiftMetAt index gr table new c.args.place) c.actions_of.result.1.now c.shifts.action-index c.action-item.result c.shifts-test.true
           c.action-item.is
@@ -128,6 +137,7 @@ add-requires-clause-joined g c =
 
 pub gotos-preserved : goal.gotos-preserved
 gotos-preserved g c =
+    let graph = c.args.checked.now.graph in
     let index = g.StorageT.StorageIndex.index in
     let gr = c.args.checked.now.grammar in
     let table = c.args.checked.now.table in
@@ -139,7 +149,15 @@ gotos-preserved g c =
     let low : c.args.place < length now = omega (arith, place, more) in
     record {
       stacks = added.stacks;
-      all_good = added.all_good;
+      all_good = λ pops good.
+          let under = c.index-stack.result.now in
+          let old = c.args.self.now.stacks.items in
+          let at = at_read old c.args.place under c.requires.place c.index-stack.ensures in
+          let reduced = c.in_ok-reduced.reduced.items in
+          let leads = reductions_all gr graph table c.requires.sound c.args.pops.now pops under.good reduced c.in_ok-reduced.ensures.room
+          (index under.top.0) (c.requires.stacks.within c.args.place under at) c.in_ok-reduced.ensures.all in
+          added.all_good (c.gotos.invariant.all_good pops good) (subst (AreAllReductionsAt index gr graph table now c.args.place) (sym c.deref-in-gotos.ensures.value)
+          (all_reductions_at index gr table old now c.gotos.invariant.keeps c.args.place under at graph reduced leads));
       keeps = keeps_then c.args.self.now.stacks.items now new c.gotos.invariant.keeps added.keeps;
       shifts = shifts_kept index gr table now new added.keeps c.args.place low c.gotos.invariant.shifts;
       met = each_more (λ (x : StIdx g.row.StorageT.Denot). IsMetAt index gr table new c.args.place (index x.0)) c.gotos_of.result.1.now c.gotos.next-index
@@ -166,31 +184,3 @@ returns-clause-gone_on g c =
     goto_read index c.stable-2.result.now table c.stable-2.ensures.table under.top next c.gotos_of.result.0.now nexts by.entries by.states by.exact by.within in
     let state = Contains-preimage (λ (x : StIdx g.row.StorageT.Denot). index x.0) nexts next (read.1 goto) in
     subst (IsMetAt index gr table now c.args.place) state.2 (all state.0 state.1))
-
-pub add_shift-requires-clause-all_reduced : goal.add_shift-requires-clause-all_reduced
-add_shift-requires-clause-all_reduced g c =
-    let index = g.StorageT.StorageIndex.index in
-    let d = c.args.checked.now in
-    let old = c.args.self.now.stacks.items in
-    let under = c.index-stack.result.now in
-    let at = at_read old c.args.place under c.requires.place c.index-stack.ensures in
-    let now = c.shifts.self.stacks.items in
-    let reduced = c.in_ok-reduced.reduced.items in
-    let leads = reductions_all d.grammar d.graph d.table c.requires.sound c.args.pops.now c.requires.all_pops under.good reduced c.in_ok-reduced.ensures.room
-    (index under.top.0) (c.requires.stacks.within c.args.place under at) c.in_ok-reduced.ensures.all in
-    subst (AreAllReductionsAt index d.grammar d.graph d.table now c.args.place) (sym c.deref.ensures.value)
-    (all_reductions_at index d.grammar d.table old now c.shifts.invariant.keeps c.args.place under at d.graph reduced leads)
-
-pub add-requires-clause-all_reduced : goal.add-requires-clause-all_reduced
-add-requires-clause-all_reduced g c =
-    let index = g.StorageT.StorageIndex.index in
-    let d = c.args.checked.now in
-    let old = c.args.self.now.stacks.items in
-    let under = c.index-stack.result.now in
-    let at = at_read old c.args.place under c.requires.place c.index-stack.ensures in
-    let now = c.gotos.self.stacks.items in
-    let reduced = c.in_ok-reduced.reduced.items in
-    let leads = reductions_all d.grammar d.graph d.table c.requires.sound c.args.pops.now c.requires.all_pops under.good reduced c.in_ok-reduced.ensures.room
-    (index under.top.0) (c.requires.stacks.within c.args.place under at) c.in_ok-reduced.ensures.all in
-    subst (AreAllReductionsAt index d.grammar d.graph d.table now c.args.place) (sym c.deref-in-gotos.ensures.value)
-    (all_reductions_at index d.grammar d.table old now c.gotos.invariant.keeps c.args.place under at d.graph reduced leads)

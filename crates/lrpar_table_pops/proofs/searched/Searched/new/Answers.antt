@@ -16,7 +16,7 @@ returns-clause-stacks g c =
     let start = c.start_state.ensures.start ∙ ap (λ (t : Table). t.start) c.stable-stable.ensures.table in
     let are = c.in_ok-push-2.ensures ∙ ap (λ (l : List (Stack g.row.StorageT.Denot)). l ++ first ∷ []) c.new-stacks.ensures.items in
     subst (λ (l : List (Stack g.row.StorageT.Denot)). AreStacks index gr table l) (sym are)
-    (stacks_start index gr table first start c.stable-stable.ensures.checked.closed.start_within c.in_ok-good.ensures.good)
+    (stacks_start index gr table first start c.stable-stable.ensures.sound.closed.start_within c.in_ok-good.ensures.good)
 
 pub returns-clause-all_good : goal.returns-clause-all_good
 returns-clause-all_good g c =
