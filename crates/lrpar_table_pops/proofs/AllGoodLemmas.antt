@@ -7,7 +7,7 @@ use Rattle.lrpar_table_rows.specs.Graph.{Graph}
 use Rattle.lrpar_table_rows.specs.Safe.{GoesBy, IsSafe}
 use Rattle.lrpar_table_rows.specs.Table.{FailsPastTokens, IsClosed, Table, action_of, states_len}
 use Rattle.lrpar_table_pops.specs.AllGood.{AreAllGoodOver, AreAllIncluded, AreReductionsClosed, HasAllAbove, IsGoodControl, LeadToAll}
-use Rattle.lrpar_table_pops.specs.Closed.{AreAllPopsOf, IsLeft, IsBackIn, IsIncluded}
+use Rattle.lrpar_table_pops.specs.Closed.{AreAllPopsOf, IsBackIn, IsIncluded}
 use Rattle.lrpar_table_pops.specs.Growth.{HaveRoomFor, IsStored}
 use Rattle.lrpar_table_pops.specs.Pops.{Control, Done, Dropping, Pops, PopsAll, Reading, accepts, drops, ends, goes, reduces, shifts}
 use Rattle.lrpar_table_pops.specs.StoredPops.{any_of}

@@ -1,19 +1,16 @@
 -- Why exits that are closed are all there are: by recursion on how a run leaves a state. Each control that it passes has its place in the
 -- state, since the table is safe.
-use Rattle.std.proofs.Common.{◌≡◌, ◌≢◌, ◌<◌, ◌+◌, ◌⊎◌, ◌∙◌, inl, inr, refl, sym, ap, subst, arith, add-one, ℕ, zero, suc, Bool, List, Option, Some, None}
-use Rattle.std.specs.Prelude.{IsTrue}
+use Rattle.std.proofs.Common.{◌≡◌, ◌≢◌, ◌<◌, ◌∙◌, inl, inr, refl, sym, ap, subst, arith, add-one, ℕ, zero, suc, Bool, List, Option, Some, None}
 use Rattle.std.proofs.lemmas.Bool.{cases_lt}
 use Rattle.lrpar_grammar.specs.Grammar.{Grammar, GrammarSymbol, Nonterminal, Terminal, end_token, prod_len, prods_len, rule_of, tokens_len}
-use Rattle.lrpar_grammar.specs.Tokens.{has}
 use Rattle.lrpar_table_rows.specs.Graph.{Graph, HasCore}
 use Rattle.lrpar_table_rows.specs.Safe.{GoesBy, IsSafe}
-use Rattle.lrpar_table_rows.specs.Table.{Table, TableAction, ShiftTo, ReduceBy, Accepts, Fails, FailsPastTokens, IsClosed, action_of, goto_of, states_len}
+use Rattle.lrpar_table_rows.specs.Table.{Table, TableAction, ShiftTo, ReduceBy, Accepts, Fails, FailsPastTokens, IsClosed, action_of, states_len}
 use Rattle.lrpar_table_rows.specs.declared.condition.SafetyCondition.TheVariants.{S4, S5}
 use Rattle.lrpar_table_pops.specs.Closed.{AreAllPopsOf, AreClosed, ClosedExitsAreAll, FollowsIn, IsClosedWith, IsKeptBy, IsLeft, IsBackIn, IsIncluded, StartsIn}
 use Rattle.lrpar_table_pops.specs.Growth.{IsStored}
 use Rattle.lrpar_table_pops.specs.Found.{IsOneOf}
 use Rattle.lrpar_table_pops.specs.Pops.{Control, Done, Dropping, Pops, Reading, accepts, drops, ends, goes, reduces, shifts}
-use Rattle.lrpar_table_pops.specs.Sets.{tokens_by}
 use Rattle.lrpar_table_pops.specs.StoredPops.{any_of, at_of}
 use Rattle.lrpar_table_pops.specs.declared.exits.Exit.{Exit}
 use Rattle.lrpar_table_pops.specs.declared.pops.StateExits.{StateExits}

@@ -1,15 +1,15 @@
 -- Entries that are read one by one.
-use Rattle.std.proofs.Common.{◌≡◌, ◌≢◌, ◌<◌, ◌≤◌, ◌∙◌, ap, refl, suc, zero, sym, arith, ℕ, List, [], ◌∷◌, Some, length, slice_get, slice_index_or}
+use Rattle.std.proofs.Common.{◌≡◌, ◌<◌, ◌∙◌, ap, refl, suc, zero, sym, arith, ℕ, List, [], ◌∷◌, Some, length, slice_get, slice_index_or}
 use Rattle.lrpar_grammar_places.specs.declared.span.RIdx.{RIdx}
 use Rattle.lrpar_grammar_places.specs.declared.span.StIdx.{StIdx}
 use Rattle.lrpar_grammar_places.specs.declared.span.TIdx.{TIdx}
 use Rattle.lrpar_table_rows.specs.PlainRows.{plain_action}
 use Rattle.lrpar_table_rows.specs.StoredRows.{AreActionsAt, AreGotosAt, StoresActionsAt, StoresGotosAt}
-use Rattle.lrpar_table_rows.specs.Table.{Fails, Table, action_of, actions_at, goto_of, gotos_at}
+use Rattle.lrpar_table_rows.specs.Table.{Table, action_of, actions_at, gotos_at}
 use Rattle.lrpar_table_rows.specs.declared.rows.Action.{Action}
 use Rattle.lrpar_table_rows.proofs.StoredLemmas.{entries_len, entry_at, entry_read}
 use Rattle.std.proofs.lemmas.Option.{get_or_from_slice_get}
-use Rattle.lrpar_table_pops.specs.Entries.{AreActionsOf, AreAllRulesOf, AreAllTokensOf, AreGotosOf, HasRule, HasToken}
+use Rattle.lrpar_table_pops.specs.Entries.{AreActionsOf, AreAllRulesOf, AreAllTokensOf, AreGotosOf}
 
 -- there is an element at each place
 pub element_at : {X : Type 0} (xs : List X) (i : ℕ) → i < length xs → (x : X) × (slice_get xs i ≡ Some x)

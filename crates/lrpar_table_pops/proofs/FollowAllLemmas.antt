@@ -1,5 +1,5 @@
 -- What follows for a state, when nothing is left out.
-use Rattle.std.proofs.Common.{◌≡◌, ◌≢◌, ◌<◌, ◌≤◌, ◌+◌, ◌-◌, ◌⊎◌, ◌∙◌, inl, inr, refl, sym, ap, subst, arith, add-one, ℕ, zero, suc, Bool, true, false, Global, List, [], Some, Vec, length, slice_get, slice_index_or, take}
+use Rattle.std.proofs.Common.{◌≡◌, ◌≢◌, ◌≤◌, ◌+◌, ◌-◌, ◌∙◌, inl, inr, refl, sym, ap, subst, arith, ℕ, Bool, true, false, List, [], Some, length, slice_get}
 use Rattle.std.specs.Prelude.{IsTrue}
 use Rattle.std.specs.Bool.{OnFalse}
 use Rattle.std.proofs.lemmas.Bool.{cases_lt}
@@ -8,14 +8,14 @@ use Rattle.lrpar_grammar_places.specs.declared.span.RIdx.{RIdx}
 use Rattle.lrpar_grammar_places.specs.declared.span.StIdx.{StIdx}
 use Rattle.lrpar_grammar_places.specs.declared.span.TIdx.{TIdx}
 use Rattle.lrpar_table_pops.specs.Entries.{AreAllRulesOf, AreAllTokensOf}
-use Rattle.lrpar_grammar.specs.Grammar.{Grammar, end_token, prod_len, prods_len}
+use Rattle.lrpar_grammar.specs.Grammar.{Grammar, end_token, prod_len}
 use Rattle.lrpar_grammar.specs.Tokens.{has}
 use Rattle.lrpar_table_rows.specs.Graph.{Graph}
-use Rattle.lrpar_table_rows.specs.Table.{Accepts, Fails, ReduceBy, ShiftTo, Table, TableAction, action_of, goto_of}
-use Rattle.lrpar_table_pops.specs.Closed.{FollowsIn, IsBackIn, IsIncluded, StartsIn}
-use Rattle.lrpar_table_pops.specs.FollowAll.{AreAllDone, AreRightActions, AreRulesDone, AreTokensDone, IsFollowing, IsRightAction, IsRuleDone, KeepsFollowing}
-use Rattle.lrpar_table_pops.specs.FoundAll.{FindsAll, FollowsOnly, AreExitsFor, HasRoomFor, IsAmong, IsDone, IsFoundIn, IsUnchanged, SetsGrowBy}
-use Rattle.lrpar_table_pops.specs.Growth.{HasLookahead, HaveRoomFor, IsStored, KeepRoom, SomeHasLookahead}
+use Rattle.lrpar_table_rows.specs.Table.{Fails, ReduceBy, Table, action_of, goto_of}
+use Rattle.lrpar_table_pops.specs.Closed.{FollowsIn, IsIncluded}
+use Rattle.lrpar_table_pops.specs.FollowAll.{AreAllDone, AreRightActions, AreRulesDone, AreTokensDone, IsRuleDone, KeepsFollowing}
+use Rattle.lrpar_table_pops.specs.FoundAll.{FindsAll, FollowsOnly, AreExitsFor, HasRoomFor, IsAmong, IsDone, IsFoundIn, IsUnchanged}
+use Rattle.lrpar_table_pops.specs.Growth.{HaveRoomFor, IsStored, KeepRoom, SomeHasLookahead}
 use Rattle.lrpar_table_pops.specs.Pops.{Control, Done, Dropping, Reading}
 use Rattle.lrpar_table_pops.specs.Sets.{tokens_by}
 use Rattle.lrpar_table_pops.specs.StoredPops.{at_of}

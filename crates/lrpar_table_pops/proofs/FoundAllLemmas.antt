@@ -7,8 +7,8 @@ use Rattle.lrpar_grammar.specs.Grammar.{Grammar, end_token, prods_len, rule_of, 
 use Rattle.lrpar_grammar.specs.Tokens.{has}
 use Rattle.lrpar_table_rows.specs.Graph.{Graph}
 use Rattle.lrpar_table_pops.specs.Closed.{IsBackIn, IsIncluded}
-use Rattle.lrpar_table_pops.specs.FoundAll.{FindsAll, AreExitsFor, HasRoomFor, IsAmong, IsFoundIn, SetsGrowBy}
-use Rattle.lrpar_table_pops.specs.Growth.{AddsAll, GrowsBy, HasLookahead, HaveRoom, HaveRoomFor, KeepRoom, SomeHasLookahead}
+use Rattle.lrpar_table_pops.specs.FoundAll.{FindsAll, AreExitsFor, IsAmong, IsFoundIn, SetsGrowBy}
+use Rattle.lrpar_table_pops.specs.Growth.{AddsAll, GrowsBy, HasLookahead, HaveRoomFor, KeepRoom, SomeHasLookahead}
 use Rattle.lrpar_table_pops.specs.Pops.{Control, Done, Dropping, Reading}
 use Rattle.lrpar_table_pops.specs.Sets.{tokens_by}
 use Rattle.lrpar_table_pops.specs.declared.exits.Exit.{Exit}

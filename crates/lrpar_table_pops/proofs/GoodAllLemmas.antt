@@ -1,9 +1,8 @@
 -- Why no good exit is left out: each test of an exit that is good comes out true.
-use Rattle.std.proofs.Common.{◌≡◌, ◌≢◌, ◌<◌, ◌≤◌, ◌+◌, ◌-◌, ◌⊎◌, ◌∙◌, inl, inr, refl, sym, ap, subst, arith, add-one, ℕ, zero, suc, Bool, true, false, List, [], ◌∷◌, Option, Some, None, get_or, length, map, slice_get, take}
+use Rattle.std.proofs.Common.{◌≡◌, ◌≢◌, ◌<◌, ◌≤◌, ◌+◌, ◌-◌, ◌⊎◌, ◌∙◌, inl, inr, refl, sym, ap, subst, arith, add-one, ℕ, zero, suc, Bool, List, [], ◌∷◌, Some, get_or, length, slice_get, take}
 use Rattle.std.proofs.Math.ListN.{set}
 use Rattle.std.proofs.Math.Seq.{map-set_same}
 use Rattle.std.specs.Prelude.{Contains, IsTrue}
-use Rattle.std.specs.Bool.{OnFalse}
 use Rattle.std.proofs.lemmas.Bool.{cases_lt}
 use Rattle.std.proofs.lemmas.Option.{same_Some, slice_get_within}
 use Rattle.lrpar_grammar_places.specs.declared.span.RIdx.{RIdx}
@@ -12,7 +11,7 @@ use Rattle.lrpar_grammar_places.specs.declared.span.TIdx.{TIdx}
 use Rattle.lrpar_grammar.specs.Grammar.{Grammar, end_token, prod_len, prods_len, rule_of, tokens_len}
 use Rattle.lrpar_grammar.specs.Tokens.{has}
 use Rattle.lrpar_table_rows.specs.Graph.{Graph}
-use Rattle.lrpar_table_rows.specs.Table.{Fails, ReduceBy, Table, TableAction, action_of, goto_of}
+use Rattle.lrpar_table_rows.specs.Table.{ReduceBy, Table, action_of, goto_of}
 use Rattle.lrpar_table_pops.specs.AllGood.{AreReductionsClosed, HasAllAbove, IsGoodExit, IsGoodControl, IsTokenClosed}
 use Rattle.lrpar_table_pops.specs.Closed.{FollowsIn, IsLeft, IsIncluded}
 use Rattle.lrpar_table_rows.specs.Safe.{IsSafe}
@@ -27,10 +26,9 @@ use Rattle.lrpar_table_pops.specs.declared.exits.Exit.{Exit}
 use Rattle.lrpar_table_pops.specs.declared.exits.Way.{Way}
 use Rattle.lrpar_table_pops.specs.declared.exits.Way.TheVariants.{Acceptance, Reduction}
 use Rattle.lrpar_table_pops.specs.declared.pops.StateExits.{StateExits}
-use Rattle.lrpar_table_pops.proofs.GrowthLemmas.{grows_none, some_has, some_more}
+use Rattle.lrpar_table_pops.proofs.GrowthLemmas.{grows_none, some_has}
 use Rattle.lrpar_table_pops.proofs.StoredAllLemmas.{grows_by}
 use Rattle.lrpar_table_pops.proofs.SaturateLemmas.{follows_acts}
-use Rattle.lrpar_table_pops.proofs.SetLemmas.{none_past}
 
 -- the ways stay
 pub ways_set : (exits now : List Exit) (place : ℕ) (old : Exit) (tokens : List Bool) → exits ≡ now → old ≡ get_or exits place old

@@ -1,5 +1,5 @@
 -- Exits, as they grow.
-use Rattle.std.proofs.Common.{◌≡◌, ◌<◌, ◌≤◌, ◌+◌, ◌⊎◌, ◌∙◌, inl, inr, suc, zero, ◌∷◌, [], refl, sym, ap, subst, arith, add-one, ℕ, Bool, List, Option, Some, get_or, length, slice_get, take}
+use Rattle.std.proofs.Common.{◌≡◌, ◌<◌, ◌≤◌, ◌+◌, ◌⊎◌, ◌∙◌, inl, inr, suc, zero, ◌∷◌, [], refl, sym, ap, subst, arith, add-one, ℕ, Bool, List, Some, get_or, length, slice_get, take}
 use Rattle.std.proofs.Math.ListN.{set}
 use Rattle.std.specs.Prelude.{Contains, IsTrue}
 use Rattle.std.proofs.lemmas.Bool.{cases_eq, cases_lt}
@@ -7,9 +7,7 @@ use Rattle.std.proofs.lemmas.Grind.{get_or-set_at}
 use Rattle.std.proofs.lemmas.Option.{get_or_from_slice_get, same_Some, slice_get-get_or, slice_get_within}
 use Rattle.std.proofs.lemmas.List.{get_or-set_other, length-set, take_all}
 use Rattle.lrpar_grammar.specs.Tokens.{has}
-use Rattle.lrpar_table_pops.specs.Exits.{IsIndexOf}
-use Rattle.lrpar_table_pops.specs.Growth.{AddsAll, AreLookaheadsOf, GrowsBy, HasLookahead, HasWay, HaveRoom, IsFirstOf, KeepsWays, IsStored, SomeHasLookahead}
-use Rattle.lrpar_table_pops.specs.Pops.{Control}
+use Rattle.lrpar_table_pops.specs.Growth.{AddsAll, AreLookaheadsOf, GrowsBy, HasLookahead, HasWay, IsFirstOf, KeepsWays, SomeHasLookahead}
 use Rattle.lrpar_table_pops.specs.declared.exits.Exit.{Exit}
 use Rattle.lrpar_table_pops.specs.declared.exits.Way.{Way}
 use Rattle.lrpar_table_pops.proofs.ExitLemmas.{before_more, contains_set}

@@ -1,16 +1,25 @@
 -- Tables with some of the actions of another one. They are safe if that is, and what runs over them take off, its runs take off.
-use Rattle.std.proofs.Common.{◌≡◌, ◌≢◌, ◌≤◌, ◌<◌, ◌∙◌, ap, inl, inr, refl, subst, sym, ℕ, List, Option, Some, None}
-use Rattle.lrpar_grammar.specs.Grammar.{Grammar, GrammarSymbol, Nonterminal, Terminal, end_token, prod_len, rule_of, start_prod}
-use Rattle.lrpar_table_rows.specs.Graph.{Graph, HasCore}
-use Rattle.lrpar_table_rows.specs.Safe.{GoesBy, IsSafe, IsSafeAt}
-use Rattle.lrpar_table_rows.specs.Table.{Accepts, Fails, IsClosed, ReduceBy, ShiftTo, Table, TableAction, action_of, goto_of, states_len}
+use Rattle.std.proofs.Common.{arith, Bool, length, slice_index_or, ◌≡◌, ◌≢◌, ◌≤◌, ◌<◌, ◌∙◌, inl, inr, refl, subst, sym, ℕ, List, Some}
+use Rattle.lrpar_grammar.specs.Grammar.{Grammar, GrammarSymbol, Nonterminal, Terminal, end_token, prod_len, rule_of}
+use Rattle.lrpar_table_rows.specs.Graph.{Graph}
+use Rattle.lrpar_table_rows.specs.Safe.{GoesBy, IsSafeAt}
+use Rattle.lrpar_table_rows.specs.Table.{Accepts, Fails, ReduceBy, ShiftTo, StoresActions, Table, TableAction, action_of, actions_at, goto_of, states_len}
 use Rattle.lrpar_table_rows.specs.declared.condition.SafetyCondition.{SafetyCondition}
 use Rattle.lrpar_table_rows.specs.declared.condition.SafetyCondition.TheVariants.{S2, S3, S4, S5, S6, S7, S8}
-use Rattle.lrpar_table_pops.specs.Exits.{HasExit}
+use Rattle.lrpar_grammar_places.specs.declared.span.StIdx.{StIdx}
+use Rattle.lrpar_grammar_places.specs.declared.span.TIdx.{TIdx}
+use Rattle.lrpar_table_rows.specs.PlainRows.{plain_action}
+use Rattle.lrpar_table_rows.specs.StoredRows.{AreActionsAt, IsActionAt}
+use Rattle.lrpar_table_rows.specs.declared.rows.Action.{Action}
+use Rattle.lrpar_table_rows.proofs.StoredLemmas.{entries_len, entry_read}
+use Rattle.lrpar_table_pops.specs.AllGood.{IsTokenClosed}
+use Rattle.lrpar_table_pops.specs.Closed.{FollowsIn}
+use Rattle.lrpar_table_pops.specs.declared.exits.Exit.{Exit}
+use Rattle.lrpar_table_pops.proofs.TransitionLemmas.{action_read}
 use Rattle.lrpar_table_pops.specs.Parts.{IsPartOf}
-use Rattle.lrpar_table_pops.specs.Pops.{Control, Done, Dropping, Pops, Reading, accepts, drops, ends, goes, reduces, shifts}
+use Rattle.lrpar_table_pops.specs.Pops.{Control, Dropping, Pops, Reading, accepts, drops, ends, goes, reduces, shifts}
 use Rattle.lrpar_table_pops.specs.StoredAll.{IsSoundTable}
-use Rattle.lrpar_table_pops.specs.StoredPops.{ArePopsOf, any_of, at_of}
+use Rattle.lrpar_table_pops.specs.StoredPops.{ArePopsOf}
 use Rattle.lrpar_table_pops.specs.declared.pops.StateExits.{StateExits}
 
 module _ (whole part : Table) (is : IsPartOf whole part) where
@@ -102,3 +111,32 @@ pub sound_same : (g h : Grammar) (graph sets : Graph) (table other : Table) → 
 sound_same g h graph sets table other same_g same_graph same_table sound =
     subst (λ (x : Grammar). IsSoundTable x sets other) (sym same_g)
     (subst (λ (x : Graph). IsSoundTable g x other) (sym same_graph) (subst (IsSoundTable g graph) (sym same_table) sound))
+
+-- a table is a part of itself
+pub itself_part : (table : Table) → IsPartOf table table
+itself_part table = record { start = refl; states = refl; tokens = refl; rules = refl; actions = λ s t. inr refl; gotos = λ s r. refl }
+
+module _ {S : Type 0} (index : S → ℕ) (whole part : Table) (is : IsPartOf whole part) (s : StIdx S) (ts : List (TIdx S)) (actions : List (Action S))
+    (entries : AreActionsAt index part s ts actions) (paired : length actions ≡ length ts) (exact : StoresActions part (index s.0))
+    (place : ℕ) (token : TIdx S) (action : Action S) (low : place < length ts) (token_at : token ≡ slice_index_or ts place token)
+    (action_at : action ≡ slice_index_or actions place action) where
+  -- an action that was read of the part is that of the whole table
+  pub same_action : action_of part (index s.0) (index token.0) ≡ action_of whole (index s.0) (index token.0)
+  same_action =
+      let es = actions_at part (index s.0) in
+      let read = entry_read (λ (t : TIdx S). index t.0) (plain_action index) ts actions es paired entries place token action low token_at action_at in
+      let len = entries_len (λ (t : TIdx S). index t.0) (plain_action index) ts actions es paired entries in
+      let acts = (exact (index token.0) (plain_action index action)).0 (place, omega (arith, len, low), sym read) in
+      elim (is.actions (index s.0) (index token.0)) as (λ _. action_of part (index s.0) (index token.0) ≡ action_of whole (index s.0) (index token.0)) [
+        | inl fails ↦ absurd (acts.1 (sym acts.0 ∙ fails))
+        | inr same ↦ same
+      ]
+
+  pub part_action : IsActionAt index whole s token action
+  part_action = action_read index part s ts actions entries paired exact place token action low token_at action_at ∙ same_action
+
+-- a token at which the part acts as the whole table does is closed for the part if it is closed for that
+pub closed_same : (g : Grammar) (whole part : Table) (states : List StateExits) (good : List Exit) (rule next : ℕ) (reduced : List (List Bool)) (t : ℕ)
+    → action_of part next t ≡ action_of whole next t → IsTokenClosed g whole states good rule next reduced t → IsTokenClosed g part states good rule next reduced t
+closed_same g whole part states good rule next reduced t same closed =
+    λ q follows good_control room. closed q (subst (λ (a : TableAction). FollowsIn g states next t a q) same follows) good_control room

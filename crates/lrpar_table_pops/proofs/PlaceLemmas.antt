@@ -1,6 +1,6 @@
 -- One exit for each core of a state with a symbol before the dot.
-use Rattle.std.proofs.Common.{◌≡◌, ◌<◌, ◌≤◌, ◌+◌, ◌-◌, ◌⊎◌, ◌∙◌, inl, inr, suc, zero, ◌∷◌, ◌++◌, [], refl, sym, ap, subst, arith, add-one, ℕ, List, Some, length, map, slice_get, take}
-use Rattle.std.specs.Prelude.{Contains, ◌↔◌}
+use Rattle.std.proofs.Common.{◌≡◌, ◌≤◌, ◌+◌, ◌-◌, ◌∙◌, inl, inr, suc, zero, ◌∷◌, ◌++◌, [], refl, sym, ap, subst, arith, add-one, ℕ, List, Some, length, map, slice_get, take}
+use Rattle.std.specs.Prelude.{Contains}
 use Rattle.std.proofs.lemmas.List.{length-map, take_all}
 use Rattle.std.proofs.lemmas.List.Elements.{Contains-append_cases, Contains-append_left, Contains-append_right}
 use Rattle.lrpar_grammar.specs.Grammar.{Grammar, tokens_len}
@@ -8,7 +8,7 @@ use Rattle.lrpar_grammar.specs.Tokens.{IsEmptySet}
 use Rattle.lrpar_table_pops.specs.Exits.{HasNoExit}
 use Rattle.lrpar_grammar_places.specs.declared.span.PIdx.{PIdx}
 use Rattle.lrpar_grammar_places.specs.declared.span.StIdx.{StIdx}
-use Rattle.lrpar_table_rows.specs.Graph.{Graph, HasCore}
+use Rattle.lrpar_table_rows.specs.Graph.{Graph}
 use Rattle.lrpar_table_rows.specs.PlainItems.{core_of}
 use Rattle.lrpar_table_rows.specs.StoredItems.{AreKernelCoresAt}
 use Rattle.lrpar_table_pops.specs.FoundAll.{AreExitsFor}

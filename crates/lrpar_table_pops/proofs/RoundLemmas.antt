@@ -1,12 +1,11 @@
 -- Why each state is closed after the rounds: a state is left out only if neither it nor a state that it goes to changed, and it was closed then.
-use Rattle.std.proofs.Common.{◌≡◌, ◌≢◌, ◌<◌, ◌≤◌, ◌+◌, ◌-◌, ◌⊎◌, ◌∙◌, inl, inr, refl, sym, ap, subst, arith, ℕ, zero, suc, Bool, true, false, List, Option, Some, None}
-use Rattle.std.specs.Bool.{OnFalse}
+use Rattle.std.proofs.Common.{◌≡◌, ◌≢◌, ◌<◌, ◌≤◌, ◌+◌, ◌⊎◌, inl, inr, sym, subst, arith, ℕ, Bool, false, List, Some, None}
 use Rattle.std.proofs.lemmas.Bool.{OnFalse_at, cases_eq}
 use Rattle.lrpar_grammar.specs.Grammar.{Grammar}
 use Rattle.lrpar_table_rows.specs.Graph.{Graph}
 use Rattle.lrpar_table_rows.specs.Table.{Table, states_len}
 use Rattle.lrpar_table_pops.specs.Closed.{AreAllPopsOf, AreClosed}
-use Rattle.lrpar_table_pops.specs.StoredAll.{AreSameStored, AreClosedUnlessMarked, HasNoMarks, IsClosedIf, IsClosedState, IsMarked, IsSoundTable, IsUntouched, KeepsMarks, Saturates, stored_of}
+use Rattle.lrpar_table_pops.specs.StoredAll.{AreSameStored, AreClosedUnlessMarked, HasNoMarks, IsClosedIf, IsClosedState, IsMarked, IsSoundTable, IsUntouched, KeepsMarks, Saturates}
 use Rattle.lrpar_table_pops.specs.declared.pops.StateExits.{StateExits}
 use Rattle.lrpar_table_pops.proofs.ClosedLemmas.{closed_exits_are_all}
 use Rattle.lrpar_table_pops.proofs.SaturateLemmas.{closed_local, closed_same}

@@ -1,6 +1,6 @@
 -- The rows of a table with some of the actions of another one.
-use Rattle.std.proofs.Common.{◌≡◌, ◌⊎◌, ◌+◌, Option, Result, ◌<◌, ◌≤◌, ◌++◌, ◌∷◌, ◌∙◌, ap, arith, inl, inr, refl, subst, suc, sym, zero, ℕ, List, [], None, Vec, length, map, slice_index_or, take}
-use Rattle.std.specs.Prelude.{All, Contains, Err, IfOk, IfSome, Ok, nat_eq}
+use Rattle.std.proofs.Common.{◌≡◌, ◌⊎◌, ◌+◌, Option, Result, ◌<◌, ◌≤◌, ◌++◌, ◌∷◌, ◌∙◌, ap, arith, inl, inr, refl, subst, suc, sym, zero, ℕ, List, [], Vec, length, map, slice_index_or, take}
+use Rattle.std.specs.Prelude.{Contains, Err, IfOk, IfSome, Ok, nat_eq}
 use Rattle.std.specs.List.{zip}
 use Rattle.std.specs.Map.{lookup}
 use Rattle.std.specs.Result.{result_ok}
@@ -13,7 +13,7 @@ use Rattle.lrpar_grammar_places.specs.declared.span.StIdx.{StIdx}
 use Rattle.lrpar_grammar_places.specs.declared.span.TIdx.{TIdx}
 use Rattle.lrpar_grammar_places.proofs.ListLemmas.{follows_more}
 use Rattle.lrpar_table_rows.specs.PlainRows.{action_entry, goto_entry, sparse_table_of}
-use Rattle.lrpar_table_rows.specs.Table.{Fails, HasNoGotoPastStates, Table, TableAction, action_of, actions_at, goto_of, gotos_at, states_len}
+use Rattle.lrpar_table_rows.specs.Table.{Fails, HasNoGotoPastStates, Table, TableAction, action_of, goto_of, gotos_at, states_len}
 use Rattle.lrpar_table_rows.specs.declared.rows.Action.{Action}
 use Rattle.lrpar_table_rows.specs.declared.rows.SparseRows.{SparseRows}
 use Rattle.lrpar_table_rows.proofs.EntryLemmas.{action_cases}

@@ -1,6 +1,6 @@
 -- Why the exits of a state are closed if nothing was new: each goto of the state was followed wherever its rule is reduced, and all that was
 -- found is stored.
-use Rattle.std.proofs.Common.{◌≡◌, ◌≢◌, ◌<◌, ◌≤◌, ◌+◌, ◌-◌, ◌⊎◌, ◌∙◌, inl, inr, refl, sym, ap, subst, arith, ℕ, zero, suc, Bool, true, false, List, [], Option, Some, None, length, slice_get}
+use Rattle.std.proofs.Common.{◌≡◌, ◌≢◌, ◌<◌, ◌≤◌, ◌+◌, ◌⊎◌, ◌∙◌, inl, inr, refl, sym, ap, subst, arith, ℕ, zero, suc, Bool, true, false, List, [], Option, Some, None, length, slice_get}
 use Rattle.std.proofs.lemmas.Option.{same_Some, slice_get_within}
 use Rattle.lrpar_grammar_places.specs.declared.span.StIdx.{StIdx}
 use Rattle.lrpar_grammar_places.specs.declared.span.TIdx.{TIdx}
@@ -10,17 +10,17 @@ use Rattle.std.specs.Bool.{OnFalse}
 use Rattle.std.proofs.lemmas.Bool.{cases_lt}
 use Rattle.lrpar_grammar.specs.Grammar.{Grammar, end_token, rules_len, tokens_len}
 use Rattle.lrpar_grammar.specs.Tokens.{has}
-use Rattle.lrpar_table_rows.specs.Graph.{Graph, graph_len}
+use Rattle.lrpar_table_rows.specs.Graph.{Graph}
 use Rattle.lrpar_table_rows.specs.Table.{Fails, ShiftTo, Table, TableAction, Accepts, ReduceBy, action_of, goto_of, states_len}
 use Rattle.lrpar_table_rows.specs.declared.condition.SafetyCondition.TheVariants.{S7}
-use Rattle.lrpar_table_pops.specs.Closed.{AreFollowed, FollowsIn, IsClosedAt, IsClosedWith, IsKeptBy, IsBackIn, IsIncluded, StartsIn}
+use Rattle.lrpar_table_pops.specs.Closed.{AreFollowed, FollowsIn, IsClosedWith, IsKeptBy, IsBackIn, IsIncluded, StartsIn}
 use Rattle.lrpar_table_pops.specs.FollowAll.{AreAllDone, AreRightActions, IsFollowing, IsRightAction, KeepsFollowing}
 use Rattle.lrpar_table_pops.specs.Found.{IsOneOf}
 use Rattle.lrpar_table_pops.specs.FoundAll.{FindsAll, AreExitsFor, HasRoomFor}
-use Rattle.lrpar_table_pops.specs.Growth.{GrowsBy, HasWay, HaveRoomFor, IsStored, KeepRoom, KeepsWays, SomeHasLookahead}
+use Rattle.lrpar_table_pops.specs.Growth.{GrowsBy, HasWay, IsStored, KeepRoom, KeepsWays, SomeHasLookahead}
 use Rattle.lrpar_table_pops.specs.Pops.{Control, Done, Dropping, Reading}
 use Rattle.lrpar_table_pops.specs.Sets.{HaveNoTokens, tokens_by}
-use Rattle.lrpar_table_pops.specs.StoredAll.{AddsToState, AreKept, AreSameStored, HaveAllWays, IsClosedIf, IsClosedState, IsSoundTable, Saturates, SaturatesState, StartsFrom, StartsSoFar, StoresAll, stored_of}
+use Rattle.lrpar_table_pops.specs.StoredAll.{AreSameStored, HaveAllWays, IsClosedIf, IsClosedState, IsSoundTable, Saturates, SaturatesState, StartsFrom, StartsSoFar, StoresAll, stored_of}
 use Rattle.lrpar_table_pops.specs.declared.exits.Exit.{Exit}
 use Rattle.lrpar_table_pops.specs.declared.exits.Way.{Way}
 use Rattle.lrpar_table_pops.specs.declared.exits.Way.TheVariants.{Acceptance, Reduction}

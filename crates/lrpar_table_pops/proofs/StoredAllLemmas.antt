@@ -1,11 +1,11 @@
 -- The exits of states, as they are added to, when nothing is left out.
-use Rattle.std.proofs.Common.{◌≡◌, ◌≢◌, ◌<◌, ◌≤◌, ◌+◌, ◌⊎◌, ◌∙◌, inl, inr, refl, sym, ap, subst, arith, ℕ, zero, suc, Bool, true, false, Global, List, [], ◌∷◌, Option, Some, None, Vec, get_or, length, slice_index_or}
+use Rattle.std.proofs.Common.{◌≡◌, ◌≢◌, ◌<◌, ◌∙◌, inl, inr, refl, sym, ap, subst, arith, ℕ, zero, suc, Bool, true, false, Global, List, [], ◌∷◌, Option, Some, None, Vec, get_or, length, slice_index_or}
 use Rattle.std.proofs.Math.ListN.{set}
 use Rattle.std.specs.Bool.{OnFalse}
 use Rattle.std.proofs.lemmas.Bool.{cases_eq}
 use Rattle.std.proofs.lemmas.Option.{same_Some}
-use Rattle.lrpar_table_pops.specs.Growth.{GrowsBy, HasWay, SomeHasLookahead}
-use Rattle.lrpar_table_pops.specs.StoredAll.{AddsToState, AreSameStored, StoresAll, stored_of}
+use Rattle.lrpar_table_pops.specs.Growth.{GrowsBy, SomeHasLookahead}
+use Rattle.lrpar_table_pops.specs.StoredAll.{AreSameStored, StoresAll, stored_of}
 use Rattle.lrpar_table_pops.specs.declared.exits.Exit.{Exit}
 use Rattle.lrpar_table_pops.specs.declared.exits.Exits.{Exits}
 use Rattle.lrpar_table_pops.specs.declared.exits.Way.{Way}

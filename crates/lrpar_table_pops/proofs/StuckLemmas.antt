@@ -1,11 +1,11 @@
 -- Why a stack of the search whose top has no good exit can't be completed: its exits are all that are good over the states below.
-use Rattle.std.proofs.Common.{◌≡◌, ◌<◌, ◌≤◌, ◌+◌, ◌⊎◌, ◌∙◌, inl, inr, refl, sym, ap, subst, arith, ℕ, zero, suc, Bool, List, [], ◌∷◌, ◌++◌, Some, length, reverse, slice_get}
-use Rattle.std.proofs.lemmas.List.{append_assoc, length-append, length-reverse, map-append, reverse-append, reverse-reverse}
-use Rattle.std.proofs.lemmas.Option.{same_Some, slice_get_within}
+use Rattle.std.proofs.Common.{◌≡◌, ◌<◌, ◌∙◌, inl, inr, refl, sym, ap, subst, arith, ℕ, zero, suc, Bool, List, [], ◌∷◌, ◌++◌, length, reverse}
+use Rattle.std.proofs.lemmas.List.{append_assoc, length-reverse, map-append, reverse-append, reverse-reverse}
+use Rattle.std.proofs.lemmas.Option.{slice_get_within}
 use Rattle.lrpar_grammar.specs.Grammar.{Grammar, Nonterminal, Terminal, end_token}
 use Rattle.lrpar_grammar_places.specs.declared.span.StIdx.{StIdx}
 use Rattle.lrpar_table_rows.specs.Graph.{Graph}
-use Rattle.lrpar_table_rows.specs.Table.{Table, states_len}
+use Rattle.lrpar_table_rows.specs.Table.{Table}
 use Rattle.lrpar_table_stacks.specs.ReductionStep.{FitsGrammar}
 use Rattle.lrpar_table_stacks.specs.Stack.{IsJoined, states_of}
 use Rattle.lrpar_table_pops.specs.AllGood.{AreAllGoodOver, AreAllIncluded, HasAllAbove, LeadToAll}
@@ -13,7 +13,7 @@ use Rattle.lrpar_table_pops.specs.Closed.{AreAllPopsOf}
 use Rattle.lrpar_table_pops.specs.Completable.{IsCompletable}
 use Rattle.lrpar_table_pops.specs.Growth.{HasLookahead, IsStored}
 use Rattle.lrpar_table_pops.specs.Pops.{Control, Done, Dropping, PopsAll, Reading}
-use Rattle.lrpar_table_pops.specs.Searched.{AreAllGood, AreStacks, HasNoneGood, IsJoinedAt, IsStackAt, IsTopFirst, LiesOn, bottom, upon}
+use Rattle.lrpar_table_pops.specs.Searched.{AreAllGood, AreStacks, HasNoneGood, IsStackAt, IsTopFirst, LiesOn, bottom, upon}
 use Rattle.lrpar_table_pops.specs.StoredAll.{IsSoundTable}
 use Rattle.lrpar_table_pops.specs.StoredPops.{any_of}
 use Rattle.lrpar_table_pops.specs.declared.exits.Exit.{Exit}
@@ -23,7 +23,7 @@ use Rattle.lrpar_table_pops.specs.declared.pops.StateExits.{StateExits}
 use Rattle.lrpar_table_pops.specs.declared.searched.Stack.{Stack}
 use Rattle.lrpar_table_pops.proofs.AllGoodLemmas.{above_all, start_all_good, stuck_all}
 use Rattle.lrpar_table_pops.proofs.PopLemmas.{pops_are_completions}
-use Rattle.lrpar_table_pops.proofs.SearchLemmas.{at_before, at_same, get_last, get_pushed, keeps_pushed}
+use Rattle.lrpar_table_pops.proofs.SearchLemmas.{at_before, at_same, get_pushed, keeps_pushed}
 
 module _ {S : Type 0} (index : S → ℕ) (g : Grammar) (graph : Graph) (table : Table) where
   -- what lies below a stack doesn't hang on later stacks

@@ -3,7 +3,7 @@ use Rattle.std.specs.Prelude.{◌≡◌, ◌<◌, ℕ, zero, suc, Bool, IsTrue, 
 use Rattle.lrpar_grammar.specs.Grammar.{Grammar, prods_len, rule_of}
 use Rattle.lrpar_grammar.specs.Tokens.{has}
 use Rattle.lrpar_table_rows.specs.Graph.{Graph}
-use Rattle.lrpar_table_rows.specs.Table.{Table, action_of, goto_of, states_len}
+use Rattle.lrpar_table_rows.specs.Table.{Table, action_of, goto_of}
 use Rattle.lrpar_table_pops.specs.Closed.{FollowsIn, IsLeft, IsBackIn, IsIncluded}
 use Rattle.lrpar_table_pops.specs.FoundAll.{IsAmong}
 use Rattle.lrpar_table_pops.specs.Growth.{HasLookahead, IsStored}

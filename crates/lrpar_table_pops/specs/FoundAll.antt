@@ -1,6 +1,6 @@
 -- What is found of a state, when nothing is left out for which there is room.
-use Rattle.std.specs.Prelude.{◌≡◌, ◌⊎◌, ◌<◌, ℕ, zero, suc, Bool, IsTrue, List, length}
-use Rattle.lrpar_grammar.specs.Grammar.{Grammar, end_token, prods_len, rule_of, tokens_len}
+use Rattle.std.specs.Prelude.{◌≡◌, ◌⊎◌, ◌<◌, ℕ, suc, Bool, IsTrue, List, length}
+use Rattle.lrpar_grammar.specs.Grammar.{Grammar, end_token, tokens_len}
 use Rattle.lrpar_grammar.specs.Tokens.{has}
 use Rattle.lrpar_table_rows.specs.Graph.{Graph, HasCore}
 use Rattle.lrpar_table_pops.specs.Closed.{IsBackIn, IsIncluded}

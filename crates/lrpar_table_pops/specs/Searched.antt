@@ -116,11 +116,11 @@ abbrev pub KeepsAllGood : {S : Type 0} → (S → ℕ) → Grammar → Graph →
 KeepsAllGood index g graph table place reduced old new =
     AreAllGood index g graph table old → AreAllReductionsAt index g graph table old place reduced → AreAllGood index g graph table new
 
--- if runs can leave states by the exits in `pops` alone, and the exits of each old stack were all that are good over it, those of each new
--- stack are
-abbrev pub GoesOnAllGood : {S : Type 0} → (S → ℕ) → Grammar → Graph → Table → List StateExits → List (Stack S) → List (Stack S) → Type 0
-GoesOnAllGood index g graph table pops old new =
-    AreAllPopsOf g table pops → AreAllGood index g graph table old → AreAllGood index g graph table new
+-- if the part is the whole table, runs can leave states by the exits in `pops` alone, and the exits of each old stack were all that are good
+-- over it, those of each new stack are
+abbrev pub GoesOnAllGood : {S : Type 0} → (S → ℕ) → Grammar → Graph → Table → Table → List StateExits → List (Stack S) → List (Stack S) → Type 0
+GoesOnAllGood index g graph table part pops old new =
+    part ≡ table → AreAllPopsOf g table pops → AreAllGood index g graph table old → AreAllGood index g graph table new
 
 -- these states, top first, are the stack at the place
 abbrev pub IsTopFirst : {S : Type 0} → (S → ℕ) → List (Stack S) → ℕ → List ℕ → Type 0

@@ -1,5 +1,5 @@
 -- The exits that are stored, when nothing is left out.
-use Rattle.std.specs.Prelude.{◌≡◌, ◌≢◌, ◌⊎◌, ◌<◌, ℕ, Bool, IsTrue, List, [], Option, Some, None, length, slice_get, slice_index_or, false}
+use Rattle.std.specs.Prelude.{◌≡◌, ◌≢◌, ◌<◌, ℕ, Bool, IsTrue, List, [], Option, Some, None, length, slice_get, slice_index_or, false}
 use Rattle.lrpar_grammar_places.specs.declared.span.StIdx.{StIdx}
 use Rattle.lrpar_grammar_places.specs.declared.span.TIdx.{TIdx}
 use Rattle.lrpar_grammar.specs.Grammar.{Grammar}

@@ -5,6 +5,8 @@ ghost use Rattle.std.specs.Prelude.{IfOk};
 ghost use Rattle.std.specs.Bool.{OnTrue};
 ghost use Rattle.lrpar_table_pops.specs.Searched.{AreAllGood, AreDone, AreStacks, CompletesAt, GoesOnAllGood, IsGoneOnAt, KeepsStacks};
 ghost use Rattle.lrpar_table_pops.specs.Closed.{AreAllPopsOf};
+ghost use Rattle.lrpar_table_pops.specs.Growth.{HaveRoomFor};
+ghost use Rattle.lrpar_table_pops.specs.Parts.{IsPartOf};
 ghost use Rattle.lrpar_table_pops.specs.StoredAll.{IsSoundTable};
 ghost use Rattle.lrpar_table_pops.specs.StoredPops.{ArePopsOf, any_of};
 ghost use Rattle.lrpar_table_pops.specs.Stuck.{IsFault, IsFaultIf};
@@ -15,9 +17,11 @@ use crate::likely::likely_tokens;
 use crate::part::part_at;
 use crate::pops::Pops;
 use crate::searched::Searched;
+use crate::sets::empty_sets;
 use lrpar_grammar::span::StorageIndex;
 use lrpar_grammar::token_set::TokenSet;
 use lrpar_table_check::check::ParserData;
+use lrpar_table_rows::table::StateTable;
 use std::alloc::Global;
 
 /// Checks that each stack of the table can be completed: some tokens lead from it to a stack that accepts.
@@ -63,7 +67,7 @@ fn check_whole<StorageT: StorageIndex>(
         return Ok(());
     }
     let pops = Pops::new(alloc, whole)?;
-    search_all(alloc, whole, &pops, most)
+    search_all(alloc, whole, whole.stable(), &pops, most)
 }
 
 // Whether it is found that each stack can be completed by runs that read these tokens alone. If not, that says nothing of the table.
@@ -81,7 +85,7 @@ fn are_completable_by<StorageT: StorageIndex>(
     };
     let part = Automaton::new(whole.grm(), whole.sgraph(), &stable);
     let pops = Pops::new(alloc, &part)?;
-    match search_all(alloc, whole, &pops, most) {
+    match search_all(alloc, whole, &stable, &pops, most) {
         Ok(()) => Ok(true),
         Err(Incompletable::Memory) => Err(Incompletable::Memory),
         Err(Incompletable::Stuck(_) | Incompletable::TooMany) => Ok(false),
@@ -92,41 +96,46 @@ fn are_completable_by<StorageT: StorageIndex>(
 fn search_all<StorageT: StorageIndex>(
     alloc: Global,
     checked: &Automaton<'_, StorageT>,
+    part: &StateTable<StorageT>,
     pops: &Pops,
     most: usize,
 ) -> Result<(), Incompletable<StorageT>>
+    requires part { IsPartOf checked.now.table part.now }
     requires pops { ArePopsOf checked.now.grammar checked.now.table pops.now }
     ensures completable { OnOk result (AreAllCompletable checked.now.grammar checked.now.table) }
-    ensures fault { IfErr result (IsFaultIf StorageT.index checked.now.grammar checked.now.table (AreAllPopsOf checked.now.grammar checked.now.table pops.now)) }
+    ensures fault { IfErr result (IsFaultIf StorageT.index checked.now.grammar checked.now.table ((part.now ≡ checked.now.table) × AreAllPopsOf checked.now.grammar checked.now.table pops.now)) }
 {
     // The proof needs that the table is safe.
     let _lemma = checked.stable();
     let mut searched = Searched::new(alloc, checked)?;
-    search(alloc, checked, pops, &mut searched, most)
+    search(alloc, checked, part, pops, &mut searched, most)
 }
 
 // Goes on from each stack in turn, until none is left.
 fn search<StorageT: StorageIndex>(
     alloc: Global,
     checked: &Automaton<'_, StorageT>,
+    part: &StateTable<StorageT>,
     pops: &Pops,
     searched: &mut Searched<StorageT>,
     most: usize,
 ) -> Result<(), Incompletable<StorageT>>
+    requires part { IsPartOf checked.now.table part.now }
     requires pops { ArePopsOf checked.now.grammar checked.now.table pops.now }
     requires stacks { AreStacks StorageT.index checked.now.grammar checked.now.table searched.old.stacks.items }
     requires sound { IsSoundTable checked.now.grammar checked.now.graph checked.now.table }
     requires all_good { AreAllGood StorageT.index checked.now.grammar checked.now.graph checked.now.table searched.old.stacks.items }
     ensures stacks { OnOk result (AreStacks StorageT.index checked.now.grammar checked.now.table searched.new.stacks.items) }
     ensures done { OnOk result (AreDone StorageT.index checked.now.grammar checked.now.table (any_of pops.now) searched.new.stacks.items (length searched.new.stacks.items)) }
-    ensures fault { IfErr result (IsFaultIf StorageT.index checked.now.grammar checked.now.table (AreAllPopsOf checked.now.grammar checked.now.table pops.now)) }
+    ensures fault { IfErr result (IsFaultIf StorageT.index checked.now.grammar checked.now.table ((part.now ≡ checked.now.table) × AreAllPopsOf checked.now.grammar checked.now.table pops.now)) }
 {
+    let mut reduced = empty_sets(alloc, checked.grm())?;
     let mut place = 0;
     'stacks: while place < searched.len() {
         if searched.len() > most {
             return Err(Incompletable::TooMany);
         }
-        go_on(alloc, checked, pops, searched, place)?;
+        go_on(alloc, checked, part, pops, searched, place, &mut reduced)?;
         place += 1;
     }
     Ok(())
@@ -136,25 +145,30 @@ fn search<StorageT: StorageIndex>(
 fn go_on<StorageT: StorageIndex>(
     alloc: Global,
     checked: &Automaton<'_, StorageT>,
+    part: &StateTable<StorageT>,
     pops: &Pops,
     searched: &mut Searched<StorageT>,
     place: usize,
+    reduced: &mut Vec<TokenSet>,
 ) -> Result<(), Incompletable<StorageT>>
+    requires part { IsPartOf checked.now.table part.now }
     requires pops { ArePopsOf checked.now.grammar checked.now.table pops.now }
     requires stacks { AreStacks StorageT.index checked.now.grammar checked.now.table searched.old.stacks.items }
     requires sound { IsSoundTable checked.now.grammar checked.now.graph checked.now.table }
     requires place { place < length searched.old.stacks.items }
+    requires room { HaveRoomFor checked.now.grammar reduced.old.items }
+    ensures room { OnOk result (HaveRoomFor checked.now.grammar reduced.new.items) }
     ensures stacks { OnOk result (AreStacks StorageT.index checked.now.grammar checked.now.table searched.new.stacks.items) }
     ensures keeps { OnOk result (KeepsStacks searched.old.stacks.items searched.new.stacks.items) }
-    ensures all_good { OnOk result (GoesOnAllGood StorageT.index checked.now.grammar checked.now.graph checked.now.table pops.now searched.old.stacks.items searched.new.stacks.items) }
+    ensures all_good { OnOk result (GoesOnAllGood StorageT.index checked.now.grammar checked.now.graph checked.now.table part.now pops.now searched.old.stacks.items searched.new.stacks.items) }
     ensures completes { OnOk result (CompletesAt StorageT.index (any_of pops.now) searched.old.stacks.items place) }
     ensures gone_on { OnOk result (IsGoneOnAt StorageT.index checked.now.grammar checked.now.table searched.new.stacks.items place) }
-    ensures fault { IfErr result (IsFaultIf StorageT.index checked.now.grammar checked.now.table (AreAllPopsOf checked.now.grammar checked.now.table pops.now × AreAllGood StorageT.index checked.now.grammar checked.now.graph checked.now.table searched.old.stacks.items)) }
+    ensures fault { IfErr result (IsFaultIf StorageT.index checked.now.grammar checked.now.table ((part.now ≡ checked.now.table) × AreAllPopsOf checked.now.grammar checked.now.table pops.now × AreAllGood StorageT.index checked.now.grammar checked.now.graph checked.now.table searched.old.stacks.items)) }
 {
     if !searched.can_complete(place, pops) {
         let states = searched.states(alloc, checked, place)?;
         return Err(Incompletable::Stuck(states));
     }
-    searched.add_above(alloc, checked, pops, place)?;
+    searched.add_above(alloc, checked, part, pops, place, reduced)?;
     Ok(())
 }

@@ -8,6 +8,7 @@ ghost use Rattle.lrpar_table_pops.specs.AllGood.{AreReductionsClosed, HasAllAbov
 ghost use Rattle.lrpar_table_pops.specs.Closed.{FollowsIn};
 ghost use Rattle.lrpar_table_pops.specs.FoundAll.{SetsGrowBy};
 ghost use Rattle.lrpar_table_pops.specs.Growth.{GrowsBy, HasLookahead, HaveRoomFor, IsStored, KeepRoom, SomeHasLookahead, ways_of};
+ghost use Rattle.lrpar_table_pops.specs.Parts.{IsPartOf};
 ghost use Rattle.lrpar_table_pops.specs.declared.exits.Way.{Way};
 ghost use Rattle.lrpar_table_pops.specs.declared.exits.Way.TheVariants.{Reduction};
 ghost use Rattle.lrpar_grammar.specs.Grammar.{prods_len, rule_of};
@@ -23,11 +24,11 @@ use crate::automaton::Automaton;
 use crate::exits::{Exit, Exits, Way};
 use crate::found::rule_number;
 use crate::pops::Pops;
-use crate::sets::{empty_sets, insert_new};
+use crate::sets::{clear_sets, insert_new};
 use lrpar_grammar::grammar::YaccGrammar;
 use lrpar_grammar::span::{StIdx, StorageIndex, TIdx};
 use lrpar_grammar::token_set::TokenSet;
-use lrpar_table_rows::table::Action;
+use lrpar_table_rows::table::{Action, StateTable};
 use std::alloc::{AllocError, Global};
 
 /// The good exits of the start state alone: a run has accepted.
@@ -43,40 +44,44 @@ pub(crate) fn good_at_start<StorageT: StorageIndex>(
     Ok(good)
 }
 
-/// For each rule the lookaheads at which it can be reduced on top of a stack, with the state on top, so that a run goes on to accept, by the
-/// good exits of the state.
+/// Sets the lookaheads of each rule at which it can be reduced on top of a stack, with the state on top, so that a run goes on to accept, by
+/// the good exits of the state. Only lookaheads at which the part of the table has actions are looked at.
 pub(crate) fn good_reductions<StorageT: StorageIndex>(
-    alloc: Global,
     checked: &Automaton<'_, StorageT>,
+    part: &StateTable<StorageT>,
     pops: &Pops,
     state: StIdx<StorageT>,
     good: &Exits,
-) -> Result<Vec<TokenSet>, AllocError>
+    reduced: &mut Vec<TokenSet>,
+)
+    requires part { IsPartOf checked.now.table part.now }
     requires pops { ArePopsOf checked.now.grammar checked.now.table pops.now }
     requires state { StorageT.index state.0 < states_len checked.now.table }
-    ensures good { IfOk result (λ reduced. LeadToReductions checked.now.grammar checked.now.table (StorageT.index state.0) good.now reduced.items) }
-    ensures room { IfOk result (λ reduced. HaveRoomFor checked.now.grammar reduced.items) }
-    ensures all { IfOk result (λ reduced. AreReductionsClosed checked.now.grammar checked.now.table pops.now (StorageT.index state.0) good.now reduced.items) }
+    requires room { HaveRoomFor checked.now.grammar reduced.old.items }
+    ensures good { LeadToReductions checked.now.grammar checked.now.table (StorageT.index state.0) good.now reduced.new.items }
+    ensures room { HaveRoomFor checked.now.grammar reduced.new.items }
+    ensures all { AreReductionsClosed checked.now.grammar part.now pops.now (StorageT.index state.0) good.now reduced.new.items }
 {
-    let mut reduced = empty_sets(alloc, checked.grm())?;
-    'passes: while add_all(checked, pops, state, good, &mut reduced) {}
-    Ok(reduced)
+    clear_sets(reduced);
+    'passes: while add_all(checked, part, pops, state, good, reduced) {}
 }
 
 // Adds the reductions, by each goto of the state, after which a run takes the state off by a good exit. Returns whether any was new.
 fn add_all<StorageT: StorageIndex>(
     checked: &Automaton<'_, StorageT>,
+    part: &StateTable<StorageT>,
     pops: &Pops,
     state: StIdx<StorageT>,
     good: &Exits,
     reduced: &mut Vec<TokenSet>,
 ) -> bool
+    requires part { IsPartOf checked.now.table part.now }
     requires pops { ArePopsOf checked.now.grammar checked.now.table pops.now }
     requires state { StorageT.index state.0 < states_len checked.now.table }
     ensures keeps { KeepsReductions checked.now.grammar checked.now.table (StorageT.index state.0) good.now reduced.old.items reduced.new.items }
     ensures keeps_room { KeepRoom reduced.old.items reduced.new.items }
     ensures same { OnFalse result (reduced.new.items ≡ reduced.old.items) }
-    ensures all { OnFalse result (AreReductionsClosed checked.now.grammar checked.now.table pops.now (StorageT.index state.0) good.now reduced.old.items) }
+    ensures all { OnFalse result (AreReductionsClosed checked.now.grammar part.now pops.now (StorageT.index state.0) good.now reduced.old.items) }
     ensures room { room_in reduced.new.items ≤ room_in reduced.old.items }
     ensures grown { OnTrue result (room_in reduced.new.items < room_in reduced.old.items) }
 {
@@ -84,7 +89,7 @@ fn add_all<StorageT: StorageIndex>(
     let mut grown = false;
     'gotos: for (place, rule) in rules.iter().enumerate() {
         let next = nexts[place];
-        if add_by_goto(checked, pops, usize::from(*rule), next, good, reduced) {
+        if add_by_goto(checked, part, pops, usize::from(*rule), next, good, reduced) {
             grown = true;
         }
     }
@@ -95,22 +100,24 @@ fn add_all<StorageT: StorageIndex>(
 // any was new.
 fn add_by_goto<StorageT: StorageIndex>(
     checked: &Automaton<'_, StorageT>,
+    part: &StateTable<StorageT>,
     pops: &Pops,
     rule: usize,
     next: StIdx<StorageT>,
     good: &Exits,
     reduced: &mut Vec<TokenSet>,
 ) -> bool
+    requires part { IsPartOf checked.now.table part.now }
     requires pops { ArePopsOf checked.now.grammar checked.now.table pops.now }
     requires next { StorageT.index next.0 < states_len checked.now.table }
     ensures keeps { AddsByGoto checked.now.grammar checked.now.table good.now rule (StorageT.index next.0) reduced.old.items reduced.new.items }
     ensures keeps_room { KeepRoom reduced.old.items reduced.new.items }
     ensures same { OnFalse result (reduced.new.items ≡ reduced.old.items) }
-    ensures all { OnFalse result ((t : ℕ) → IsTokenClosed checked.now.grammar checked.now.table pops.now good.now rule (StorageT.index next.0) reduced.old.items t) }
+    ensures all { OnFalse result ((t : ℕ) → IsTokenClosed checked.now.grammar part.now pops.now good.now rule (StorageT.index next.0) reduced.old.items t) }
     ensures room { room_in reduced.new.items ≤ room_in reduced.old.items }
     ensures grown { OnTrue result (room_in reduced.new.items < room_in reduced.old.items) }
 {
-    let (tokens, actions) = checked.stable().actions_of(next);
+    let (tokens, actions) = part.actions_of(next);
     let mut grown = false;
     'tokens: for (place, token) in tokens.iter().enumerate() {
         if add_token(

@@ -5,6 +5,8 @@ ghost use Rattle.std.specs.Prelude.{reverse};
 ghost use Rattle.lrpar_table_pops.specs.StoredAll.{IsSoundTable};
 ghost use Rattle.lrpar_table_stacks.specs.Stack.{IsStack, states_of};
 ghost use Rattle.lrpar_table_pops.specs.Searched.{CanComplete, HasNoneGood};
+ghost use Rattle.lrpar_table_pops.specs.Growth.{HaveRoomFor};
+ghost use Rattle.lrpar_table_pops.specs.Parts.{IsPartOf};
 ghost use Rattle.lrpar_table_pops.specs.StoredPops.{ArePopsOf, any_of};
 
 use crate::automaton::Automaton;
@@ -13,7 +15,7 @@ use crate::good::{good_above, good_at_start, good_reductions};
 use crate::pops::Pops;
 use lrpar_grammar::span::{StIdx, StorageIndex};
 use lrpar_grammar::token_set::TokenSet;
-use lrpar_table_rows::table::Action;
+use lrpar_table_rows::table::{Action, StateTable};
 use std::alloc::{AllocError, Global};
 
 /// A stack: the place of the stack below its top, its top, and the top's good exits.
@@ -87,28 +89,34 @@ impl<StorageT: StorageIndex> Searched<StorageT> {
         &mut self,
         alloc: Global,
         checked: &Automaton<'_, StorageT>,
+        part: &StateTable<StorageT>,
         pops: &Pops,
         place: usize,
+        reduced: &mut Vec<TokenSet>,
     ) -> Result<(), AllocError>
+        requires part { IsPartOf checked.now.table part.now }
+        requires room { HaveRoomFor checked.now.grammar reduced.old.items }
         requires pops { ArePopsOf checked.now.grammar checked.now.table pops.now }
         requires stacks { AreStacks StorageT.index checked.now.grammar checked.now.table self.old.stacks.items }
         requires place { place < length self.old.stacks.items }
         requires sound { IsSoundTable checked.now.grammar checked.now.graph checked.now.table }
         ensures stacks { OnOk result (AreStacks StorageT.index checked.now.grammar checked.now.table self.new.stacks.items) }
         ensures keeps { OnOk result (KeepsStacks self.old.stacks.items self.new.stacks.items) }
-        ensures all_good { OnOk result (GoesOnAllGood StorageT.index checked.now.grammar checked.now.graph checked.now.table pops.now self.old.stacks.items self.new.stacks.items) }
+        ensures all_good { OnOk result (GoesOnAllGood StorageT.index checked.now.grammar checked.now.graph checked.now.table part.now pops.now self.old.stacks.items self.new.stacks.items) }
         ensures gone_on { OnOk result (IsGoneOnAt StorageT.index checked.now.grammar checked.now.table self.new.stacks.items place) }
+        ensures room { HaveRoomFor checked.now.grammar reduced.new.items }
     {
         let stack = &self.stacks[place];
         let top = stack.top;
-        let reduced = good_reductions(alloc, checked, pops, top, &stack.good)?;
+        good_reductions(checked, part, pops, top, &stack.good, reduced);
+        let reduced = reduced.as_slice();
         let (_, actions) = checked.stable().actions_of(top);
         let (_, nexts) = checked.stable().gotos_of(top);
         'shifts: for action in actions {
-            self.add_shift(alloc, checked, place, &reduced, *action)?;
+            self.add_shift(alloc, checked, place, reduced, *action)?;
         }
         'gotos: for next in nexts {
-            self.add(alloc, checked, place, &reduced, *next)?;
+            self.add(alloc, checked, place, reduced, *next)?;
         }
         Ok(())
     }

@@ -1,4 +1,6 @@
-use Rattle.std.proofs.Common.{arith}
+use Rattle.std.proofs.Common.{arith, subst}
+use Rattle.lrpar_grammar.specs.Grammar.{Grammar}
+use Rattle.lrpar_table_pops.specs.Growth.{HaveRoomFor}
 use Rattle.lrpar_table_pops.specs.StoredPops.{any_of}
 use Rattle.lrpar_table_pops.proofs.SearchLemmas.{done_all, done_more, done_none}
 use Rattle.lrpar_table_pops.proofs.check_completable.search.Goals as goal
@@ -6,7 +8,8 @@ use Rattle.lrpar_table_pops.proofs.check_completable.search.Goals as goal
 pub stacks-init : goal.stacks-init
 stacks-init g c = record {
   stacks = c.requires.stacks;
-  all_good = λ pops. c.requires.all_good;
+  all_good = λ whole pops. c.requires.all_good;
+  room = subst (λ (x : Grammar). HaveRoomFor x c.in_ok-reduced.reduced.items) c.grm.ensures c.in_ok-reduced.ensures.room;
   done = done_none g.StorageT.StorageIndex.index c.args.checked.now.grammar c.args.checked.now.table (any_of c.args.pops.now) c.args.searched.now.stacks.items;
 }
 
@@ -17,7 +20,8 @@ stacks-preserved g c =
     let len = c.len.ensures in
     record {
       stacks = went.stacks;
-      all_good = λ pops. went.all_good pops (c.stacks.invariant.all_good pops);
+      all_good = λ whole pops. went.all_good whole pops (c.stacks.invariant.all_good whole pops);
+      room = went.room;
       done = done_more g.StorageT.StorageIndex.index c.args.checked.now.grammar c.args.checked.now.table (any_of c.args.pops.now) c.stacks.searched.stacks.items
           c.go_on.new.searched.stacks.items c.stacks.place went.keeps (omega (arith, test, len)) c.stacks.invariant.done went.completes went.gone_on;
     }

@@ -46,11 +46,12 @@ gotos-preserved g c =
     let l = c.gotos in
     let gr = c.args.checked.now.grammar in
     let table = c.args.checked.now.table in
+    let part = c.args.part.now in
     let good = c.args.good.now in
     let pops = c.args.pops.now in
     let there = read_at rules rules l.place rule refl c.gotos-test.true c.index-rules-place.is in
-    let goes = stored.goto.goes in
-    let Closed = AreRulesClosedBy index gr table pops good s old rules (l.place + 1) in
+    let goes = c.requires.part.gotos s (index rule.0) ∙ stored.goto.goes in
+    let Closed = AreRulesClosedBy index gr part pops good s old rules (l.place + 1) in
     let adding : IsAdding K old new c.if-add_by_goto.grown = elim c.if-add_by_goto.branch [
       | then-add_by_goto w ↦
           subst (λ (b : Bool). IsAdding K old new b) (sym w.grown-is)
@@ -70,8 +71,8 @@ gotos-preserved g c =
       | else-add_by_goto w ↦
           subst (λ (b : Bool). OnFalse b Closed) (sym w.grown-is)
           (on_false_both l.grown l.invariant.same l.invariant.all (λ before closed.
-          rules_closed_by_more index gr table pops good s next old now rules l.place rule there goes before closed
-          (subst (λ (r : ℕ). (t : ℕ) → IsTokenClosed gr table pops good r next now t) c.from.ensures (OnFalse_at w.if-add_by_goto.false c.add_by_goto.ensures.all))))
+          rules_closed_by_more index gr part pops good s next old now rules l.place rule there goes before closed
+          (subst (λ (r : ℕ). (t : ℕ) → IsTokenClosed gr part pops good r next now t) c.from.ensures (OnFalse_at w.if-add_by_goto.false c.add_by_goto.ensures.all))))
     ] in
     record {
       adding = adding;
@@ -101,8 +102,8 @@ returns g c =
       keeps_room = l.invariant.keeps_room;
       same = l.invariant.same;
       all = on_false_both l.grown l.invariant.all l.invariant.all (λ closed _.
-          rules_closed_by_all index c.args.checked.now.grammar c.args.checked.now.table c.args.pops.now c.args.good.now c.args.state c.args.reduced.now.items rules l.place
-          c.gotos-test.false all closed);
+          rules_closed_by_all index c.args.checked.now.grammar c.args.part.now c.args.pops.now c.args.good.now c.args.state c.args.reduced.now.items rules l.place
+          c.gotos-test.false (λ r next goto. all r next (sym (c.requires.part.gotos (index c.args.state.0) r) ∙ goto)) closed);
       room = l.invariant.adding.room;
       grown = l.invariant.adding.grown;
     }

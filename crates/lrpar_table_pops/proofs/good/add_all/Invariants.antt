@@ -15,5 +15,5 @@ invariant-gotos g l =
       adding : IsAdding (KeepsReductions l.checked.grammar l.checked.table (index l.fn.state.0) l.good old) old l.reduced.items l.grown;
       keeps_room : KeepRoom old l.reduced.items;
       same : OnFalse l.grown (l.reduced.items ≡ old);
-      all : OnFalse l.grown (AreRulesClosedBy index l.checked.grammar l.checked.table l.pops l.good (index l.fn.state.0) old l.rules l.place);
+      all : OnFalse l.grown (AreRulesClosedBy index l.checked.grammar l.part l.pops l.good (index l.fn.state.0) old l.rules l.place);
     }

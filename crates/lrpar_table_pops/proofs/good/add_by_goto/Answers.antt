@@ -1,27 +1,25 @@
-use Rattle.std.proofs.Common.{◌≡◌, ◌+◌, ◌∙◌, Bool, false, List, refl, subst, sym, true, arith}
+use Rattle.std.proofs.Common.{◌≡◌, ◌<◌, ℕ, ◌+◌, ◌∙◌, Bool, refl, subst, sym, arith}
 use Rattle.std.specs.Bool.{OnFalse}
 use Rattle.std.proofs.lemmas.Bool.{OnFalse_at, OnTrue_at}
-use Rattle.lrpar_table_rows.specs.StoredRows.{IsActionAt}
-use Rattle.lrpar_table_rows.specs.Table.{Table}
-use Rattle.lrpar_table_pops.specs.AllGood.{IsTokenClosed}
-use Rattle.lrpar_table_pops.specs.Entries.{AreAllTokensOf}
 use Rattle.lrpar_table_pops.specs.Good.{AddsByGoto}
 use Rattle.lrpar_table_pops.proofs.EntryLemmas.{all_tokens}
 use Rattle.lrpar_table_pops.proofs.FollowAllLemmas.{on_false_both}
 use Rattle.lrpar_table_pops.proofs.GoodAllLemmas.{AreTokensClosedBy, tokens_closed_by_all, tokens_closed_by_more}
 use Rattle.lrpar_table_pops.proofs.GoodLemmas.{IsAdding, adding_grown, adding_on}
 use Rattle.lrpar_table_pops.proofs.GrowthLemmas.{read_at}
-use Rattle.lrpar_table_pops.proofs.TransitionLemmas.{action_read}
+use Rattle.lrpar_table_pops.proofs.PartLemmas.{closed_same, part_action, same_action}
 use Rattle.lrpar_table_pops.proofs.good.add_by_goto.Goals.{then-add_token, else-add_token}
 use Rattle.lrpar_table_pops.proofs.good.add_by_goto.Goals as goal
+
+pub actions_of-requires : goal.actions_of-requires
+actions_of-requires g c = subst (λ (n : ℕ). g.StorageT.StorageIndex.index c.args.next.0 < n) (sym c.requires.part.states) c.requires.next
 
 pub add_token-requires-clause-action : goal.add_token-requires-clause-action
 add_token-requires-clause-action g c =
     let index = g.StorageT.StorageIndex.index in
     let at = c.actions_of.ensures in
-    subst (λ (t : Table). IsActionAt index t c.args.next c.index-tokens-place.result c.index-actions-place.result) c.stable.ensures.table
-    (action_read index c.stable.result.now c.args.next c.actions_of.result.0.now c.actions_of.result.1.now at.entries at.actions at.exact
-    c.tokens.place c.index-tokens-place.result c.index-actions-place.result c.tokens-test.true c.index-tokens-place.is c.index-actions-place.is)
+    part_action index c.args.checked.now.table c.args.part.now c.requires.part c.args.next c.actions_of.result.0.now c.actions_of.result.1.now at.entries at.actions at.exact
+    c.tokens.place c.index-tokens-place.result c.index-actions-place.result c.tokens-test.true c.index-tokens-place.is c.index-actions-place.is
 
 pub tokens-init : goal.tokens-init
 tokens-init g c = record {
@@ -49,7 +47,11 @@ tokens-preserved g c =
     let K = AddsByGoto gr table good rule next old in
     let there = read_at tokens tokens l.place token refl c.tokens-test.true c.index-tokens-place.is in
     let more : K now → K new = λ before s goto leads. c.add_token.ensures.keeps s goto (before s goto leads) in
-    let Closed = AreTokensClosedBy index gr table pops good rule next old tokens (l.place + 1) in
+    let part = c.args.part.now in
+    let at = c.actions_of.ensures in
+    let acts = same_action index table part c.requires.part c.args.next tokens c.actions_of.result.1.now at.entries at.actions at.exact
+    l.place token c.index-actions-place.result c.tokens-test.true c.index-tokens-place.is c.index-actions-place.is in
+    let Closed = AreTokensClosedBy index gr part pops good rule next old tokens (l.place + 1) in
     let adding : IsAdding K old new c.if-add_token.grown = elim c.if-add_token.branch [
       | then-add_token w ↦
           subst (λ (b : Bool). IsAdding K old new b) (sym w.grown-is)
@@ -68,8 +70,8 @@ tokens-preserved g c =
       | else-add_token w ↦
           subst (λ (b : Bool). OnFalse b Closed) (sym w.grown-is)
           (on_false_both l.grown l.invariant.same l.invariant.all (λ before closed.
-          tokens_closed_by_more index gr table pops good rule next old now tokens l.place token there before closed
-          (OnFalse_at w.if-add_token.false c.add_token.ensures.all)))
+          tokens_closed_by_more index gr part pops good rule next old now tokens l.place token there before closed
+          (closed_same gr table part pops good rule next now (index token.0) acts (OnFalse_at w.if-add_token.false c.add_token.ensures.all))))
     ] in
     record {
       adding = adding;
@@ -81,19 +83,17 @@ tokens-preserved g c =
 pub returns : goal.returns
 returns g c =
     let index = g.StorageT.StorageIndex.index in
-    let gr = c.args.checked.now.grammar in
-    let table = c.args.checked.now.table in
     let l = c.tokens in
     let tokens = c.actions_of.result.0.now in
     let at = c.actions_of.ensures in
-    let all = subst (λ (t : Table). AreAllTokensOf index t c.args.next tokens) c.stable.ensures.table
-    (all_tokens index c.stable.result.now c.args.next tokens c.actions_of.result.1.now at.entries at.actions at.exact) in
+    let all = all_tokens index c.args.part.now c.args.next tokens c.actions_of.result.1.now at.entries at.actions at.exact in
     record {
       keeps = l.invariant.adding.keeps;
       keeps_room = l.invariant.keeps_room;
       same = l.invariant.same;
       all = on_false_both l.grown l.invariant.all l.invariant.all (λ closed _.
-          tokens_closed_by_all index gr table c.args.pops.now c.args.good.now c.args.rule c.args.next c.args.reduced.now.items tokens l.place c.tokens-test.false all closed);
+          tokens_closed_by_all index c.args.checked.now.grammar c.args.part.now c.args.pops.now c.args.good.now c.args.rule c.args.next c.args.reduced.now.items tokens l.place
+          c.tokens-test.false all closed);
       room = l.invariant.adding.room;
       grown = l.invariant.adding.grown;
     }

@@ -15,5 +15,5 @@ invariant-tokens g l =
       adding : IsAdding (AddsByGoto l.checked.grammar l.checked.table l.good l.rule (index l.next.0) old) old l.reduced.items l.grown;
       keeps_room : KeepRoom old l.reduced.items;
       same : OnFalse l.grown (l.reduced.items ≡ old);
-      all : OnFalse l.grown (AreTokensClosedBy index l.checked.grammar l.checked.table l.pops l.good l.rule (index l.next.0) old l.tokens l.place);
+      all : OnFalse l.grown (AreTokensClosedBy index l.checked.grammar l.part l.pops l.good l.rule (index l.next.0) old l.tokens l.place);
     }

@@ -1,6 +1,6 @@
 use Rattle.std.proofs.Common.{inl, inr, subst}
 use Rattle.lrpar_table_pops.specs.Good.{GoesOn}
-use Rattle.lrpar_table_pops.proofs.GoodAllLemmas.{good_grows, good_grows_none}
+use Rattle.lrpar_table_pops.proofs.GoodAllLemmas.{good_grows}
 use Rattle.lrpar_table_pops.proofs.good.add_good.Goals as goal
 
 pub returns-in-Some-clause-good : goal.returns-in-Some-clause-good

@@ -1,13 +1,11 @@
-use Rattle.std.proofs.Common.{◌≡◌, ◌∙◌, ap, Bool, false, Global, List, refl, subst, sym, true, Vec, ℕ}
+use Rattle.std.proofs.Common.{◌≡◌, ◌∙◌, Bool, false, List, refl, subst, sym, true, ℕ}
 use Rattle.std.specs.Prelude.{IsTrue}
-use Rattle.std.specs.Bool.{OnFalse}
 use Rattle.std.proofs.lemmas.Bool.{OnFalse_at, OnFalse_from, OnTrue_at}
 use Rattle.lrpar_grammar.specs.Tokens.{has}
-use Rattle.lrpar_table_rows.specs.PlainRows.{plain_action}
 use Rattle.lrpar_table_rows.specs.Table.{TableAction}
-use Rattle.lrpar_table_pops.specs.AllGood.{IsGoodControl, IsTokenClosed}
+use Rattle.lrpar_table_pops.specs.AllGood.{IsGoodControl}
 use Rattle.lrpar_table_pops.specs.Closed.{FollowsIn}
-use Rattle.lrpar_table_pops.specs.Good.{AddsByGoto, AddsTokenBy, ReadsOn}
+use Rattle.lrpar_table_pops.specs.Good.{AddsTokenBy, ReadsOn}
 use Rattle.lrpar_table_pops.specs.Sets.{tokens_by}
 use Rattle.lrpar_table_pops.proofs.GoodLemmas.{right_added}
 use Rattle.lrpar_table_pops.proofs.good.add_token.Goals as goal

@@ -1,4 +1,4 @@
-use Rattle.std.proofs.Common.{◌≡◌, ◌∙◌, arith, inl, inr, length, refl, slice_get, Some, subst}
+use Rattle.std.proofs.Common.{◌≡◌, ◌∙◌, arith, inl, inr, refl, slice_get, Some, subst}
 use Rattle.lrpar_table_pops.specs.AllGood.{IsGoodExit}
 use Rattle.lrpar_table_pops.specs.Growth.{GrowsBy, ways_of}
 use Rattle.lrpar_table_pops.proofs.FoundAllLemmas.{places_kept}

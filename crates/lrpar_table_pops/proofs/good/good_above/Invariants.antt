@@ -2,7 +2,6 @@ use Rattle.std.proofs.Common.{◌≡◌, length}
 use Rattle.lrpar_table_pops.specs.Exits.{HasExit}
 use Rattle.lrpar_table_pops.specs.FoundAll.{AreExitsFor}
 use Rattle.lrpar_table_pops.specs.Good.{GoesOn}
-use Rattle.lrpar_table_pops.specs.Growth.{ways_of}
 use Rattle.lrpar_table_pops.specs.Pops.{Control}
 use Rattle.lrpar_table_pops.proofs.GoodAllLemmas.{AreWaysGood}
 use Rattle.lrpar_table_pops.proofs.good.good_above.Given as goal

@@ -1,6 +1,6 @@
 use Rattle.std.proofs.lemmas.Option.{IfSome_then}
 use Rattle.lrpar_table_pops.proofs.GoodLemmas.{dropped_good, here_good}
-use Rattle.std.proofs.Common.{◌≡◌, Bool, List, refl, subst, sym}
+use Rattle.std.proofs.Common.{Bool, List, subst, sym}
 use Rattle.std.specs.Prelude.{IsTrue}
 use Rattle.lrpar_grammar.specs.Tokens.{has}
 use Rattle.lrpar_table_pops.proofs.GoodAllLemmas.{lookahead_way, taken_dropped, taken_here}

@@ -1,14 +1,12 @@
-use Rattle.std.proofs.Common.{◌∙◌, Bool, List, subst, sym}
+use Rattle.std.proofs.Common.{◌∙◌, subst, sym}
 use Rattle.std.proofs.lemmas.Bool.{OnFalse_at}
-use Rattle.lrpar_grammar.specs.Grammar.{Grammar}
 use Rattle.lrpar_table_pops.specs.AllGood.{AreReductionsClosed}
-use Rattle.lrpar_table_pops.specs.Growth.{HaveRoomFor}
 use Rattle.lrpar_table_pops.proofs.good.good_reductions.Goals as goal
 
 pub passes-init : goal.passes-init
 passes-init g c = record {
-  good = λ below over r t is. absurd (c.in_ok-reduced.ensures.none r t is);
-  room = subst (λ (x : Grammar). HaveRoomFor x c.in_ok-reduced.reduced.items) c.grm.ensures c.in_ok-reduced.ensures.room;
+  good = λ below over r t is. absurd (c.clear_sets.ensures.none r t is);
+  room = λ r low. c.clear_sets.ensures.room r ∙ c.requires.room r low;
 }
 
 pub passes-preserved : goal.passes-preserved
@@ -24,6 +22,6 @@ returns g c =
     record {
       good = c.add_all.ensures.keeps c.passes.invariant.good;
       room = λ r low. c.add_all.ensures.keeps_room r ∙ c.passes.invariant.room r low;
-      all = subst (AreReductionsClosed d.grammar d.table c.args.pops.now (g.StorageT.StorageIndex.index c.args.state.0) c.args.good.now) (sym same)
+      all = subst (AreReductionsClosed d.grammar c.args.part.now c.args.pops.now (g.StorageT.StorageIndex.index c.args.state.0) c.args.good.now) (sym same)
           (OnFalse_at c.passes-test.false c.add_all.ensures.all);
     }

@@ -9,13 +9,10 @@ use Rattle.lrpar_table_pops.specs.Good.{GoesOn, SomeGoesOn}
 use Rattle.lrpar_table_pops.specs.Pops.{Dropping, Done}
 use Rattle.lrpar_table_pops.specs.StoredPops.{at_of}
 use Rattle.lrpar_table_pops.proofs.GoodLemmas.{accept_reads, pop_reads, reduce_reads}
-use Rattle.lrpar_grammar.specs.Grammar.{end_token}
-use Rattle.std.specs.Prelude.{IsTrue}
 use Rattle.lrpar_table_rows.specs.Table.{TableAction}
-use Rattle.lrpar_table_pops.specs.AllGood.{IsGoodExit, IsGoodControl}
+use Rattle.lrpar_table_pops.specs.AllGood.{IsGoodExit}
 use Rattle.lrpar_table_pops.specs.Closed.{FollowsIn}
 use Rattle.lrpar_table_pops.specs.Growth.{HasLookahead}
-use Rattle.lrpar_table_pops.specs.declared.exits.Way.{Way}
 use Rattle.lrpar_table_pops.specs.declared.exits.Way.TheVariants.{Acceptance, Reduction}
 use Rattle.lrpar_table_pops.proofs.GoodAllLemmas.{done_reads, dropped_reads, kept_reads, kept_reduction}
 use Rattle.lrpar_table_pops.proofs.good.reads_on.Goals as goal

@@ -1,4 +1,4 @@
-use Rattle.std.proofs.Common.{◌≡◌, ◌≤◌, ◌∙◌, arith, refl, subst, sym, ap}
+use Rattle.std.proofs.Common.{arith, subst, sym, ap}
 use Rattle.lrpar_table_rows.specs.Table.{FailsPastTokens, Table}
 use Rattle.lrpar_table_pops.specs.StoredPops.{HaveNoExits}
 use Rattle.lrpar_table_pops.proofs.KeptLemmas.{ArePlacesAt, longer, places_all, places_pushed}

@@ -1,5 +1,4 @@
-use Rattle.std.proofs.Common.{◌≡◌, ◌∙◌, arith}
-use Rattle.std.proofs.lemmas.Bool.{cases_lt}
+use Rattle.std.proofs.Common.{◌∙◌, arith}
 use Rattle.lrpar_table_pops.proofs.MarkLemmas.{gotos_marked_all, gotos_marked_more}
 use Rattle.lrpar_table_pops.proofs.saturate.goto_states.Goals as goal
 

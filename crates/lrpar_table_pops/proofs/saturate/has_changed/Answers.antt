@@ -1,4 +1,4 @@
-use Rattle.std.proofs.Common.{◌≡◌, ◌∙◌, refl, sym, subst, ℕ}
+use Rattle.std.proofs.Common.{refl, subst, ℕ}
 use Rattle.std.proofs.lemmas.Bool.{OnFalse_at, OnFalse_from}
 use Rattle.lrpar_table_pops.specs.StoredAll.{IsMarked}
 use Rattle.lrpar_table_pops.proofs.GrowthLemmas.{read_at}

@@ -2,7 +2,7 @@ use Rattle.std.proofs.Common.{◌≡◌, ◌∙◌, ap, refl, subst, sym, ℕ}
 use Rattle.std.specs.Prelude.{IsTrue}
 use Rattle.lrpar_grammar.specs.Grammar.{Grammar}
 use Rattle.lrpar_table_rows.specs.PlainRows.{plain_action}
-use Rattle.lrpar_table_rows.specs.Table.{TableAction, action_of}
+use Rattle.lrpar_table_rows.specs.Table.{action_of}
 use Rattle.lrpar_table_pops.specs.Closed.{IsKeptBy}
 use Rattle.lrpar_table_pops.specs.FollowAll.{IsRightAction}
 use Rattle.lrpar_table_pops.proofs.GrowthLemmas.{read_at}

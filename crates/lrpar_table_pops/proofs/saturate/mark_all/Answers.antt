@@ -1,4 +1,4 @@
-use Rattle.std.proofs.Common.{◌≡◌, ◌<◌, ◌∙◌, arith, length, refl, subst, ℕ}
+use Rattle.std.proofs.Common.{◌<◌, ◌∙◌, arith, length, refl, subst, ℕ}
 use Rattle.lrpar_table_pops.specs.StoredAll.{IsMarked}
 use Rattle.lrpar_table_pops.proofs.GrowthLemmas.{read_at}
 use Rattle.lrpar_table_pops.proofs.MarkLemmas.{marked_more}

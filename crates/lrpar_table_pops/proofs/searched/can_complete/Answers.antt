@@ -1,4 +1,4 @@
-use Rattle.std.proofs.Common.{◌≡◌, ◌∙◌, false, List, refl, subst, sym, true}
+use Rattle.std.proofs.Common.{◌≡◌, ◌∙◌, false, List, subst, sym, true}
 use Rattle.std.proofs.lemmas.Bool.{OnFalse_from}
 use Rattle.lrpar_table_pops.specs.Growth.{HasLookahead}
 use Rattle.lrpar_table_pops.specs.declared.exits.Exit.{Exit}

@@ -1,6 +1,6 @@
 use Rattle.std.proofs.Common.{◌≡◌, sym}
 use Rattle.lrpar_table_pops.proofs.ExitLemmas.{inserted_adds}
-use Rattle.lrpar_table_pops.proofs.GrowthLemmas.{absent_grows, found_grows}
+use Rattle.lrpar_table_pops.proofs.GrowthLemmas.{found_grows}
 use Rattle.lrpar_table_pops.proofs.exits.Exits.insert.Goals as goal
 
 pub returns-in-Some-clause-adds : goal.returns-in-Some-clause-adds

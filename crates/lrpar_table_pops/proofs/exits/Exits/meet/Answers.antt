@@ -1,4 +1,4 @@
-use Rattle.std.proofs.Common.{◌≡◌, ℕ, true, false, arith, inl, inr, List, subst, sym, ◌∙◌}
+use Rattle.std.proofs.Common.{◌≡◌, true, false, arith, inl, inr, List, subst, sym, ◌∙◌}
 use Rattle.std.specs.Prelude.{IsTrue}
 use Rattle.std.proofs.lemmas.List.{take_all}
 use Rattle.lrpar_table_pops.specs.Growth.{HasLookahead, SomeHasLookahead}

@@ -1,5 +1,5 @@
-use Rattle.std.proofs.Common.{◌≡◌, ◌+◌, ◌∙◌, ap, refl, Global, List, map, Vec, subst, sym, ℕ, suc}
-use Rattle.lrpar_grammar.specs.Grammar.{Grammar, tokens_len}
+use Rattle.std.proofs.Common.{◌+◌, ◌∙◌, ap, refl, Global, map, Vec, subst, sym}
+use Rattle.lrpar_grammar.specs.Grammar.{tokens_len}
 use Rattle.lrpar_table_rows.specs.Graph.{Graph}
 use Rattle.lrpar_table_rows.specs.PlainItems.{core_of}
 use Rattle.lrpar_table_rows.specs.StoredItems.{AreKernelCoresAt}

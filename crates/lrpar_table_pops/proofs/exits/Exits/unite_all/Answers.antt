@@ -1,4 +1,4 @@
-use Rattle.std.proofs.Common.{◌≡◌, ◌<◌, ◌∙◌, arith, take, ap, inl, refl, Bool, true, false, List, subst, sym}
+use Rattle.std.proofs.Common.{◌≡◌, ◌<◌, ◌∙◌, arith, take, inl, refl, Bool, true, false, List, subst, sym}
 use Rattle.std.proofs.lemmas.Bool.{OnFalse_at, OnFalse_from, OnTrue_at, OnTrue_from}
 use Rattle.std.specs.Bool.{OnFalse, OnTrue}
 use Rattle.lrpar_table_pops.specs.Exits.{HasExit, room_left}

@@ -2,12 +2,12 @@ use Rattle.std.proofs.Common.{subst, sym}
 use Rattle.lrpar_table_pops.specs.Exits.{LeavesIn}
 use Rattle.lrpar_table_pops.specs.declared.exits.Way.{Way}
 use Rattle.lrpar_table_pops.proofs.FoundLemmas.{finished_stays}
-use Rattle.std.proofs.Common.{◌≡◌, refl, ℕ, ◌∙◌}
+use Rattle.std.proofs.Common.{◌≡◌, refl, ℕ}
 use Rattle.std.specs.Prelude.{IsTrue}
 use Rattle.lrpar_grammar.specs.Tokens.{has}
-use Rattle.lrpar_table_pops.specs.declared.exits.Way.TheVariants.{Acceptance, Reduction}
+use Rattle.lrpar_table_pops.specs.declared.exits.Way.TheVariants.{Acceptance}
 use Rattle.lrpar_table_pops.specs.FoundAll.{IsAmong}
-use Rattle.lrpar_table_pops.specs.Pops.{Control, Dropping}
+use Rattle.lrpar_table_pops.specs.Pops.{Dropping}
 use Rattle.lrpar_table_pops.proofs.FoundAllLemmas.{accepted_among, exits_find, finds_by, dropped_among}
 use Rattle.lrpar_table_pops.proofs.found.Found.add_exit.Goals as goal
 

@@ -1,4 +1,4 @@
-use Rattle.std.proofs.Common.{◌≡◌, ◌∙◌, ap, Bool, Global, List, Option, Some, refl, subst, sym, Vec, ℕ}
+use Rattle.std.proofs.Common.{ap, Global, List, Some, refl, subst, Vec, ℕ}
 use Rattle.lrpar_grammar.specs.declared.token_set.TokenSet.{TokenSet}
 use Rattle.lrpar_table_rows.specs.PlainRows.{plain_action}
 use Rattle.lrpar_table_rows.specs.Table.{TableAction, action_of}

@@ -1,4 +1,4 @@
-use Rattle.std.proofs.Common.{◌≡◌, ap, Global, List, None, subst, Vec, ℕ}
+use Rattle.std.proofs.Common.{ap, Global, List, None, subst, Vec, ℕ}
 use Rattle.lrpar_grammar.specs.declared.token_set.TokenSet.{TokenSet}
 use Rattle.lrpar_table_pops.specs.StoredAll.{StartsFrom, StoresAll}
 use Rattle.lrpar_table_pops.specs.declared.exits.Exit.{Exit}

@@ -1,4 +1,4 @@
-use Rattle.std.proofs.Common.{◌≡◌, inr, subst, ℕ}
+use Rattle.std.proofs.Common.{◌≡◌}
 use Rattle.lrpar_table_pops.proofs.SaturateLemmas.{number_saturates}
 use Rattle.lrpar_table_pops.proofs.pops.Pops.add_number.Goals as goal
 

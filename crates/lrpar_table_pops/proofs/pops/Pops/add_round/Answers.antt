@@ -1,8 +1,7 @@
-use Rattle.std.proofs.Common.{◌≡◌, ◌<◌, ◌+◌, ◌-◌, ◌⊎◌, ◌∙◌, ap, arith, Bool, false, Global, length, List, replicate, subst, sym, true, Vec}
+use Rattle.std.proofs.Common.{◌≡◌, ◌<◌, ◌+◌, ◌-◌, ◌⊎◌, ◌∙◌, ap, arith, Bool, Global, length, List, subst, sym, Vec}
 use Rattle.std.specs.Bool.{OnFalse, OnTrue}
-use Rattle.std.proofs.lemmas.Bool.{OnTrue_at}
 use Rattle.lrpar_table_rows.specs.Table.{states_len}
-use Rattle.lrpar_table_pops.specs.StoredAll.{HasNoMarks, IsClosedState, IsMarked, IsUntouched, SaturatesState}
+use Rattle.lrpar_table_pops.specs.StoredAll.{HasNoMarks, IsClosedState, IsUntouched, SaturatesState}
 use Rattle.lrpar_table_pops.specs.StoredPops.{room_of}
 use Rattle.lrpar_table_pops.proofs.ExitLemmas.{less_new, less_on}
 use Rattle.lrpar_table_pops.proofs.MarkLemmas.{none_marked}

@@ -1,4 +1,4 @@
-use Rattle.std.proofs.Common.{◌≡◌, ◌∙◌, Global, List, None, Some, subst, sym, Vec, ℕ, Bool}
+use Rattle.std.proofs.Common.{◌∙◌, Global, None, Some, subst, sym, Vec, ℕ}
 use Rattle.lrpar_grammar.specs.declared.token_set.TokenSet.{TokenSet}
 use Rattle.lrpar_table_pops.specs.FoundAll.{HasRoomFor}
 use Rattle.lrpar_table_pops.specs.Growth.{HaveRoomFor}

@@ -1,5 +1,5 @@
 use Rattle.std.proofs.Common.{◌≡◌, ◌∙◌, arith, ap, Bool, List, slice_index_or, false, subst, sym, ℕ}
-use Rattle.lrpar_table_rows.specs.Graph.{Graph, graph_len}
+use Rattle.lrpar_table_rows.specs.Graph.{graph_len}
 use Rattle.lrpar_table_rows.specs.Table.{Table}
 use Rattle.lrpar_table_pops.specs.Closed.{IsGotoState}
 use Rattle.lrpar_table_pops.specs.StoredAll.{HaveWaysAt, IsMarked}

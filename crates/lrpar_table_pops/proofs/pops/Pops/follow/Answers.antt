@@ -1,4 +1,3 @@
-use Rattle.std.proofs.Common.{refl}
 use Rattle.std.proofs.lemmas.Bool.{OnFalse_at}
 use Rattle.lrpar_table_pops.proofs.FollowAllLemmas.{all_done_on, keeps_same, keeps_then}
 use Rattle.lrpar_table_pops.proofs.pops.Pops.follow.Goals as goal

@@ -1,9 +1,8 @@
-use Rattle.std.proofs.Common.{◌≡◌, ◌∙◌, ap, subst, sym}
+use Rattle.std.proofs.Common.{◌∙◌, ap, subst, sym}
 use Rattle.lrpar_table_rows.specs.PlainRows.{plain_action}
 use Rattle.lrpar_table_pops.proofs.StepLemmas.{accept_pops}
-use Rattle.lrpar_grammar.specs.Grammar.{end_token}
 use Rattle.lrpar_table_rows.specs.Table.{TableAction}
-use Rattle.lrpar_table_pops.specs.FollowAll.{FollowsAllBy, IsRightAction}
+use Rattle.lrpar_table_pops.specs.FollowAll.{FollowsAllBy}
 use Rattle.lrpar_table_pops.proofs.FollowAllLemmas.{accept_finds}
 use Rattle.lrpar_table_pops.proofs.pops.Pops.follow_action.Goals as goal
 

@@ -1,4 +1,4 @@
-use Rattle.std.proofs.Common.{◌≡◌, ap, Bool, Global, List, subst, sym, Vec, ℕ}
+use Rattle.std.proofs.Common.{ap, Global, subst, sym, Vec, ℕ}
 use Rattle.std.proofs.lemmas.Bool.{OnFalse_at}
 use Rattle.std.specs.Prelude.{IsTrue}
 use Rattle.std.proofs.lemmas.Bool.{OnTrue_at}

@@ -2,9 +2,7 @@ use Rattle.std.proofs.Common.{List, ap, subst, ℕ, ◌∙◌}
 use Rattle.lrpar_table_pops.specs.Exits.{HasExit}
 use Rattle.lrpar_table_pops.specs.StoredPops.{at_of}
 use Rattle.lrpar_table_pops.specs.declared.exits.Exit.{Exit}
-use Rattle.lrpar_table_pops.specs.FoundAll.{FindsAll}
-use Rattle.lrpar_table_pops.specs.Growth.{IsStored}
-use Rattle.lrpar_table_pops.proofs.FollowAllLemmas.{stored_find, stored_find_none}
+use Rattle.lrpar_table_pops.proofs.FollowAllLemmas.{stored_find}
 use Rattle.lrpar_table_pops.proofs.pops.Pops.follow_kept.Goals as goal
 
 pub returns-in-Some-clause-follows : goal.returns-in-Some-clause-follows

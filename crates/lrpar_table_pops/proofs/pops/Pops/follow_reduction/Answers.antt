@@ -1,4 +1,4 @@
-use Rattle.std.proofs.Common.{◌≡◌, ◌-◌, ◌∙◌, sym}
+use Rattle.std.proofs.Common.{◌-◌, ◌∙◌, sym}
 use Rattle.lrpar_table_pops.proofs.StepLemmas.{reduce_pops, same_dropping}
 use Rattle.lrpar_table_rows.specs.declared.rows.Action.TheVariants.{Reduce}
 use Rattle.lrpar_table_pops.specs.Pops.{Dropping}

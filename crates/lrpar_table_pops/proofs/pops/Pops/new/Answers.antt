@@ -1,9 +1,9 @@
-use Rattle.std.proofs.Common.{◌≡◌, ◌∙◌, ap, arith, Bool, List, subst, sym, true, ℕ}
+use Rattle.std.proofs.Common.{◌∙◌, ap, arith, Bool, List, subst, sym}
 use Rattle.std.proofs.lemmas.Bool.{OnFalse_at}
 use Rattle.lrpar_grammar.specs.Grammar.{Grammar}
-use Rattle.lrpar_table_rows.specs.Table.{FailsPastStates, FailsPastTokens, HasNoGotoPastRules, states_len}
+use Rattle.lrpar_table_rows.specs.Table.{states_len}
 use Rattle.lrpar_table_pops.specs.Growth.{HaveRoomFor}
-use Rattle.lrpar_table_pops.specs.StoredAll.{IsMarked, IsSoundTable}
+use Rattle.lrpar_table_pops.specs.StoredAll.{IsMarked}
 use Rattle.lrpar_table_pops.proofs.MarkLemmas.{all_marked}
 use Rattle.lrpar_table_pops.proofs.RoundLemmas.{all_settled}
 use Rattle.lrpar_table_pops.proofs.StepLemmas.{safe_alone}

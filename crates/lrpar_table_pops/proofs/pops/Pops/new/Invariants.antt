@@ -1,4 +1,4 @@
-use Rattle.lrpar_table_pops.specs.StoredAll.{AreClosedUnlessMarked, HaveAllWays, HaveSets, IsSoundTable}
+use Rattle.lrpar_table_pops.specs.StoredAll.{AreClosedUnlessMarked, HaveAllWays, HaveSets}
 use Rattle.lrpar_table_pops.specs.StoredPops.{ArePopsOf, room_of}
 use Rattle.lrpar_table_pops.proofs.pops.Pops.new.Given as goal
 

@@ -6,7 +6,7 @@ use Rattle.lrpar_table_pops.specs.FoundAll.{FindsAll}
 use Rattle.lrpar_table_pops.specs.FollowAll.{IsRightAction}
 use Rattle.lrpar_table_pops.specs.Pops.{Dropping}
 use Rattle.lrpar_table_pops.specs.StoredPops.{any_of}
-use Rattle.lrpar_table_pops.proofs.FollowAllLemmas.{accept_finds, same_finds, stored_find, stored_find_none}
+use Rattle.lrpar_table_pops.proofs.FollowAllLemmas.{accept_finds, same_finds, stored_find}
 use Rattle.lrpar_table_rows.specs.PlainRows.{plain_action}
 use Rattle.lrpar_table_pops.specs.Exits.{HasExit}
 use Rattle.lrpar_table_pops.specs.declared.exits.Exit.{Exit}

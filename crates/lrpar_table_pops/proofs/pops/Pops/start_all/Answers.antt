@@ -1,6 +1,5 @@
-use Rattle.std.proofs.Common.{◌≡◌, ◌∙◌, ◌+◌, None, refl, subst}
+use Rattle.std.proofs.Common.{◌∙◌, ◌+◌, None, refl, subst}
 use Rattle.lrpar_table_rows.specs.PlainRows.{plain_action}
-use Rattle.lrpar_table_rows.specs.Table.{TableAction}
 use Rattle.lrpar_table_pops.specs.Closed.{StartsIn}
 use Rattle.lrpar_table_pops.specs.FollowAll.{IsRightAction}
 use Rattle.lrpar_table_pops.specs.StoredAll.{StartsFrom, StartsSoFar}

@@ -3,7 +3,8 @@ use Rattle.std.specs.Prelude.{Contains}
 use Rattle.lrpar_grammar_places.specs.declared.span.StIdx.{StIdx}
 use Rattle.lrpar_table_rows.proofs.ItemLemmas.{Contains-image, Contains-preimage}
 use Rattle.lrpar_table_rows.specs.PlainRows.{plain_action}
-use Rattle.lrpar_table_rows.specs.Table.{ShiftTo, TableAction}
+use Rattle.lrpar_table_rows.specs.Table.{ShiftTo, Table, TableAction}
+use Rattle.lrpar_table_pops.specs.AllGood.{AreReductionsClosed}
 use Rattle.lrpar_table_pops.specs.Searched.{AreAllReductionsAt, AreReductionsAt, IsMetAt, IsShiftMetAt}
 use Rattle.lrpar_table_pops.proofs.TransitionLemmas.{goto_read, shift_read}
 use Rattle.lrpar_table_pops.proofs.AllGoodLemmas.{reductions_all}
@@ -22,8 +23,8 @@ add_shift-requires-clause-reduced g c =
     let under = c.index-stack.result.now in
     let at = at_read old c.args.place under c.requires.place c.index-stack.ensures in
     let now = c.shifts.self.stacks.items in
-    subst (AreReductionsAt index gr table now c.args.place) (sym c.deref.ensures.value)
-    (reductions_at index gr table old now c.shifts.invariant.keeps c.args.place under at c.in_ok-reduced.reduced.items c.in_ok-reduced.ensures.good)
+    subst (AreReductionsAt index gr table now c.args.place) (sym c.as_slice-reduced.ensures.value)
+    (reductions_at index gr table old now c.shifts.invariant.keeps c.args.place under at c.good_reductions.new.reduced.items c.good_reductions.ensures.good)
 
 pub add_shift-requires-clause-joined : goal.add_shift-requires-clause-joined
 add_shift-requires-clause-joined g c = λ next shift.
@@ -44,7 +45,7 @@ add_shift-requires-clause-joined g c = λ next shift.
 pub shifts-init : goal.shifts-init
 shifts-init g c = record {
   stacks = c.requires.stacks;
-  all_good = λ pops good. good;
+  all_good = λ whole pops good. good;
   keeps = keeps_all c.args.self.now.stacks.items;
   met = λ action there. absurd (contains_none action there);
 }
@@ -63,14 +64,15 @@ shifts-preserved g c =
     let low : c.args.place < length now = omega (arith, place, more) in
     record {
       stacks = added.stacks;
-      all_good = λ pops good.
+      all_good = λ whole pops good.
           let under = c.index-stack.result.now in
           let old = c.args.self.now.stacks.items in
           let at = at_read old c.args.place under c.requires.place c.index-stack.ensures in
-          let reduced = c.in_ok-reduced.reduced.items in
-          let leads = reductions_all gr graph table c.requires.sound c.args.pops.now pops under.good reduced c.in_ok-reduced.ensures.room
-          (index under.top.0) (c.requires.stacks.within c.args.place under at) c.in_ok-reduced.ensures.all in
-          added.all_good (c.shifts.invariant.all_good pops good) (subst (AreAllReductionsAt index gr graph table now c.args.place) (sym c.deref.ensures.value)
+          let reduced = c.good_reductions.new.reduced.items in
+          let leads = reductions_all gr graph table c.requires.sound c.args.pops.now pops under.good reduced c.good_reductions.ensures.room
+          (index under.top.0) (c.requires.stacks.within c.args.place under at)
+          (subst (λ (t : Table). AreReductionsClosed gr t c.args.pops.now (index under.top.0) under.good reduced) whole c.good_reductions.ensures.all) in
+          added.all_good (c.shifts.invariant.all_good whole pops good) (subst (AreAllReductionsAt index gr graph table now c.args.place) (sym c.as_slice-reduced.ensures.value)
           (all_reductions_at index gr table old now c.shifts.invariant.keeps c.args.place under at graph reduced leads));
       keeps = keeps_then c.args.self.now.stacks.items now new c.shifts.invariant.keeps added.keeps;
       met = each_more (IsShiftMetAt index gr table new c.args.place) c.actions_of.result.1.now c.shifts.action-index c.action-item.result c.shifts-test.true
@@ -116,8 +118,8 @@ add-requires-clause-reduced g c =
     let under = c.index-stack.result.now in
     let at = at_read old c.args.place under c.requires.place c.index-stack.ensures in
     let now = c.gotos.self.stacks.items in
-    subst (AreReductionsAt index gr table now c.args.place) (sym c.deref-in-gotos.ensures.value)
-    (reductions_at index gr table old now c.gotos.invariant.keeps c.args.place under at c.in_ok-reduced.reduced.items c.in_ok-reduced.ensures.good)
+    subst (AreReductionsAt index gr table now c.args.place) (sym c.as_slice-reduced.ensures.value)
+    (reductions_at index gr table old now c.gotos.invariant.keeps c.args.place under at c.good_reductions.new.reduced.items c.good_reductions.ensures.good)
 
 pub add-requires-clause-joined : goal.add-requires-clause-joined
 add-requires-clause-joined g c =
@@ -149,14 +151,15 @@ gotos-preserved g c =
     let low : c.args.place < length now = omega (arith, place, more) in
     record {
       stacks = added.stacks;
-      all_good = λ pops good.
+      all_good = λ whole pops good.
           let under = c.index-stack.result.now in
           let old = c.args.self.now.stacks.items in
           let at = at_read old c.args.place under c.requires.place c.index-stack.ensures in
-          let reduced = c.in_ok-reduced.reduced.items in
-          let leads = reductions_all gr graph table c.requires.sound c.args.pops.now pops under.good reduced c.in_ok-reduced.ensures.room
-          (index under.top.0) (c.requires.stacks.within c.args.place under at) c.in_ok-reduced.ensures.all in
-          added.all_good (c.gotos.invariant.all_good pops good) (subst (AreAllReductionsAt index gr graph table now c.args.place) (sym c.deref-in-gotos.ensures.value)
+          let reduced = c.good_reductions.new.reduced.items in
+          let leads = reductions_all gr graph table c.requires.sound c.args.pops.now pops under.good reduced c.good_reductions.ensures.room
+          (index under.top.0) (c.requires.stacks.within c.args.place under at)
+          (subst (λ (t : Table). AreReductionsClosed gr t c.args.pops.now (index under.top.0) under.good reduced) whole c.good_reductions.ensures.all) in
+          added.all_good (c.gotos.invariant.all_good whole pops good) (subst (AreAllReductionsAt index gr graph table now c.args.place) (sym c.as_slice-reduced.ensures.value)
           (all_reductions_at index gr table old now c.gotos.invariant.keeps c.args.place under at graph reduced leads));
       keeps = keeps_then c.args.self.now.stacks.items now new c.gotos.invariant.keeps added.keeps;
       shifts = shifts_kept index gr table now new added.keeps c.args.place low c.gotos.invariant.shifts;

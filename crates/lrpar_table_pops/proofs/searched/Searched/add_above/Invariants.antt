@@ -12,7 +12,7 @@ invariant-shifts g l =
     let index = g.StorageT.StorageIndex.index in
     record {
       stacks : AreStacks index l.checked.grammar l.checked.table l.self.stacks.items;
-      all_good : GoesOnAllGood index l.checked.grammar l.checked.graph l.checked.table l.pops l.fn.self.stacks.items l.self.stacks.items;
+      all_good : GoesOnAllGood index l.checked.grammar l.checked.graph l.checked.table l.part l.pops l.fn.self.stacks.items l.self.stacks.items;
       keeps : KeepsStacks l.fn.self.stacks.items l.self.stacks.items;
       met : (action : Action g.row.StorageT.Denot) → Contains (take l.action-index l.actions) action → IsShiftMetAt index l.checked.grammar l.checked.table l.self.stacks.items l.place action;
     }
@@ -23,7 +23,7 @@ invariant-gotos g l =
     let index = g.StorageT.StorageIndex.index in
     record {
       stacks : AreStacks index l.checked.grammar l.checked.table l.self.stacks.items;
-      all_good : GoesOnAllGood index l.checked.grammar l.checked.graph l.checked.table l.pops l.fn.self.stacks.items l.self.stacks.items;
+      all_good : GoesOnAllGood index l.checked.grammar l.checked.graph l.checked.table l.part l.pops l.fn.self.stacks.items l.self.stacks.items;
       keeps : KeepsStacks l.fn.self.stacks.items l.self.stacks.items;
       shifts : AreShiftsMet index l.checked.grammar l.checked.table l.self.stacks.items l.place;
       met : (next : StIdx g.row.StorageT.Denot) → Contains (take l.next-index l.nexts) next → IsMetAt index l.checked.grammar l.checked.table l.self.stacks.items l.place (index next.0);
