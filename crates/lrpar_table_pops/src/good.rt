@@ -46,7 +46,7 @@ pub(crate) fn good_at_start<StorageT: StorageIndex>(
 
 /// Sets the lookaheads of each rule at which it can be reduced on top of a stack, with the state on top, so that a run goes on to accept, by
 /// the good exits of the state. Only lookaheads at which the part of the table has actions are looked at.
-pub(crate) fn good_reductions<StorageT: StorageIndex>(
+pub(crate) fn set_good_reductions<StorageT: StorageIndex>(
     checked: &Automaton<'_, StorageT>,
     part: &StateTable<StorageT>,
     pops: &Pops,

@@ -11,7 +11,7 @@ ghost use Rattle.lrpar_table_pops.specs.StoredPops.{ArePopsOf, any_of};
 
 use crate::automaton::Automaton;
 use crate::exits::Exits;
-use crate::good::{good_above, good_at_start, good_reductions};
+use crate::good::{good_above, good_at_start, set_good_reductions};
 use crate::pops::Pops;
 use lrpar_grammar::span::{StIdx, StorageIndex};
 use lrpar_grammar::token_set::TokenSet;
@@ -108,7 +108,7 @@ impl<StorageT: StorageIndex> Searched<StorageT> {
     {
         let stack = &self.stacks[place];
         let top = stack.top;
-        good_reductions(checked, part, pops, top, &stack.good, reduced);
+        set_good_reductions(checked, part, pops, top, &stack.good, reduced);
         let reduced = reduced.as_slice();
         let (_, actions) = checked.stable().actions_of(top);
         let (_, nexts) = checked.stable().gotos_of(top);

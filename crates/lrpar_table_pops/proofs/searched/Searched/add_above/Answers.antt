@@ -24,7 +24,7 @@ add_shift-requires-clause-reduced g c =
     let at = at_read old c.args.place under c.requires.place c.index-stack.ensures in
     let now = c.shifts.self.stacks.items in
     subst (AreReductionsAt index gr table now c.args.place) (sym c.as_slice-reduced.ensures.value)
-    (reductions_at index gr table old now c.shifts.invariant.keeps c.args.place under at c.good_reductions.new.reduced.items c.good_reductions.ensures.good)
+    (reductions_at index gr table old now c.shifts.invariant.keeps c.args.place under at c.set_good_reductions.new.reduced.items c.set_good_reductions.ensures.good)
 
 pub add_shift-requires-clause-joined : goal.add_shift-requires-clause-joined
 add_shift-requires-clause-joined g c = λ next shift.
@@ -68,10 +68,10 @@ shifts-preserved g c =
           let under = c.index-stack.result.now in
           let old = c.args.self.now.stacks.items in
           let at = at_read old c.args.place under c.requires.place c.index-stack.ensures in
-          let reduced = c.good_reductions.new.reduced.items in
-          let leads = reductions_all gr graph table c.requires.sound c.args.pops.now pops under.good reduced c.good_reductions.ensures.room
+          let reduced = c.set_good_reductions.new.reduced.items in
+          let leads = reductions_all gr graph table c.requires.sound c.args.pops.now pops under.good reduced c.set_good_reductions.ensures.room
           (index under.top.0) (c.requires.stacks.within c.args.place under at)
-          (subst (λ (t : Table). AreReductionsClosed gr t c.args.pops.now (index under.top.0) under.good reduced) whole c.good_reductions.ensures.all) in
+          (subst (λ (t : Table). AreReductionsClosed gr t c.args.pops.now (index under.top.0) under.good reduced) whole c.set_good_reductions.ensures.all) in
           added.all_good (c.shifts.invariant.all_good whole pops good) (subst (AreAllReductionsAt index gr graph table now c.args.place) (sym c.as_slice-reduced.ensures.value)
           (all_reductions_at index gr table old now c.shifts.invariant.keeps c.args.place under at graph reduced leads));
       keeps = keeps_then c.args.self.now.stacks.items now new c.shifts.invariant.keeps added.keeps;
@@ -119,7 +119,7 @@ add-requires-clause-reduced g c =
     let at = at_read old c.args.place under c.requires.place c.index-stack.ensures in
     let now = c.gotos.self.stacks.items in
     subst (AreReductionsAt index gr table now c.args.place) (sym c.as_slice-reduced.ensures.value)
-    (reductions_at index gr table old now c.gotos.invariant.keeps c.args.place under at c.good_reductions.new.reduced.items c.good_reductions.ensures.good)
+    (reductions_at index gr table old now c.gotos.invariant.keeps c.args.place under at c.set_good_reductions.new.reduced.items c.set_good_reductions.ensures.good)
 
 pub add-requires-clause-joined : goal.add-requires-clause-joined
 add-requires-clause-joined g c =
@@ -155,10 +155,10 @@ gotos-preserved g c =
           let under = c.index-stack.result.now in
           let old = c.args.self.now.stacks.items in
           let at = at_read old c.args.place under c.requires.place c.index-stack.ensures in
-          let reduced = c.good_reductions.new.reduced.items in
-          let leads = reductions_all gr graph table c.requires.sound c.args.pops.now pops under.good reduced c.good_reductions.ensures.room
+          let reduced = c.set_good_reductions.new.reduced.items in
+          let leads = reductions_all gr graph table c.requires.sound c.args.pops.now pops under.good reduced c.set_good_reductions.ensures.room
           (index under.top.0) (c.requires.stacks.within c.args.place under at)
-          (subst (λ (t : Table). AreReductionsClosed gr t c.args.pops.now (index under.top.0) under.good reduced) whole c.good_reductions.ensures.all) in
+          (subst (λ (t : Table). AreReductionsClosed gr t c.args.pops.now (index under.top.0) under.good reduced) whole c.set_good_reductions.ensures.all) in
           added.all_good (c.gotos.invariant.all_good whole pops good) (subst (AreAllReductionsAt index gr graph table now c.args.place) (sym c.as_slice-reduced.ensures.value)
           (all_reductions_at index gr table old now c.gotos.invariant.keeps c.args.place under at graph reduced leads));
       keeps = keeps_then c.args.self.now.stacks.items now new c.gotos.invariant.keeps added.keeps;

@@ -1,7 +1,7 @@
 use Rattle.lrpar_table_pops.specs.Good.{LeadToReductions}
 use Rattle.lrpar_table_pops.specs.Growth.{HaveRoomFor}
 use Rattle.lrpar_table_pops.specs.Sets.{room_in}
-use Rattle.lrpar_table_pops.proofs.good.good_reductions.Given as goal
+use Rattle.lrpar_table_pops.proofs.good.set_good_reductions.Given as goal
 
 -- the reductions so far are right, and there is room for all
 abbrev pub invariant-passes : goal.invariant-passes

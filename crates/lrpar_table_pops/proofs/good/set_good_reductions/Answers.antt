@@ -1,7 +1,7 @@
 use Rattle.std.proofs.Common.{◌∙◌, subst, sym}
 use Rattle.std.proofs.lemmas.Bool.{OnFalse_at}
 use Rattle.lrpar_table_pops.specs.AllGood.{AreReductionsClosed}
-use Rattle.lrpar_table_pops.proofs.good.good_reductions.Goals as goal
+use Rattle.lrpar_table_pops.proofs.good.set_good_reductions.Goals as goal
 
 pub passes-init : goal.passes-init
 passes-init g c = record {
