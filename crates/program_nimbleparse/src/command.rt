@@ -337,7 +337,7 @@ fn add_repair_options<'a>(
                 .long("limit")
                 .value_name("N")
                 .value_parser(value_parser!(usize))
-                .default_value("10000")
+                .default_value("8000")
                 .help("Find no repairs if more than N configurations cost less than they do")
                 .long_help(LONG_HELP_OF_LIMIT),
         )?
