@@ -88,7 +88,8 @@ HaveWaysAtTokens index parts s is_goto at =
 abbrev pub AreClosedUnless : Parts → List StateExits → List Bool → Type 0
 AreClosedUnless parts states marks = AreClosedUnlessMarked parts.grammar parts.graph parts.table states marks
 
--- what is found of the state stays right, for any first lookahead
+-- what is found of the state, for any first lookahead, stays right, if the exits of other states are right and the table accepts at the end
+-- token alone
 abbrev pub StaysRightAtAny : {S : Type 0} → (S → ℕ) → Parts → List StateExits → StIdx S → Found → Found → Type 0
 StaysRightAtAny index parts pops s old new = StaysRight parts.grammar parts.table pops (index s.0) None old new
 
@@ -97,7 +98,8 @@ abbrev pub StartsAllAtAny : {S : Type 0} → (S → ℕ) → Parts → List Stat
 StartsAllAtAny index parts pops s old new =
     AreRightActions parts.grammar parts.table → FindsAll parts.grammar (StartsFrom parts.grammar parts.table pops (index s.0)) old new
 
--- what is found of the automaton's state stays right, for each first lookahead and for any
+-- what is found of the automaton's state stays right, for each first lookahead and for any, if the exits of other states are right and the
+-- table accepts at the end token alone
 abbrev pub FollowsStateIn : {S : Type 0} → (S → ℕ) → Parts → List StateExits → StIdx S → Found → Found → Type 0
 FollowsStateIn index parts pops s old new = FollowsState index parts.grammar parts.table pops s old new
 
@@ -156,13 +158,13 @@ ReducesBy prod symbols tokens q = (t : ℕ) × IsTrue (has tokens t) × (q ≡ D
 abbrev pub AreAllGoodTokens : Grammar → List Exit → List (List Bool) → Way → List Bool → Type 0
 AreAllGoodTokens g good reduced way tokens = (t : ℕ) → IsGoodExit g good reduced way t → IsTrue (has tokens t)
 
--- at no token an exit of the state above this way is good
+-- at no token is an exit of the state above this way good
 abbrev pub IsNeverGood : Grammar → List Exit → List (List Bool) → Way → Type 0
 IsNeverGood g good reduced way = (t : ℕ) → ¬ (IsGoodExit g good reduced way t)
 
 -- a run that reads the token with state `next` on top takes that state off, and goes on by the good exits or the good reductions
-abbrev pub ReadsOnAt : {S : Type 0} → (S → ℕ) → Parts → List Exit → List (List Bool) → StIdx S → TIdx S → Type 0
-ReadsOnAt index parts good reduced next token = ReadsOn parts.grammar parts.table good reduced (index next.0) (index token.0)
+abbrev pub ReadsOnIn : {S : Type 0} → (S → ℕ) → Parts → List Exit → List (List Bool) → StIdx S → TIdx S → Type 0
+ReadsOnIn index parts good reduced next token = ReadsOn parts.grammar parts.table good reduced (index next.0) (index token.0)
 
 -- if a run with state `next` on top, which acts so at the token, takes that off and goes on by the good exits or reductions, the result is true
 abbrev pub FindsGood : {S : Type 0} → (S → ℕ) → Parts → List StateExits → StIdx S → TIdx S → Action S → List Exit → List (List Bool) → Bool → Type 0
@@ -171,31 +173,32 @@ FindsGood index parts pops next token action good reduced result =
     → IsGoodControl parts.grammar good reduced q → IsTrue result
 
 -- exits that are good over a stack lead to reductions that are good on top of it with the state
-abbrev pub LeadTo : {S : Type 0} → (S → ℕ) → Parts → StIdx S → List Exit → Vec TokenSet Global → Type 0
-LeadTo index parts s good reduced = LeadToReductions parts.grammar parts.table (index s.0) good reduced.items
+abbrev pub LeadToReductionsIn : {S : Type 0} → (S → ℕ) → Parts → StIdx S → List Exit → Vec TokenSet Global → Type 0
+LeadToReductionsIn index parts s good reduced = LeadToReductions parts.grammar parts.table (index s.0) good reduced.items
 
--- if the exits lead to the old reductions on top of a stack with the state, they lead to the new ones
-abbrev pub KeepsLeading : {S : Type 0} → (S → ℕ) → Parts → StIdx S → List Exit → Vec TokenSet Global → Vec TokenSet Global → Type 0
-KeepsLeading index parts s good old new = KeepsReductions parts.grammar parts.table (index s.0) good old.items new.items
+-- if exits that are good over a stack lead to the old reductions on top of it with the state, they lead to the new ones
+abbrev pub KeepsReductionsIn : {S : Type 0} → (S → ℕ) → Parts → StIdx S → List Exit → Vec TokenSet Global → Vec TokenSet Global → Type 0
+KeepsReductionsIn index parts s good old new = KeepsReductions parts.grammar parts.table (index s.0) good old.items new.items
 
 -- in a state that has a goto to state `next` by the rule, the reductions that were added are right
-abbrev pub AddsByGotoTo : {S : Type 0} → (S → ℕ) → Parts → List Exit → ℕ → StIdx S → Vec TokenSet Global → Vec TokenSet Global → Type 0
-AddsByGotoTo index parts good rule next old new = AddsByGoto parts.grammar parts.table good rule (index next.0) old.items new.items
+abbrev pub AddsByGotoIn : {S : Type 0} → (S → ℕ) → Parts → List Exit → ℕ → StIdx S → Vec TokenSet Global → Vec TokenSet Global → Type 0
+AddsByGotoIn index parts good rule next old new = AddsByGoto parts.grammar parts.table good rule (index next.0) old.items new.items
 
 -- by the actions of the part, each token is closed for each goto of the state: what a run that reads it there leads to is among the reductions
-abbrev pub AreClosedIn : {S : Type 0} → (S → ℕ) → Parts → Table → List StateExits → StIdx S → List Exit → Vec TokenSet Global → Type 0
-AreClosedIn index parts part pops s good reduced = AreReductionsClosed parts.grammar part pops (index s.0) good reduced.items
+abbrev pub AreReductionsClosedIn : {S : Type 0} → (S → ℕ) → Parts → Table → List StateExits → StIdx S → List Exit → Vec TokenSet Global → Type 0
+AreReductionsClosedIn index parts part pops s good reduced = AreReductionsClosed parts.grammar part pops (index s.0) good reduced.items
 
--- by the actions of the part, each token is closed for the goto by the rule to state `next`
-abbrev pub AreTokensClosed : {S : Type 0} → (S → ℕ) → Parts → Table → List StateExits → List Exit → ℕ → StIdx S → Vec TokenSet Global → Type 0
-AreTokensClosed index parts part pops good rule next reduced =
+-- by the actions of the part, each token is closed for the goto by the rule to state `next`: what a run that reads it there leads to is among
+-- the reductions
+abbrev pub AreTokensClosedIn : {S : Type 0} → (S → ℕ) → Parts → Table → List StateExits → List Exit → ℕ → StIdx S → Vec TokenSet Global → Type 0
+AreTokensClosedIn index parts part pops good rule next reduced =
     (t : ℕ) → IsTokenClosed parts.grammar part pops good rule (index next.0) reduced.items t
 
--- the token is closed for the goto by the rule to state `next`
-abbrev pub IsClosedToken : {S : Type 0} → (S → ℕ) → Parts → List StateExits → List Exit → ℕ → StIdx S → TIdx S → Vec TokenSet Global → Type 0
-IsClosedToken index parts pops good rule next token reduced =
+-- the token is closed for the goto by the rule to state `next`: what a run that reads it there leads to is among the reductions
+abbrev pub IsTokenClosedIn : {S : Type 0} → (S → ℕ) → Parts → List StateExits → List Exit → ℕ → StIdx S → TIdx S → Vec TokenSet Global → Type 0
+IsTokenClosedIn index parts pops good rule next token reduced =
     IsTokenClosed parts.grammar parts.table pops good rule (index next.0) reduced.items (index token.0)
 
 -- each control in which a run can leave state `next`, and go on by the exits or the reductions, is that of one of the exits above
-abbrev pub HasAllOver : {S : Type 0} → (S → ℕ) → Parts → StIdx S → List Exit → List (List Bool) → List Exit → Type 0
-HasAllOver index parts next good reduced above = HasAllAbove parts.grammar parts.graph (index next.0) good reduced above
+abbrev pub HasAllAboveIn : {S : Type 0} → (S → ℕ) → Parts → StIdx S → List Exit → List (List Bool) → List Exit → Type 0
+HasAllAboveIn index parts next good reduced above = HasAllAbove parts.grammar parts.graph (index next.0) good reduced above

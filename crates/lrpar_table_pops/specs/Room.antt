@@ -33,15 +33,16 @@ HasNoMoreRoom old new = room_of new ≤ room_of old
 abbrev pub LosesRoomAt : StateExits → StateExits → Bool → Type 0
 LosesRoomAt old new result = OnTrue result (room_at new < room_at old)
 
--- if the result is true, fewer gotos are to be followed than before
+-- if the result is true, gotos are left to follow at fewer tokens than before
 abbrev pub FollowsMore : Found → Found → Bool → Type 0
 FollowsMore old new result = OnTrue result (room_in new.followed.items < room_in old.followed.items)
 
--- no more gotos are to be followed than before
+-- gotos are left to follow at no more tokens than before
 abbrev pub FollowsNoLess : Found → Found → Type 0
 FollowsNoLess old new = room_in new.followed.items ≤ room_in old.followed.items
 
--- the set of each rule has as much room, and as many tokens or more; if the result is true, one has more, and if it is false, all are the same
+-- the set of each rule is for as many tokens as before; no more tokens are missing in the sets, and fewer if the result is true; if it is
+-- false, the sets are equal to the old ones
 pub record SetsGrow (result : Bool) (old new : Vec TokenSet Global) : Type 0 where
   pub keeps_room : KeepRoom old.items new.items
   pub same : OnFalse result (new.items ≡ old.items)

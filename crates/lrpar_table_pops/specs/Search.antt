@@ -65,12 +65,12 @@ pub record GoesOnAt {S : Type 0} (index : S → ℕ) (parts : Parts) (part : Tab
   pub gone_on : IsGoneOnAt index parts.grammar parts.table new.stacks.items place
 
 -- if the part is the whole table, and runs can leave states by these exits alone, the states of `Stuck` are a stack that can't be completed
-abbrev pub IsFaultIn : {S : Type 0} → (S → ℕ) → Parts → Table → List StateExits → Incompletable S → Type 0
-IsFaultIn index parts part pops fault =
+abbrev pub IsFaultIfWhole : {S : Type 0} → (S → ℕ) → Parts → Table → List StateExits → Incompletable S → Type 0
+IsFaultIfWhole index parts part pops fault =
     IsFaultIf index parts.grammar parts.table ((part ≡ parts.table) × AreAllPopsIn parts pops) fault
 
 -- if the part is the whole table, runs can leave states by these exits alone, and the exits of each stack of the search are all that are good
 -- over the states below its top, the states of `Stuck` are a stack that can't be completed
-abbrev pub IsFaultOf : {S : Type 0} → (S → ℕ) → Parts → Table → List StateExits → Searched S → Incompletable S → Type 0
-IsFaultOf index parts part pops searched fault =
+abbrev pub IsFaultIfAllGood : {S : Type 0} → (S → ℕ) → Parts → Table → List StateExits → Searched S → Incompletable S → Type 0
+IsFaultIfAllGood index parts part pops searched fault =
     IsFaultIf index parts.grammar parts.table ((part ≡ parts.table) × AreAllPopsIn parts pops × HasAllGood index parts searched) fault

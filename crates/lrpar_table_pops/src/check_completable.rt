@@ -5,7 +5,7 @@ ghost use Rattle.std.specs.Prelude.{IfOk};
 ghost use Rattle.std.specs.Bool.{OnTrue};
 ghost use Rattle.lrpar_table_pops.specs.Stuck.{IsFault};
 ghost use Rattle.lrpar_table_pops.specs.Automaton.{HaveRoomIn, IsPartWith};
-ghost use Rattle.lrpar_table_pops.specs.Search.{CompletesBy, GoesOnAt, HasAllGood, HasStacks, IsAllDone, IsFaultIn, IsFaultOf};
+ghost use Rattle.lrpar_table_pops.specs.Search.{CompletesBy, GoesOnAt, HasAllGood, HasStacks, IsAllDone, IsFaultIfWhole, IsFaultIfAllGood};
 
 use crate::automaton::Automaton;
 pub use crate::fault::Incompletable;
@@ -98,7 +98,7 @@ fn search_all<StorageT: StorageIndex>(
 ) -> Result<(), Incompletable<StorageT>>
     requires part { IsPartWith checked.now part.now pops.now }
     ensures completable { OnOk result (AreAllCompletable checked.now.grammar checked.now.table) }
-    ensures fault { IfErr result (IsFaultIn StorageT.index checked.now part.now pops.now) }
+    ensures fault { IfErr result (IsFaultIfWhole StorageT.index checked.now part.now pops.now) }
 {
     // The proof needs that the table is safe.
     let _lemma = checked.stable();
@@ -120,7 +120,7 @@ fn search<StorageT: StorageIndex>(
     requires all_good { HasAllGood StorageT.index checked.now searched.old }
     ensures stacks { OnOk result (HasStacks StorageT.index checked.now searched.new) }
     ensures done { OnOk result (IsAllDone StorageT.index checked.now pops.now searched.new) }
-    ensures fault { IfErr result (IsFaultIn StorageT.index checked.now part.now pops.now) }
+    ensures fault { IfErr result (IsFaultIfWhole StorageT.index checked.now part.now pops.now) }
 {
     let mut reduced = empty_sets(alloc, checked.grm())?;
     let mut place = 0;
@@ -151,7 +151,7 @@ fn go_on<StorageT: StorageIndex>(
     ensures room { OnOk result (HaveRoomIn checked.now reduced.new) }
     ensures gone_on { OnOk result (GoesOnAt StorageT.index checked.now part.now pops.now place searched.old searched.new) }
     ensures completes { OnOk result (CompletesBy StorageT.index pops.now searched.old place) }
-    ensures fault { IfErr result (IsFaultOf StorageT.index checked.now part.now pops.now searched.old) }
+    ensures fault { IfErr result (IsFaultIfAllGood StorageT.index checked.now part.now pops.now searched.old) }
 {
     // The proof needs that the table is safe.
     let _lemma = checked.stable();

@@ -15,7 +15,7 @@ ghost use Rattle.lrpar_table_pops.specs.Good.{AddsTokenBy, AllGoOn, AreGoodOver,
 ghost use Rattle.lrpar_table_pops.specs.Pops.{Done, Dropping};
 ghost use Rattle.lrpar_table_pops.specs.Sets.{room_in, tokens_by};
 ghost use Rattle.lrpar_table_pops.specs.StoredPops.{at_of};
-ghost use Rattle.lrpar_table_pops.specs.Automaton.{AddsByGotoTo, AreAllGoodTokens, AreClosedIn, ArePopsIn, AreTokensClosed, FindsGood, HasAllOver, HasState, HaveRoomIn, IsClosedToken, IsNeverGood, IsPartWith, KeepsLeading, LeadTo, ReadsOnAt};
+ghost use Rattle.lrpar_table_pops.specs.Automaton.{AddsByGotoIn, AreAllGoodTokens, AreReductionsClosedIn, ArePopsIn, AreTokensClosedIn, FindsGood, HasAllAboveIn, HasState, HaveRoomIn, IsTokenClosedIn, IsNeverGood, IsPartWith, KeepsReductionsIn, LeadToReductionsIn, ReadsOnIn};
 ghost use Rattle.lrpar_table_pops.specs.Room.{SetsGrow};
 
 use crate::automaton::Automaton;
@@ -55,9 +55,9 @@ pub(crate) fn set_good_reductions<StorageT: StorageIndex>(
     requires part { IsPartWith checked.now part.now pops.now }
     requires state { HasState StorageT.index checked.now state }
     requires room { HaveRoomIn checked.now reduced.old }
-    ensures good { LeadTo StorageT.index checked.now state good.now reduced.new }
+    ensures good { LeadToReductionsIn StorageT.index checked.now state good.now reduced.new }
     ensures room { HaveRoomIn checked.now reduced.new }
-    ensures all { AreClosedIn StorageT.index checked.now part.now pops.now state good.now reduced.new }
+    ensures all { AreReductionsClosedIn StorageT.index checked.now part.now pops.now state good.now reduced.new }
 {
     clear_sets(reduced);
     'passes: while add_all(checked, part, pops, state, good, reduced) {}
@@ -74,9 +74,9 @@ fn add_all<StorageT: StorageIndex>(
 ) -> bool
     requires part { IsPartWith checked.now part.now pops.now }
     requires state { HasState StorageT.index checked.now state }
-    ensures keeps { KeepsLeading StorageT.index checked.now state good.now reduced.old reduced.new }
+    ensures keeps { KeepsReductionsIn StorageT.index checked.now state good.now reduced.old reduced.new }
     ensures sets { SetsGrow result reduced.old reduced.new }
-    ensures all { OnFalse result (AreClosedIn StorageT.index checked.now part.now pops.now state good.now reduced.old) }
+    ensures all { OnFalse result (AreReductionsClosedIn StorageT.index checked.now part.now pops.now state good.now reduced.old) }
 {
     let (rules, nexts) = checked.stable().gotos_of(state);
     let mut grown = false;
@@ -102,9 +102,9 @@ fn add_by_goto<StorageT: StorageIndex>(
 ) -> bool
     requires part { IsPartWith checked.now part.now pops.now }
     requires next { HasState StorageT.index checked.now next }
-    ensures keeps { AddsByGotoTo StorageT.index checked.now good.now rule next reduced.old reduced.new }
+    ensures keeps { AddsByGotoIn StorageT.index checked.now good.now rule next reduced.old reduced.new }
     ensures sets { SetsGrow result reduced.old reduced.new }
-    ensures all { OnFalse result (AreTokensClosed StorageT.index checked.now part.now pops.now good.now rule next reduced.old) }
+    ensures all { OnFalse result (AreTokensClosedIn StorageT.index checked.now part.now pops.now good.now rule next reduced.old) }
 {
     let (tokens, actions) = part.actions_of(next);
     let mut grown = false;
@@ -140,9 +140,9 @@ fn add_token<StorageT: StorageIndex>(
     requires pops { ArePopsIn checked.now pops.now }
     requires next { HasState StorageT.index checked.now next }
     requires action { IsActionAt StorageT.index checked.now.table next token action }
-    ensures keeps { AddsByGotoTo StorageT.index checked.now good.now rule next reduced.old reduced.new }
+    ensures keeps { AddsByGotoIn StorageT.index checked.now good.now rule next reduced.old reduced.new }
     ensures sets { SetsGrow result reduced.old reduced.new }
-    ensures all { OnFalse result (IsClosedToken StorageT.index checked.now pops.now good.now rule next token reduced.old) }
+    ensures all { OnFalse result (IsTokenClosedIn StorageT.index checked.now pops.now good.now rule next token reduced.old) }
 {
     if has_token(reduced, rule, usize::from(token)) {
         return false;
@@ -190,7 +190,7 @@ fn reads_on<StorageT: StorageIndex>(
     requires pops { ArePopsIn checked.now pops.now }
     requires next { HasState StorageT.index checked.now next }
     requires action { IsActionAt StorageT.index checked.now.table next token action }
-    ensures reads { OnTrue result (ReadsOnAt StorageT.index checked.now good.now reduced.now next token) }
+    ensures reads { OnTrue result (ReadsOnIn StorageT.index checked.now good.now reduced.now next token) }
     ensures all { FindsGood StorageT.index checked.now pops.now next token action good.now reduced.now result }
 {
     let grm = checked.grm();
@@ -344,7 +344,7 @@ pub(crate) fn good_above<StorageT: StorageIndex>(
 ) -> Result<Exits, AllocError>
     requires { HasState StorageT.index checked.now next }
     ensures good { IfOk result (LeadBoth checked.now.grammar checked.now.table good.now reduced.now) }
-    ensures all { IfOk result (HasAllOver StorageT.index checked.now next good.now reduced.now) }
+    ensures all { IfOk result (HasAllAboveIn StorageT.index checked.now next good.now reduced.now) }
 {
     let grm = checked.grm();
     // The proof needs that the item sets have the table's states.

@@ -187,8 +187,8 @@ returns-clause-gone_on g c =
       keeps = c.gotos.invariant.keeps;
       all_good = c.gotos.invariant.all_good;
       gone_on = all_met index gr table old now c.gotos.invariant.keeps c.args.place under at c.gotos.invariant.shifts (λ next goto.
-    let read =
-    goto_read index c.stable-2.result.now table c.stable-2.ensures.table under.top next c.gotos_of.result.0.now nexts by.entries by.states by.exact by.within in
-    let state = Contains-preimage (λ (x : StIdx g.row.StorageT.Denot). index x.0) nexts next (read.1 goto) in
-    subst (IsMetAt index gr table now c.args.place) state.2 (all state.0 state.1));
+          let read =
+          goto_read index c.stable-2.result.now table c.stable-2.ensures.table under.top next c.gotos_of.result.0.now nexts by.entries by.states by.exact by.within in
+          let state = Contains-preimage (λ (x : StIdx g.row.StorageT.Denot). index x.0) nexts next (read.1 goto) in
+          subst (IsMetAt index gr table now c.args.place) state.2 (all state.0 state.1));
     }
