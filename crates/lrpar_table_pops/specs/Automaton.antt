@@ -93,7 +93,7 @@ AreClosedUnless parts states marks = AreClosedUnlessMarked parts.grammar parts.g
 abbrev pub StaysRightAtAny : {S : Type 0} → (S → ℕ) → Parts → List StateExits → StIdx S → Found → Found → Type 0
 StaysRightAtAny index parts pops s old new = StaysRight parts.grammar parts.table pops (index s.0) None old new
 
--- what the state leads to in one step, at a token at which it acts, is found
+-- if each action of the automaton's table is one of a safe table, what the state leads to in one step, at a token at which it acts, is found
 abbrev pub StartsAllAtAny : {S : Type 0} → (S → ℕ) → Parts → List StateExits → StIdx S → Found → Found → Type 0
 StartsAllAtAny index parts pops s old new =
     AreRightActions parts.grammar parts.table → FindsAll parts.grammar (StartsFrom parts.grammar parts.table pops (index s.0)) old new
@@ -103,7 +103,8 @@ StartsAllAtAny index parts pops s old new =
 abbrev pub FollowsStateIn : {S : Type 0} → (S → ℕ) → Parts → List StateExits → StIdx S → Found → Found → Type 0
 FollowsStateIn index parts pops s old new = FollowsState index parts.grammar parts.table pops s old new
 
--- for the automaton's state, what the gotos that were followed lead to is found
+-- if each action of the automaton's table is one of a safe table, what was found of the state is kept, and so is the room; and what the gotos
+-- that were followed lead to is found, if it was
 abbrev pub FollowsAllIn : {S : Type 0} → (S → ℕ) → Parts → List StateExits → StIdx S → Found → Found → Type 0
 FollowsAllIn index parts pops s old new = FollowsAllFor index parts.grammar parts.table pops s old new
 

@@ -153,7 +153,7 @@ impl<StorageT: StorageIndex> Searched<StorageT> {
         ensures added { OnOk result (AddsAt StorageT.index checked.now place reduced.now self.old self.new) }
         ensures met { OnOk result (Meets StorageT.index checked.now self.new place next) }
     {
-        // The proof needs that shifts and gotos lead to states of the table.
+        // The proof needs that the table is safe, and that shifts and gotos lead to its states.
         let _lemma = checked.stable();
         let good = good_above(alloc, checked, &self.stacks[place].good, reduced, next)?;
         if self.is_covered(next, &good) {
