@@ -17,3 +17,6 @@ pub mod Good
 pub mod AllGood
 pub mod Searched
 pub mod Stuck
+pub mod Room
+pub mod Automaton
+pub mod Search

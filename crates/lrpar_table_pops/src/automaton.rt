@@ -1,6 +1,7 @@
 //! The automaton whose runs are looked at.
 ghost use Rattle.std.specs.Prelude.{◌≡◌};
 ghost use Rattle.lrpar_table_pops.specs.StoredAll.{IsSoundTable};
+ghost use Rattle.lrpar_table_pops.specs.Automaton.{IsSound};
 
 use lrpar_grammar::grammar::YaccGrammar;
 use lrpar_grammar::span::StorageIndex;
@@ -60,7 +61,7 @@ impl<'a, StorageT: StorageIndex> Automaton<'a, StorageT> {
     /// The table.
     pub(crate) fn stable(&self) -> &StateTable<StorageT>
         ensures table { result.now ≡ self.now.table }
-        ensures sound { IsSoundTable self.now.grammar self.now.graph self.now.table }
+        ensures sound { IsSound self.now }
     {
         self.stable
     }

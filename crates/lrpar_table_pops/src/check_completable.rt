@@ -1,15 +1,11 @@
 //! The check whether each stack of a table can be completed.
-ghost use Rattle.std.specs.Prelude.{◌≡◌, ◌<◌, ◌≤◌, IfErr, OnOk, length};
+ghost use Rattle.std.specs.Prelude.{◌<◌, IfErr, OnOk, length};
 ghost use Rattle.lrpar_table_pops.specs.Completable.{AreAllCompletable};
 ghost use Rattle.std.specs.Prelude.{IfOk};
 ghost use Rattle.std.specs.Bool.{OnTrue};
-ghost use Rattle.lrpar_table_pops.specs.Searched.{AreAllGood, AreDone, AreStacks, CompletesAt, GoesOnAllGood, IsGoneOnAt, KeepsStacks};
-ghost use Rattle.lrpar_table_pops.specs.Closed.{AreAllPopsOf};
-ghost use Rattle.lrpar_table_pops.specs.Growth.{HaveRoomFor};
-ghost use Rattle.lrpar_table_pops.specs.Parts.{IsPartOf};
-ghost use Rattle.lrpar_table_pops.specs.StoredAll.{IsSoundTable};
-ghost use Rattle.lrpar_table_pops.specs.StoredPops.{ArePopsOf, any_of};
-ghost use Rattle.lrpar_table_pops.specs.Stuck.{IsFault, IsFaultIf};
+ghost use Rattle.lrpar_table_pops.specs.Stuck.{IsFault};
+ghost use Rattle.lrpar_table_pops.specs.Automaton.{HaveRoomIn, IsPartWith};
+ghost use Rattle.lrpar_table_pops.specs.Search.{CompletesBy, GoesOnAt, HasAllGood, HasStacks, IsAllDone, IsFaultIfWhole, IsFaultIfAllGood};
 
 use crate::automaton::Automaton;
 pub use crate::fault::Incompletable;
@@ -100,10 +96,9 @@ fn search_all<StorageT: StorageIndex>(
     pops: &Pops,
     most: usize,
 ) -> Result<(), Incompletable<StorageT>>
-    requires part { IsPartOf checked.now.table part.now }
-    requires pops { ArePopsOf checked.now.grammar checked.now.table pops.now }
+    requires part { IsPartWith checked.now part.now pops.now }
     ensures completable { OnOk result (AreAllCompletable checked.now.grammar checked.now.table) }
-    ensures fault { IfErr result (IsFaultIf StorageT.index checked.now.grammar checked.now.table ((part.now ≡ checked.now.table) × AreAllPopsOf checked.now.grammar checked.now.table pops.now)) }
+    ensures fault { IfErr result (IsFaultIfWhole StorageT.index checked.now part.now pops.now) }
 {
     // The proof needs that the table is safe.
     let _lemma = checked.stable();
@@ -120,14 +115,12 @@ fn search<StorageT: StorageIndex>(
     searched: &mut Searched<StorageT>,
     most: usize,
 ) -> Result<(), Incompletable<StorageT>>
-    requires part { IsPartOf checked.now.table part.now }
-    requires pops { ArePopsOf checked.now.grammar checked.now.table pops.now }
-    requires stacks { AreStacks StorageT.index checked.now.grammar checked.now.table searched.old.stacks.items }
-    requires sound { IsSoundTable checked.now.grammar checked.now.graph checked.now.table }
-    requires all_good { AreAllGood StorageT.index checked.now.grammar checked.now.graph checked.now.table searched.old.stacks.items }
-    ensures stacks { OnOk result (AreStacks StorageT.index checked.now.grammar checked.now.table searched.new.stacks.items) }
-    ensures done { OnOk result (AreDone StorageT.index checked.now.grammar checked.now.table (any_of pops.now) searched.new.stacks.items (length searched.new.stacks.items)) }
-    ensures fault { IfErr result (IsFaultIf StorageT.index checked.now.grammar checked.now.table ((part.now ≡ checked.now.table) × AreAllPopsOf checked.now.grammar checked.now.table pops.now)) }
+    requires part { IsPartWith checked.now part.now pops.now }
+    requires stacks { HasStacks StorageT.index checked.now searched.old }
+    requires all_good { HasAllGood StorageT.index checked.now searched.old }
+    ensures stacks { OnOk result (HasStacks StorageT.index checked.now searched.new) }
+    ensures done { OnOk result (IsAllDone StorageT.index checked.now pops.now searched.new) }
+    ensures fault { IfErr result (IsFaultIfWhole StorageT.index checked.now part.now pops.now) }
 {
     let mut reduced = empty_sets(alloc, checked.grm())?;
     let mut place = 0;
@@ -151,20 +144,17 @@ fn go_on<StorageT: StorageIndex>(
     place: usize,
     reduced: &mut Vec<TokenSet>,
 ) -> Result<(), Incompletable<StorageT>>
-    requires part { IsPartOf checked.now.table part.now }
-    requires pops { ArePopsOf checked.now.grammar checked.now.table pops.now }
-    requires stacks { AreStacks StorageT.index checked.now.grammar checked.now.table searched.old.stacks.items }
-    requires sound { IsSoundTable checked.now.grammar checked.now.graph checked.now.table }
+    requires part { IsPartWith checked.now part.now pops.now }
+    requires stacks { HasStacks StorageT.index checked.now searched.old }
     requires place { place < length searched.old.stacks.items }
-    requires room { HaveRoomFor checked.now.grammar reduced.old.items }
-    ensures room { OnOk result (HaveRoomFor checked.now.grammar reduced.new.items) }
-    ensures stacks { OnOk result (AreStacks StorageT.index checked.now.grammar checked.now.table searched.new.stacks.items) }
-    ensures keeps { OnOk result (KeepsStacks searched.old.stacks.items searched.new.stacks.items) }
-    ensures all_good { OnOk result (GoesOnAllGood StorageT.index checked.now.grammar checked.now.graph checked.now.table part.now pops.now searched.old.stacks.items searched.new.stacks.items) }
-    ensures completes { OnOk result (CompletesAt StorageT.index (any_of pops.now) searched.old.stacks.items place) }
-    ensures gone_on { OnOk result (IsGoneOnAt StorageT.index checked.now.grammar checked.now.table searched.new.stacks.items place) }
-    ensures fault { IfErr result (IsFaultIf StorageT.index checked.now.grammar checked.now.table ((part.now ≡ checked.now.table) × AreAllPopsOf checked.now.grammar checked.now.table pops.now × AreAllGood StorageT.index checked.now.grammar checked.now.graph checked.now.table searched.old.stacks.items)) }
+    requires room { HaveRoomIn checked.now reduced.old }
+    ensures room { OnOk result (HaveRoomIn checked.now reduced.new) }
+    ensures gone_on { OnOk result (GoesOnAt StorageT.index checked.now part.now pops.now place searched.old searched.new) }
+    ensures completes { OnOk result (CompletesBy StorageT.index pops.now searched.old place) }
+    ensures fault { IfErr result (IsFaultIfAllGood StorageT.index checked.now part.now pops.now searched.old) }
 {
+    // The proof needs that the table is safe.
+    let _lemma = checked.stable();
     if !searched.can_complete(place, pops) {
         let states = searched.states(alloc, checked, place)?;
         return Err(Incompletable::Stuck(states));

@@ -2,12 +2,12 @@
 ghost use Rattle.std.specs.Prelude.{◌≡◌, ◌<◌, Contains, IfOk, IfSome, IsTrue, ℕ, None, Some, length, slice_get};
 ghost use Rattle.std.specs.Bool.{OnFalse, OnTrue};
 ghost use Rattle.lrpar_table_pops.specs.Pops.{Control};
-ghost use Rattle.lrpar_table_rows.specs.Graph.{graph_len};
-ghost use Rattle.lrpar_table_pops.specs.Exits.{AddsOnly, AreTokensAt, HasExit, HasNoExit, HaveAllExits, HaveExitInCommon, IsIndexOf, LeavesIn, control_of, room_left};
+ghost use Rattle.lrpar_table_pops.specs.Exits.{AddsOnly, AreTokensAt, HasExit, HasNoExit, HaveAllExits, HaveExitInCommon, LeavesIn, control_of};
 ghost use Rattle.lrpar_grammar.specs.Tokens.{has};
 ghost use Rattle.lrpar_table_pops.specs.declared.exits.Way.{Way};
-ghost use Rattle.lrpar_table_pops.specs.FoundAll.{AreExitsFor};
 ghost use Rattle.lrpar_table_pops.specs.Growth.{AreLookaheadsOf, GrowsBy, HasLookahead, HasWay, IsFirstOf, KeepsWays, SomeHasLookahead, ways_of};
+ghost use Rattle.lrpar_table_pops.specs.Automaton.{AreExitsIn, HasItemsOf};
+ghost use Rattle.lrpar_table_pops.specs.Room.{GainsLookahead};
 
 use crate::automaton::Automaton;
 use crate::sets::{insert, unite};
@@ -63,9 +63,9 @@ impl Exits {
         checked: &Automaton<'_, StorageT>,
         state: StIdx<StorageT>,
     ) -> Result<Self, AllocError>
-        requires { StorageT.index state.0 < graph_len checked.now.graph }
+        requires { HasItemsOf StorageT.index checked.now state }
         ensures none { IfOk result HasNoExit }
-        ensures places { IfOk result (AreExitsFor checked.now.grammar checked.now.graph (StorageT.index state.0)) }
+        ensures places { IfOk result (AreExitsIn StorageT.index checked.now state) }
     {
         let len = checked.grm().tokens_len();
         let mut exits = Vec::new(alloc);
@@ -139,7 +139,7 @@ impl Exits {
         ensures adds { AddsOnly (LeavesIn way tokens.now) self.old self.new }
         ensures all { GrowsBy (λ w t. (w ≡ way) × IsTrue (has tokens.now t)) self.old self.new }
         ensures ways { ways_of self.new ≡ ways_of self.old }
-        ensures grown { OnTrue result (room_left self.new < room_left self.old) }
+        ensures grown { GainsLookahead self.old self.new result }
         ensures same { OnFalse result (self.new ≡ self.old) }
     {
         match self.index_of(way) {
@@ -162,7 +162,7 @@ impl Exits {
     pub(crate) fn unite_all(&mut self, others: &Exits) -> bool
         ensures adds { AddsOnly (HasExit others.now) self.old self.new }
         ensures all { GrowsBy (SomeHasLookahead others.now) self.old self.new }
-        ensures grown { OnTrue result (room_left self.new < room_left self.old) }
+        ensures grown { GainsLookahead self.old self.new result }
         ensures same { OnFalse result (self.new ≡ self.old) }
     {
         let mut grown = false;

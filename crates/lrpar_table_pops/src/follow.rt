@@ -1,13 +1,14 @@
 //! What follows for a state from the exits of those to which it goes.
-ghost use Rattle.std.specs.Prelude.{◌≡◌, ◌<◌, ◌≤◌};
-ghost use Rattle.std.specs.Bool.{OnFalse, OnTrue};
+ghost use Rattle.std.specs.Prelude.{◌≡◌};
+ghost use Rattle.std.specs.Bool.{OnFalse};
 ghost use Rattle.lrpar_table_rows.specs.declared.rows.Action.{Action};
 ghost use Rattle.lrpar_table_rows.specs.declared.rows.Action.TheVariants.{Reduce};
 ghost use Rattle.lrpar_table_rows.specs.PlainRows.{plain_action};
 ghost use Rattle.lrpar_table_rows.specs.Table.{ReduceBy};
 ghost use Rattle.lrpar_table_pops.specs.Growth.{IsStored};
-ghost use Rattle.lrpar_table_pops.specs.Sets.{room_in};
 ghost use Rattle.lrpar_table_pops.specs.StoredPops.{at_of};
+ghost use Rattle.lrpar_table_pops.specs.Automaton.{FollowsAllIn, FollowsStateIn};
+ghost use Rattle.lrpar_table_pops.specs.Room.{FollowsMore, FollowsNoLess};
 
 use crate::automaton::Automaton;
 use crate::entries::{actions_at, gotos_at, symbols_len};
@@ -19,8 +20,8 @@ use lrpar_table_rows::table::{Action, StateTable};
 
 impl Pops {
     ghost use Rattle.lrpar_table_pops.specs.FoundAll.{FindsAll, IsDone, IsUnchanged};
-    ghost use Rattle.lrpar_table_pops.specs.FollowAll.{AreAllDone, FollowsAllAt, FollowsAllBy, FollowsAllFor, FollowsAllOf, IsRuleDone, StartsAll};
-    ghost use Rattle.lrpar_table_pops.specs.Steps.{FollowsAt, FollowsRule, FollowsState, StartsAt, FollowsAction};
+    ghost use Rattle.lrpar_table_pops.specs.FollowAll.{AreAllDone, FollowsAllAt, FollowsAllBy, FollowsAllOf, IsRuleDone, StartsAll};
+    ghost use Rattle.lrpar_table_pops.specs.Steps.{FollowsAt, FollowsRule, StartsAt, FollowsAction};
 
     /// A state acts so at the token.
     pub(crate) fn start<StorageT: StorageIndex>(
@@ -126,8 +127,8 @@ impl Pops {
         ensures all { FollowsAllAt StorageT.index grm.now self.now rule next token action found.old found.new }
         ensures done { OnFalse result (IsDone found.old rule (StorageT.index token.0)) }
         ensures same { OnFalse result (IsUnchanged found.old found.new) }
-        ensures less { OnTrue result (room_in found.new.followed.items < room_in found.old.followed.items) }
-        ensures no_more { room_in found.new.followed.items ≤ room_in found.old.followed.items }
+        ensures less { FollowsMore found.old found.new result }
+        ensures no_more { FollowsNoLess found.old found.new }
     {
         if !found.is_due(rule, usize::from(token)) {
             return false;
@@ -149,8 +150,8 @@ impl Pops {
         ensures all { FollowsAllOf StorageT.index grm.now stable.now self.now rule next found.old found.new }
         ensures done { OnFalse result (IsRuleDone StorageT.index stable.now rule next found.old) }
         ensures same { OnFalse result (IsUnchanged found.old found.new) }
-        ensures less { OnTrue result (room_in found.new.followed.items < room_in found.old.followed.items) }
-        ensures no_more { room_in found.new.followed.items ≤ room_in found.old.followed.items }
+        ensures less { FollowsMore found.old found.new result }
+        ensures no_more { FollowsNoLess found.old found.new }
     {
         if !found.is_rule_due(rule) {
             return false;
@@ -172,11 +173,11 @@ impl Pops {
         state: StIdx<StorageT>,
         found: &mut Found,
     ) -> bool
-        ensures follows { FollowsState StorageT.index checked.now.grammar checked.now.table self.now state found.old found.new }
-        ensures all { FollowsAllFor StorageT.index checked.now.grammar checked.now.table self.now state found.old found.new }
+        ensures follows { FollowsStateIn StorageT.index checked.now self.now state found.old found.new }
+        ensures all { FollowsAllIn StorageT.index checked.now self.now state found.old found.new }
         ensures done { OnFalse result (AreAllDone checked.now.table (StorageT.index state.0) found.old) }
         ensures same { OnFalse result (IsUnchanged found.old found.new) }
-        ensures less { OnTrue result (room_in found.new.followed.items < room_in found.old.followed.items) }
+        ensures less { FollowsMore found.old found.new result }
     {
         let (grm, stable) = (checked.grm(), checked.stable());
         let (rules, nexts) = gotos_at(stable, state);
@@ -196,8 +197,8 @@ impl Pops {
         state: StIdx<StorageT>,
         found: &mut Found,
     )
-        ensures follows { FollowsState StorageT.index checked.now.grammar checked.now.table self.now state found.old found.new }
-        ensures all { FollowsAllFor StorageT.index checked.now.grammar checked.now.table self.now state found.old found.new }
+        ensures follows { FollowsStateIn StorageT.index checked.now self.now state found.old found.new }
+        ensures all { FollowsAllIn StorageT.index checked.now self.now state found.old found.new }
         ensures done { AreAllDone checked.now.table (StorageT.index state.0) found.new }
     {
         'passes: while self.follow_once(checked, state, found) {}

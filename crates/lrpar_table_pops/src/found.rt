@@ -2,16 +2,17 @@
 ghost use Rattle.std.specs.Prelude.{◌≡◌, ◌<◌, ◌≤◌, ℕ, IfOk, IfSome, IsTrue, OnOk};
 ghost use Rattle.std.specs.Bool.{OnFalse, OnTrue};
 ghost use Rattle.lrpar_grammar.specs.Grammar.{Grammar, rule_of};
-ghost use Rattle.lrpar_grammar.specs.Tokens.{has, missing};
-ghost use Rattle.lrpar_table_rows.specs.Graph.{graph_len};
+ghost use Rattle.lrpar_grammar.specs.Tokens.{has};
 ghost use Rattle.lrpar_table_pops.specs.Exits.{HasExit, HasNoExit, LeavesIn};
 ghost use Rattle.lrpar_table_pops.specs.Pops.{Done, Dropping};
-ghost use Rattle.lrpar_table_pops.specs.Sets.{HaveNoTokens, tokens_by, room_in};
+ghost use Rattle.lrpar_table_pops.specs.Sets.{HaveNoTokens, tokens_by};
 ghost use Rattle.lrpar_grammar.specs.Grammar.{end_token, prods_len, rules_len};
-ghost use Rattle.lrpar_table_pops.specs.FoundAll.{AreExitsFor, SetsGrowBy};
-ghost use Rattle.lrpar_table_pops.specs.Growth.{HaveRoomFor, KeepRoom, KeepsWays, SomeHasLookahead};
-ghost use Rattle.lrpar_table_pops.specs.Pops.{Control};
+ghost use Rattle.lrpar_table_pops.specs.FoundAll.{SetsGrowBy};
+ghost use Rattle.lrpar_table_pops.specs.Growth.{KeepsWays, SomeHasLookahead};
 ghost use Rattle.std.specs.Prelude.{None};
+ghost use Rattle.lrpar_table_pops.specs.Automaton.{AreExitsIn, HasItemsOf, ReducesBy};
+ghost use Rattle.lrpar_table_pops.specs.Room.{FollowsMore, FollowsNoLess, KeepsFound, KeepsSetRoom, KeepsSets};
+ghost use Rattle.lrpar_table_pops.specs.StoredAll.{HaveSets};
 
 use crate::automaton::Automaton;
 use crate::exits::{Exit, Exits, Way};
@@ -39,8 +40,7 @@ impl Found {
         alloc: Global,
         grm: &YaccGrammar<StorageT>,
     ) -> Result<Self, AllocError>
-        ensures reduced { IfOk result (λ found. HaveRoomFor grm.now found.reduced.items) }
-        ensures followed { IfOk result (λ found. HaveRoomFor grm.now found.followed.items) }
+        ensures { IfOk result (HaveSets grm.now) }
     {
         let exits = Exits::none(alloc);
         let reduced = empty_sets(alloc, grm)?;
@@ -66,10 +66,9 @@ impl Found {
         checked: &Automaton<'_, StorageT>,
         state: StIdx<StorageT>,
     ) -> Result<(), AllocError>
-        requires { StorageT.index state.0 < graph_len checked.now.graph }
-        ensures places { OnOk result (AreExitsFor checked.now.grammar checked.now.graph (StorageT.index state.0) self.new.exits) }
-        ensures reduced { OnOk result (self.new.reduced ≡ self.old.reduced) }
-        ensures followed { OnOk result (self.new.followed ≡ self.old.followed) }
+        requires { HasItemsOf StorageT.index checked.now state }
+        ensures places { OnOk result (AreExitsIn StorageT.index checked.now state self.new.exits) }
+        ensures sets { OnOk result (KeepsSets self.old self.new) }
     {
         self.exits = Exits::new(alloc, checked, state)?;
         Ok(())
@@ -81,8 +80,7 @@ impl Found {
         ensures reduced { HaveNoTokens self.new.reduced.items }
         ensures followed { HaveNoTokens self.new.followed.items }
         ensures places { KeepsWays self.old.exits self.new.exits }
-        ensures room { KeepRoom self.old.reduced.items self.new.reduced.items }
-        ensures followed_room { KeepRoom self.old.followed.items self.new.followed.items }
+        ensures room { KeepsSetRoom self.old self.new }
     {
         self.exits.clear();
         clear_sets(&mut self.reduced);
@@ -173,8 +171,8 @@ impl Found {
         symbols: usize,
         tokens: &TokenSet,
     )
-        ensures stays { StaysFound grm.now (λ q. (t : ℕ) × IsTrue (has tokens.now t) × (q ≡ Dropping prod symbols t)) self.old self.new }
-        ensures all { FindsAll grm.now (λ q. (t : ℕ) × IsTrue (has tokens.now t) × (q ≡ Dropping prod symbols t)) self.old self.new }
+        ensures stays { StaysFound grm.now (ReducesBy prod symbols tokens.now) self.old self.new }
+        ensures all { FindsAll grm.now (ReducesBy prod symbols tokens.now) self.old self.new }
         ensures followed { self.new.followed ≡ self.old.followed }
     {
         if symbols == 0 {
@@ -192,8 +190,8 @@ impl Found {
         prod: usize,
         tokens: &TokenSet,
     )
-        ensures stays { StaysFound grm.now (λ q. (t : ℕ) × IsTrue (has tokens.now t) × (q ≡ Dropping prod 0 t)) self.old self.new }
-        ensures all { FindsAll grm.now (λ q. (t : ℕ) × IsTrue (has tokens.now t) × (q ≡ Dropping prod 0 t)) self.old self.new }
+        ensures stays { StaysFound grm.now (ReducesBy prod 0 tokens.now) self.old self.new }
+        ensures all { FindsAll grm.now (ReducesBy prod 0 tokens.now) self.old self.new }
         ensures followed { self.new.followed ≡ self.old.followed }
     {
         if let Some(rule) = rule_number(grm, prod)
@@ -216,14 +214,13 @@ impl Found {
     /// Whether the rule's goto is to be followed at the token. It counts as followed then.
     pub(crate) fn is_due(&mut self, rule: usize, token: usize) -> bool
         ensures due { OnTrue result (IsTrue (has (tokens_by self.old.reduced.items rule) token)) }
-        ensures exits { self.new.exits ≡ self.old.exits }
-        ensures reduced { self.new.reduced ≡ self.old.reduced }
-        ensures less { OnTrue result (room_in self.new.followed.items < room_in self.old.followed.items) }
+        ensures kept { KeepsFound self.old self.new }
+        ensures less { FollowsMore self.old self.new result }
         ensures grows { SetsGrowBy (λ r t. IsTrue result × (r ≡ rule) × (t ≡ token)) self.old.followed.items self.new.followed.items }
         ensures only { FollowsOnly rule token self.old self.new }
         ensures not_due { OnFalse result (IsDone self.old rule token) }
         ensures same { OnFalse result (IsUnchanged self.old self.new) }
-        ensures no_more { room_in self.new.followed.items ≤ room_in self.old.followed.items }
+        ensures no_more { FollowsNoLess self.old self.new }
     {
         if !self.has_reduced(rule, token) || rule >= self.followed.len() {
             return false;

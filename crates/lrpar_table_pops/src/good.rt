@@ -3,22 +3,20 @@ ghost use Rattle.std.specs.Prelude.{◌≡◌, ◌<◌, ◌≤◌, IfOk, IfSome,
 ghost use Rattle.std.specs.Bool.{OnFalse, OnTrue};
 ghost use Rattle.std.specs.Prelude.{ℕ, IsTrue, None, Some, slice_get};
 ghost use Rattle.lrpar_grammar.specs.Tokens.{has};
-ghost use Rattle.lrpar_table_rows.specs.PlainRows.{plain_action};
-ghost use Rattle.lrpar_table_pops.specs.AllGood.{AreReductionsClosed, HasAllAbove, IsGoodExit, IsGoodControl, IsTokenClosed};
-ghost use Rattle.lrpar_table_pops.specs.Closed.{FollowsIn};
+ghost use Rattle.lrpar_table_pops.specs.AllGood.{IsGoodExit};
 ghost use Rattle.lrpar_table_pops.specs.FoundAll.{SetsGrowBy};
-ghost use Rattle.lrpar_table_pops.specs.Growth.{GrowsBy, HasLookahead, HaveRoomFor, IsStored, KeepRoom, SomeHasLookahead, ways_of};
-ghost use Rattle.lrpar_table_pops.specs.Parts.{IsPartOf};
+ghost use Rattle.lrpar_table_pops.specs.Growth.{GrowsBy, HasLookahead, IsStored, SomeHasLookahead, ways_of};
 ghost use Rattle.lrpar_table_pops.specs.declared.exits.Way.{Way};
 ghost use Rattle.lrpar_table_pops.specs.declared.exits.Way.TheVariants.{Reduction};
 ghost use Rattle.lrpar_grammar.specs.Grammar.{prods_len, rule_of};
 ghost use Rattle.lrpar_table_rows.specs.StoredRows.{IsActionAt};
-ghost use Rattle.lrpar_table_rows.specs.Table.{states_len};
 ghost use Rattle.lrpar_table_pops.specs.Exits.{AddsOnly, HasExit, LeavesIn, control_of};
-ghost use Rattle.lrpar_table_pops.specs.Good.{AddsByGoto, AddsTokenBy, AllGoOn, AreGoodOver, GoesOn, KeepsReductions, LeadBoth, LeadToReductions, ReadsOn, SomeGoesOn};
-ghost use Rattle.lrpar_table_pops.specs.Pops.{Control, Done, Dropping};
+ghost use Rattle.lrpar_table_pops.specs.Good.{AddsTokenBy, AllGoOn, AreGoodOver, GoesOn, LeadBoth, SomeGoesOn};
+ghost use Rattle.lrpar_table_pops.specs.Pops.{Done, Dropping};
 ghost use Rattle.lrpar_table_pops.specs.Sets.{room_in, tokens_by};
-ghost use Rattle.lrpar_table_pops.specs.StoredPops.{ArePopsOf, at_of};
+ghost use Rattle.lrpar_table_pops.specs.StoredPops.{at_of};
+ghost use Rattle.lrpar_table_pops.specs.Automaton.{AddsByGotoIn, AreAllGoodTokens, AreReductionsClosedIn, ArePopsIn, AreTokensClosedIn, FindsGood, HasAllAboveIn, HasState, HaveRoomIn, IsTokenClosedIn, IsNeverGood, IsPartWith, KeepsReductionsIn, LeadToReductionsIn, ReadsOnIn};
+ghost use Rattle.lrpar_table_pops.specs.Room.{SetsGrow};
 
 use crate::automaton::Automaton;
 use crate::exits::{Exit, Exits, Way};
@@ -54,13 +52,12 @@ pub(crate) fn set_good_reductions<StorageT: StorageIndex>(
     good: &Exits,
     reduced: &mut Vec<TokenSet>,
 )
-    requires part { IsPartOf checked.now.table part.now }
-    requires pops { ArePopsOf checked.now.grammar checked.now.table pops.now }
-    requires state { StorageT.index state.0 < states_len checked.now.table }
-    requires room { HaveRoomFor checked.now.grammar reduced.old.items }
-    ensures good { LeadToReductions checked.now.grammar checked.now.table (StorageT.index state.0) good.now reduced.new.items }
-    ensures room { HaveRoomFor checked.now.grammar reduced.new.items }
-    ensures all { AreReductionsClosed checked.now.grammar part.now pops.now (StorageT.index state.0) good.now reduced.new.items }
+    requires part { IsPartWith checked.now part.now pops.now }
+    requires state { HasState StorageT.index checked.now state }
+    requires room { HaveRoomIn checked.now reduced.old }
+    ensures good { LeadToReductionsIn StorageT.index checked.now state good.now reduced.new }
+    ensures room { HaveRoomIn checked.now reduced.new }
+    ensures all { AreReductionsClosedIn StorageT.index checked.now part.now pops.now state good.now reduced.new }
 {
     clear_sets(reduced);
     'passes: while add_all(checked, part, pops, state, good, reduced) {}
@@ -75,15 +72,11 @@ fn add_all<StorageT: StorageIndex>(
     good: &Exits,
     reduced: &mut Vec<TokenSet>,
 ) -> bool
-    requires part { IsPartOf checked.now.table part.now }
-    requires pops { ArePopsOf checked.now.grammar checked.now.table pops.now }
-    requires state { StorageT.index state.0 < states_len checked.now.table }
-    ensures keeps { KeepsReductions checked.now.grammar checked.now.table (StorageT.index state.0) good.now reduced.old.items reduced.new.items }
-    ensures keeps_room { KeepRoom reduced.old.items reduced.new.items }
-    ensures same { OnFalse result (reduced.new.items ≡ reduced.old.items) }
-    ensures all { OnFalse result (AreReductionsClosed checked.now.grammar part.now pops.now (StorageT.index state.0) good.now reduced.old.items) }
-    ensures room { room_in reduced.new.items ≤ room_in reduced.old.items }
-    ensures grown { OnTrue result (room_in reduced.new.items < room_in reduced.old.items) }
+    requires part { IsPartWith checked.now part.now pops.now }
+    requires state { HasState StorageT.index checked.now state }
+    ensures keeps { KeepsReductionsIn StorageT.index checked.now state good.now reduced.old reduced.new }
+    ensures sets { SetsGrow result reduced.old reduced.new }
+    ensures all { OnFalse result (AreReductionsClosedIn StorageT.index checked.now part.now pops.now state good.now reduced.old) }
 {
     let (rules, nexts) = checked.stable().gotos_of(state);
     let mut grown = false;
@@ -107,15 +100,11 @@ fn add_by_goto<StorageT: StorageIndex>(
     good: &Exits,
     reduced: &mut Vec<TokenSet>,
 ) -> bool
-    requires part { IsPartOf checked.now.table part.now }
-    requires pops { ArePopsOf checked.now.grammar checked.now.table pops.now }
-    requires next { StorageT.index next.0 < states_len checked.now.table }
-    ensures keeps { AddsByGoto checked.now.grammar checked.now.table good.now rule (StorageT.index next.0) reduced.old.items reduced.new.items }
-    ensures keeps_room { KeepRoom reduced.old.items reduced.new.items }
-    ensures same { OnFalse result (reduced.new.items ≡ reduced.old.items) }
-    ensures all { OnFalse result ((t : ℕ) → IsTokenClosed checked.now.grammar part.now pops.now good.now rule (StorageT.index next.0) reduced.old.items t) }
-    ensures room { room_in reduced.new.items ≤ room_in reduced.old.items }
-    ensures grown { OnTrue result (room_in reduced.new.items < room_in reduced.old.items) }
+    requires part { IsPartWith checked.now part.now pops.now }
+    requires next { HasState StorageT.index checked.now next }
+    ensures keeps { AddsByGotoIn StorageT.index checked.now good.now rule next reduced.old reduced.new }
+    ensures sets { SetsGrow result reduced.old reduced.new }
+    ensures all { OnFalse result (AreTokensClosedIn StorageT.index checked.now part.now pops.now good.now rule next reduced.old) }
 {
     let (tokens, actions) = part.actions_of(next);
     let mut grown = false;
@@ -148,15 +137,12 @@ fn add_token<StorageT: StorageIndex>(
     good: &Exits,
     reduced: &mut Vec<TokenSet>,
 ) -> bool
-    requires pops { ArePopsOf checked.now.grammar checked.now.table pops.now }
-    requires next { StorageT.index next.0 < states_len checked.now.table }
+    requires pops { ArePopsIn checked.now pops.now }
+    requires next { HasState StorageT.index checked.now next }
     requires action { IsActionAt StorageT.index checked.now.table next token action }
-    ensures keeps { AddsByGoto checked.now.grammar checked.now.table good.now rule (StorageT.index next.0) reduced.old.items reduced.new.items }
-    ensures keeps_room { KeepRoom reduced.old.items reduced.new.items }
-    ensures same { OnFalse result (reduced.new.items ≡ reduced.old.items) }
-    ensures all { OnFalse result (IsTokenClosed checked.now.grammar checked.now.table pops.now good.now rule (StorageT.index next.0) reduced.old.items (StorageT.index token.0)) }
-    ensures room { room_in reduced.new.items ≤ room_in reduced.old.items }
-    ensures grown { OnTrue result (room_in reduced.new.items < room_in reduced.old.items) }
+    ensures keeps { AddsByGotoIn StorageT.index checked.now good.now rule next reduced.old reduced.new }
+    ensures sets { SetsGrow result reduced.old reduced.new }
+    ensures all { OnFalse result (IsTokenClosedIn StorageT.index checked.now pops.now good.now rule next token reduced.old) }
 {
     if has_token(reduced, rule, usize::from(token)) {
         return false;
@@ -201,11 +187,11 @@ fn reads_on<StorageT: StorageIndex>(
     good: &Exits,
     reduced: &[TokenSet],
 ) -> bool
-    requires pops { ArePopsOf checked.now.grammar checked.now.table pops.now }
-    requires next { StorageT.index next.0 < states_len checked.now.table }
+    requires pops { ArePopsIn checked.now pops.now }
+    requires next { HasState StorageT.index checked.now next }
     requires action { IsActionAt StorageT.index checked.now.table next token action }
-    ensures reads { OnTrue result (ReadsOn checked.now.grammar checked.now.table good.now reduced.now (StorageT.index next.0) (StorageT.index token.0)) }
-    ensures all { (q : Control) → FollowsIn checked.now.grammar pops.now (StorageT.index next.0) (StorageT.index token.0) (plain_action StorageT.index action) q → IsGoodControl checked.now.grammar good.now reduced.now q → IsTrue result }
+    ensures reads { OnTrue result (ReadsOnIn StorageT.index checked.now good.now reduced.now next token) }
+    ensures all { FindsGood StorageT.index checked.now pops.now next token action good.now reduced.now result }
 {
     let grm = checked.grm();
     // The proof needs that the table is safe.
@@ -304,8 +290,8 @@ fn good_tokens<'a, StorageT: StorageIndex>(
     reduced: &'a [TokenSet],
 ) -> Option<&'a TokenSet>
     ensures good { IfSome result (λ tokens. AllGoOn grm.now good.now reduced.now (control_of way) tokens.now) }
-    ensures all { IfSome result (λ tokens. (t : ℕ) → IsGoodExit grm.now good.now reduced.now way t → IsTrue (has tokens.now t)) }
-    ensures none { result ≡ None → (t : ℕ) → ¬ (IsGoodExit grm.now good.now reduced.now way t) }
+    ensures all { IfSome result (λ tokens. AreAllGoodTokens grm.now good.now reduced.now way tokens.now) }
+    ensures none { result ≡ None → IsNeverGood grm.now good.now reduced.now way }
 {
     match way {
         Way::Acceptance => good.tokens_at(Way::Acceptance),
@@ -322,8 +308,8 @@ fn good_drops<'a, StorageT: StorageIndex>(
     reduced: &'a [TokenSet],
 ) -> Option<&'a TokenSet>
     ensures good { IfSome result (λ tokens. AllGoOn grm.now good.now reduced.now (Dropping prod symbols) tokens.now) }
-    ensures all { IfSome result (λ tokens. (t : ℕ) → IsGoodExit grm.now good.now reduced.now (Reduction prod symbols) t → IsTrue (has tokens.now t)) }
-    ensures none { result ≡ None → (t : ℕ) → ¬ (IsGoodExit grm.now good.now reduced.now (Reduction prod symbols) t) }
+    ensures all { IfSome result (λ tokens. AreAllGoodTokens grm.now good.now reduced.now (Reduction prod symbols) tokens.now) }
+    ensures none { result ≡ None → IsNeverGood grm.now good.now reduced.now (Reduction prod symbols) }
 {
     if symbols == 0 {
         good_here(grm, prod, reduced)
@@ -356,9 +342,9 @@ pub(crate) fn good_above<StorageT: StorageIndex>(
     reduced: &[TokenSet],
     next: StIdx<StorageT>,
 ) -> Result<Exits, AllocError>
-    requires { StorageT.index next.0 < states_len checked.now.table }
+    requires { HasState StorageT.index checked.now next }
     ensures good { IfOk result (LeadBoth checked.now.grammar checked.now.table good.now reduced.now) }
-    ensures all { IfOk result (HasAllAbove checked.now.grammar checked.now.graph (StorageT.index next.0) good.now reduced.now) }
+    ensures all { IfOk result (HasAllAboveIn StorageT.index checked.now next good.now reduced.now) }
 {
     let grm = checked.grm();
     // The proof needs that the item sets have the table's states.

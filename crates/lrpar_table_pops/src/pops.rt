@@ -1,11 +1,12 @@
 //! The exits of all states: in which controls a run can leave each.
-ghost use Rattle.std.specs.Prelude.{◌≡◌, ◌<◌, ◌≤◌, ℕ, IfOk, IfSome, None, OnOk, Some, [], slice_index_or};
-ghost use Rattle.std.specs.Bool.{OnFalse, OnTrue};
+ghost use Rattle.std.specs.Prelude.{◌≡◌, ◌≤◌, ℕ, IfSome, None, Some, [], slice_index_or};
+ghost use Rattle.std.specs.Bool.{OnFalse};
 ghost use Rattle.lrpar_table_pops.specs.Growth.{GrowsBy, SomeHasLookahead};
 ghost use Rattle.lrpar_table_pops.specs.StoredAll.{AreSameStored, StoresAll};
 ghost use Rattle.lrpar_table_pops.specs.Exits.{AddsOnly, HasExit};
 ghost use Rattle.lrpar_table_pops.specs.StoredSteps.{AddsExitsAt, AddsExitsOf};
-ghost use Rattle.lrpar_table_pops.specs.StoredPops.{AddsOnlyAt, ArePopsOf, any_of, at_of, room_of};
+ghost use Rattle.lrpar_table_pops.specs.StoredPops.{AddsOnlyAt, any_of, at_of};
+ghost use Rattle.lrpar_table_pops.specs.Room.{HasNoMoreRoom, LosesRoom, LosesRoomAt};
 
 use crate::exits::Exits;
 use crate::found::Found;
@@ -47,7 +48,7 @@ impl StateExits {
         ensures all { GrowsBy (SomeHasLookahead exits.now) self.old.any self.new.any }
         ensures same { OnFalse result (self.new.any ≡ self.old.any) }
         ensures at { self.new.at ≡ self.old.at }
-        ensures less { OnTrue result (room_at self.new < room_at self.old) }
+        ensures less { LosesRoomAt self.old self.new result }
         ensures no_more { room_at self.new ≤ room_at self.old }
     {
         self.any.unite_all(exits)
@@ -59,7 +60,7 @@ impl StateExits {
         ensures at { AddsOnlyAt token (HasExit exits.now) self.old.at.items self.new.at.items }
         ensures all { (t : ℕ) → GrowsBy (λ w u. (t ≡ token) × SomeHasLookahead exits.now w u) (slice_index_or self.old.at.items t []) (slice_index_or self.new.at.items t []) }
         ensures same { OnFalse result (self.new.at.items ≡ self.old.at.items) }
-        ensures less { OnTrue result (room_at self.new < room_at self.old) }
+        ensures less { LosesRoomAt self.old self.new result }
         ensures no_more { room_at self.new ≤ room_at self.old }
     {
         if token >= self.at.len() {
@@ -115,8 +116,8 @@ impl Pops {
         ensures stays { AddsExitsOf state exits.now self.old self.new }
         ensures all { StoresAll state None exits.now self.old self.new }
         ensures same { OnFalse result (AreSameStored self.old self.new) }
-        ensures less { OnTrue result (room_of self.new < room_of self.old) }
-        ensures no_more { room_of self.new ≤ room_of self.old }
+        ensures less { LosesRoom self.old self.new result }
+        ensures no_more { HasNoMoreRoom self.old self.new }
     {
         if state >= self.states.len() {
             return false;
@@ -129,8 +130,8 @@ impl Pops {
         ensures stays { AddsExitsAt state token exits.now self.old self.new }
         ensures all { StoresAll state (Some token) exits.now self.old self.new }
         ensures same { OnFalse result (AreSameStored self.old self.new) }
-        ensures less { OnTrue result (room_of self.new < room_of self.old) }
-        ensures no_more { room_of self.new ≤ room_of self.old }
+        ensures less { LosesRoom self.old self.new result }
+        ensures no_more { HasNoMoreRoom self.old self.new }
     {
         if state >= self.states.len() {
             return false;

@@ -1,16 +1,16 @@
 //! The saturation of a table: the exits of each state by those of the states to which it goes, until nothing more follows.
-ghost use Rattle.std.specs.Prelude.{◌≡◌, ◌⊎◌, ◌<◌, ◌≤◌, ℕ, IfOk, None, OnOk, Some};
-ghost use Rattle.std.specs.Bool.{OnFalse, OnTrue};
-ghost use Rattle.std.specs.Prelude.{IsTrue, [], false, length, slice_index_or};
-ghost use Rattle.lrpar_table_pops.specs.StoredAll.{AreMarked, HaveWaysAt, IsMarked, IsUntouched, KeepsMarks};
-ghost use Rattle.lrpar_table_rows.specs.Graph.{graph_len};
+ghost use Rattle.std.specs.Prelude.{◌≡◌, ◌<◌, ℕ, IfOk, OnOk};
+ghost use Rattle.std.specs.Bool.{OnFalse};
+ghost use Rattle.std.specs.Prelude.{IsTrue, false, length, slice_index_or};
+ghost use Rattle.lrpar_table_pops.specs.StoredAll.{AreMarked, IsMarked, IsUntouched, KeepsMarks};
 ghost use Rattle.lrpar_table_rows.specs.PlainRows.{plain_action};
-ghost use Rattle.lrpar_table_rows.specs.Table.{ShiftTo, action_of};
+ghost use Rattle.lrpar_table_rows.specs.Table.{ShiftTo};
 ghost use Rattle.lrpar_table_pops.specs.Exits.{HasNoExit};
-ghost use Rattle.lrpar_table_pops.specs.Closed.{AreAllPopsOf, IsGotoState, IsKeptBy};
+ghost use Rattle.lrpar_table_pops.specs.Closed.{IsGotoState, IsKeptBy};
 ghost use Rattle.lrpar_table_pops.specs.FollowAll.{IsRightAction};
-ghost use Rattle.lrpar_table_pops.specs.FoundAll.{AreExitsFor};
-ghost use Rattle.lrpar_table_pops.specs.StoredPops.{AcceptsAtEndAlone, ArePopsOf, HasNoExits, HaveNoExits, room_of};
+ghost use Rattle.lrpar_table_pops.specs.StoredPops.{HasNoExits, HaveNoExits};
+ghost use Rattle.lrpar_table_pops.specs.Automaton.{AcceptsAtEnd, ActsSo, AreAllPopsIn, AreClosedUnless, AreExitsIn, ArePopsIn, HasItemsOf, HaveAllWaysIn, HaveWaysAtTokens, HaveWaysFor, IsKeptAt, SaturatesAll, SaturatesAny, SaturatesAt, SaturatesMarked, SaturatesTokens, SaturatesWhole, StartsAllAtAny, StaysRightAtAny};
+ghost use Rattle.lrpar_table_pops.specs.Room.{HasNoMoreRoom, LosesRoom};
 
 use crate::automaton::Automaton;
 use crate::entries::{actions_at, gotos_at, symbols_len};
@@ -23,10 +23,7 @@ use lrpar_table_rows::table::{Action, StateTable};
 use std::alloc::{AllocError, Global};
 
 impl Pops {
-    ghost use Rattle.lrpar_table_pops.specs.FollowAll.{AreRightActions};
-    ghost use Rattle.lrpar_table_pops.specs.FoundAll.{FindsAll};
-    ghost use Rattle.lrpar_table_pops.specs.StoredAll.{AreClosedUnlessMarked, HaveAllWays, HaveSets, IsClosedIf, IsClosedState, IsSoundTable, SaturatesIf, SaturatesRound, SaturatesState, StartsFrom};
-    ghost use Rattle.lrpar_table_pops.specs.Steps.{StaysRight};
+    ghost use Rattle.lrpar_table_pops.specs.StoredAll.{HaveSets};
 
     /// The exits of each state of the table.
     ///
@@ -35,8 +32,8 @@ impl Pops {
         alloc: Global,
         checked: &Automaton<'_, StorageT>,
     ) -> Result<Self, AllocError>
-        ensures pops { IfOk result (ArePopsOf checked.now.grammar checked.now.table) }
-        ensures all { IfOk result (AreAllPopsOf checked.now.grammar checked.now.table) }
+        ensures pops { IfOk result (ArePopsIn checked.now) }
+        ensures all { IfOk result (AreAllPopsIn checked.now) }
     {
         let mut pops = Pops::empty(alloc, checked)?;
         let mut found = Found::new(alloc, checked.grm())?;
@@ -56,15 +53,14 @@ impl Pops {
         found: &mut Found,
         changed: &mut Vec<bool>,
     ) -> Result<bool, AllocError>
-        requires alone { AcceptsAtEndAlone checked.now.grammar checked.now.table }
-        requires pops { ArePopsOf checked.now.grammar checked.now.table self.old }
-        requires sound { IsSoundTable checked.now.grammar checked.now.graph checked.now.table }
-        requires places { HaveAllWays checked.now.grammar checked.now.graph checked.now.table self.old }
-        requires settled { AreClosedUnlessMarked checked.now.grammar checked.now.graph checked.now.table self.old changed.old.items }
+        requires alone { AcceptsAtEnd checked.now }
+        requires pops { ArePopsIn checked.now self.old }
+        requires places { HaveAllWaysIn checked.now self.old }
+        requires settled { AreClosedUnless checked.now self.old changed.old.items }
         requires sets { HaveSets checked.now.grammar found.old }
-        ensures pops { OnOk result (ArePopsOf checked.now.grammar checked.now.table self.new) }
-        ensures all { IfOk result (λ grown. SaturatesRound checked.now.grammar checked.now.graph checked.now.table grown self.new changed.new.items found.new) }
-        ensures less { IfOk result (λ grown. OnTrue grown (room_of self.new < room_of self.old)) }
+        ensures pops { OnOk result (ArePopsIn checked.now self.new) }
+        ensures all { IfOk result (SaturatesAll checked.now self.new changed.new.items found.new) }
+        ensures less { IfOk result (LosesRoom self.old self.new) }
     {
         let states = checked.stable().states_len();
         let mut changed_now = vec![in alloc; false; states]?;
@@ -89,12 +85,12 @@ impl Pops {
         found: &mut Found,
         changed: &[bool],
     ) -> Result<bool, AllocError>
-        requires alone { AcceptsAtEndAlone checked.now.grammar checked.now.table }
-        requires pops { ArePopsOf checked.now.grammar checked.now.table self.old }
-        ensures pops { OnOk result (ArePopsOf checked.now.grammar checked.now.table self.new) }
-        ensures all { IfOk result (λ grown. SaturatesState checked.now.grammar checked.now.graph checked.now.table number grown (IsUntouched checked.now.table changed.now number ⊎ IsClosedState checked.now.grammar checked.now.graph checked.now.table self.old number) self.old self.new found.old found.new) }
-        ensures less { IfOk result (λ grown. OnTrue grown (room_of self.new < room_of self.old)) }
-        ensures no_more { OnOk result (room_of self.new ≤ room_of self.old) }
+        requires alone { AcceptsAtEnd checked.now }
+        requires pops { ArePopsIn checked.now self.old }
+        ensures pops { OnOk result (ArePopsIn checked.now self.new) }
+        ensures all { IfOk result (SaturatesMarked checked.now changed.now number self.old self.new found.old found.new) }
+        ensures less { IfOk result (LosesRoom self.old self.new) }
+        ensures no_more { OnOk result (HasNoMoreRoom self.old self.new) }
     {
         if number >= checked.sgraph().states_len() {
             return Ok(false);
@@ -114,13 +110,13 @@ impl Pops {
         state: StIdx<StorageT>,
         found: &mut Found,
     ) -> Result<bool, AllocError>
-        requires state { StorageT.index state.0 < graph_len checked.now.graph }
-        requires alone { AcceptsAtEndAlone checked.now.grammar checked.now.table }
-        requires pops { ArePopsOf checked.now.grammar checked.now.table self.old }
-        ensures pops { OnOk result (ArePopsOf checked.now.grammar checked.now.table self.new) }
-        ensures all { IfOk result (λ grown. SaturatesState checked.now.grammar checked.now.graph checked.now.table (StorageT.index state.0) grown (IsClosedState checked.now.grammar checked.now.graph checked.now.table self.old (StorageT.index state.0)) self.old self.new found.old found.new) }
-        ensures less { IfOk result (λ grown. OnTrue grown (room_of self.new < room_of self.old)) }
-        ensures no_more { OnOk result (room_of self.new ≤ room_of self.old) }
+        requires state { HasItemsOf StorageT.index checked.now state }
+        requires alone { AcceptsAtEnd checked.now }
+        requires pops { ArePopsIn checked.now self.old }
+        ensures pops { OnOk result (ArePopsIn checked.now self.new) }
+        ensures all { IfOk result (SaturatesWhole StorageT.index checked.now state self.old self.new found.old found.new) }
+        ensures less { IfOk result (LosesRoom self.old self.new) }
+        ensures no_more { OnOk result (HasNoMoreRoom self.old self.new) }
     {
         found.enter(alloc, checked, state)?;
         let at_tokens = self.add_at_tokens(checked, state, found);
@@ -135,12 +131,12 @@ impl Pops {
         state: StIdx<StorageT>,
         found: &mut Found,
     ) -> bool
-        requires alone { AcceptsAtEndAlone checked.now.grammar checked.now.table }
-        requires pops { ArePopsOf checked.now.grammar checked.now.table self.old }
-        ensures pops { ArePopsOf checked.now.grammar checked.now.table self.new }
-        ensures all { SaturatesIf checked.now.grammar checked.now.graph checked.now.table (StorageT.index state.0) result ((t : ℕ) → IsClosedIf checked.now.grammar checked.now.graph checked.now.table self.old (StorageT.index state.0) (Some t)) self.old self.new found.old found.new }
-        ensures less { OnTrue result (room_of self.new < room_of self.old) }
-        ensures no_more { room_of self.new ≤ room_of self.old }
+        requires alone { AcceptsAtEnd checked.now }
+        requires pops { ArePopsIn checked.now self.old }
+        ensures pops { ArePopsIn checked.now self.new }
+        ensures all { SaturatesTokens StorageT.index checked.now state result self.old self.new found.old found.new }
+        ensures less { LosesRoom self.old self.new result }
+        ensures no_more { HasNoMoreRoom self.old self.new }
     {
         let (tokens, actions) = actions_at(checked.stable(), state);
         let mut grown = false;
@@ -161,13 +157,13 @@ impl Pops {
         action: Action<StorageT>,
         found: &mut Found,
     ) -> bool
-        requires acts { action_of checked.now.table (StorageT.index state.0) (StorageT.index token.0) ≡ plain_action StorageT.index action }
-        requires alone { AcceptsAtEndAlone checked.now.grammar checked.now.table }
-        requires pops { ArePopsOf checked.now.grammar checked.now.table self.old }
-        ensures pops { ArePopsOf checked.now.grammar checked.now.table self.new }
-        ensures all { SaturatesIf checked.now.grammar checked.now.graph checked.now.table (StorageT.index state.0) result (IsClosedIf checked.now.grammar checked.now.graph checked.now.table self.old (StorageT.index state.0) (Some (StorageT.index token.0))) self.old self.new found.old found.new }
-        ensures less { OnTrue result (room_of self.new < room_of self.old) }
-        ensures no_more { room_of self.new ≤ room_of self.old }
+        requires acts { ActsSo StorageT.index checked.now state token action }
+        requires alone { AcceptsAtEnd checked.now }
+        requires pops { ArePopsIn checked.now self.old }
+        ensures pops { ArePopsIn checked.now self.new }
+        ensures all { SaturatesAt StorageT.index checked.now state token result self.old self.new found.old found.new }
+        ensures less { LosesRoom self.old self.new result }
+        ensures no_more { HasNoMoreRoom self.old self.new }
     {
         if !self.keeps(state, token) {
             return false;
@@ -185,12 +181,12 @@ impl Pops {
         state: StIdx<StorageT>,
         found: &mut Found,
     ) -> bool
-        requires alone { AcceptsAtEndAlone checked.now.grammar checked.now.table }
-        requires pops { ArePopsOf checked.now.grammar checked.now.table self.old }
-        ensures pops { ArePopsOf checked.now.grammar checked.now.table self.new }
-        ensures all { SaturatesIf checked.now.grammar checked.now.graph checked.now.table (StorageT.index state.0) result (IsClosedIf checked.now.grammar checked.now.graph checked.now.table self.old (StorageT.index state.0) None) self.old self.new found.old found.new }
-        ensures less { OnTrue result (room_of self.new < room_of self.old) }
-        ensures no_more { room_of self.new ≤ room_of self.old }
+        requires alone { AcceptsAtEnd checked.now }
+        requires pops { ArePopsIn checked.now self.old }
+        ensures pops { ArePopsIn checked.now self.new }
+        ensures all { SaturatesAny StorageT.index checked.now state result self.old self.new found.old found.new }
+        ensures less { LosesRoom self.old self.new result }
+        ensures no_more { HasNoMoreRoom self.old self.new }
     {
         found.clear();
         self.start_all(checked, state, found);
@@ -205,9 +201,9 @@ impl Pops {
         state: StIdx<StorageT>,
         found: &mut Found,
     )
-        ensures right { StaysRight checked.now.grammar checked.now.table self.now (StorageT.index state.0) None found.old found.new }
+        ensures right { StaysRightAtAny StorageT.index checked.now self.now state found.old found.new }
         ensures followed { found.new.followed ≡ found.old.followed }
-        ensures all { AreRightActions checked.now.grammar checked.now.table → FindsAll checked.now.grammar (StartsFrom checked.now.grammar checked.now.table self.now (StorageT.index state.0)) found.old found.new }
+        ensures all { StartsAllAtAny StorageT.index checked.now self.now state found.old found.new }
     {
         let (tokens, actions) = actions_at(checked.stable(), state);
         for place in 0..tokens.len() {
@@ -220,8 +216,8 @@ impl Pops {
         alloc: Global,
         checked: &Automaton<'_, StorageT>,
     ) -> Result<Self, AllocError>
-        ensures pops { IfOk result (ArePopsOf checked.now.grammar checked.now.table) }
-        ensures places { IfOk result (HaveAllWays checked.now.grammar checked.now.graph checked.now.table) }
+        ensures pops { IfOk result (ArePopsIn checked.now) }
+        ensures places { IfOk result (HaveAllWaysIn checked.now) }
     {
         let is_goto = goto_states(alloc, checked.stable())?;
         let mut states = Vec::new(alloc);
@@ -241,9 +237,9 @@ fn empty_exits<StorageT: StorageIndex>(
     state: StIdx<StorageT>,
     is_goto: bool,
 ) -> Result<StateExits, AllocError>
-    requires state { StorageT.index state.0 < graph_len checked.now.graph }
+    requires state { HasItemsOf StorageT.index checked.now state }
     ensures none { IfOk result HasNoExits }
-    ensures places { IfOk result (HaveWaysAt checked.now.grammar checked.now.graph checked.now.table (StorageT.index state.0) is_goto) }
+    ensures places { IfOk result (HaveWaysFor StorageT.index checked.now state is_goto) }
 {
     let any = Exits::new(alloc, checked, state)?;
     let at = empty_at_tokens(alloc, checked, state, is_goto)?;
@@ -257,9 +253,9 @@ fn empty_at_tokens<StorageT: StorageIndex>(
     state: StIdx<StorageT>,
     is_goto: bool,
 ) -> Result<Vec<Exits>, AllocError>
-    requires state { StorageT.index state.0 < graph_len checked.now.graph }
+    requires state { HasItemsOf StorageT.index checked.now state }
     ensures none { IfOk result (λ at. HaveNoExits at.items) }
-    ensures places { IfOk result (λ at. IsTrue is_goto → (t : ℕ) → IsKeptBy checked.now.grammar (action_of checked.now.table (StorageT.index state.0) t) → AreExitsFor checked.now.grammar checked.now.graph (StorageT.index state.0) (slice_index_or at.items t [])) }
+    ensures places { IfOk result (λ at. HaveWaysAtTokens StorageT.index checked.now state is_goto at.items) }
 {
     let mut at = Vec::new(alloc);
     if !is_goto {
@@ -279,9 +275,9 @@ fn empty_exits_at<StorageT: StorageIndex>(
     state: StIdx<StorageT>,
     number: usize,
 ) -> Result<Exits, AllocError>
-    requires state { StorageT.index state.0 < graph_len checked.now.graph }
+    requires state { HasItemsOf StorageT.index checked.now state }
     ensures none { IfOk result HasNoExit }
-    ensures places { IsKeptBy checked.now.grammar (action_of checked.now.table (StorageT.index state.0) number) → IfOk result (AreExitsFor checked.now.grammar checked.now.graph (StorageT.index state.0)) }
+    ensures places { IsKeptAt StorageT.index checked.now state number → IfOk result (AreExitsIn StorageT.index checked.now state) }
 {
     if is_kept_at(checked, state, number) {
         Exits::new(alloc, checked, state)
@@ -296,7 +292,7 @@ fn is_kept_at<StorageT: StorageIndex>(
     state: StIdx<StorageT>,
     number: usize,
 ) -> bool
-    ensures { IsKeptBy checked.now.grammar (action_of checked.now.table (StorageT.index state.0) number) → IsTrue result }
+    ensures { IsKeptAt StorageT.index checked.now state number → IsTrue result }
 {
     let (tokens, actions) = actions_at(checked.stable(), state);
     for place in 0..tokens.len() {

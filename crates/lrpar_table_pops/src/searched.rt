@@ -2,12 +2,11 @@
 ghost use Rattle.std.specs.Prelude.{◌≡◌, ◌<◌, ◌++◌, ◌∷◌, [], IfOk, OnOk, length};
 ghost use Rattle.std.specs.Bool.{OnFalse, OnTrue};
 ghost use Rattle.std.specs.Prelude.{reverse};
-ghost use Rattle.lrpar_table_pops.specs.StoredAll.{IsSoundTable};
 ghost use Rattle.lrpar_table_stacks.specs.Stack.{IsStack, states_of};
 ghost use Rattle.lrpar_table_pops.specs.Searched.{CanComplete, HasNoneGood};
-ghost use Rattle.lrpar_table_pops.specs.Growth.{HaveRoomFor};
-ghost use Rattle.lrpar_table_pops.specs.Parts.{IsPartOf};
-ghost use Rattle.lrpar_table_pops.specs.StoredPops.{ArePopsOf, any_of};
+ghost use Rattle.lrpar_table_pops.specs.StoredPops.{any_of};
+ghost use Rattle.lrpar_table_pops.specs.Automaton.{HaveRoomIn, IsPartWith};
+ghost use Rattle.lrpar_table_pops.specs.Search.{AddsAt, CompletesBy, GoesOnAt, GoesTo, HasAllGood, HasReductionsAt, HasStacks, Meets, MeetsShift, ShiftsAt};
 
 use crate::automaton::Automaton;
 use crate::exits::Exits;
@@ -34,12 +33,12 @@ pub(crate) struct Searched<StorageT: StorageIndex> {
 }
 
 impl<StorageT: StorageIndex> Searched<StorageT> {
-    ghost use Rattle.lrpar_table_pops.specs.Searched.{AreAllGood, AreReductionsAt, AreStacks, CompletesAt, GoesOnAllGood, HasNoneGoodAt, IsCovered, IsGoneOnAt, IsJoinedAt, IsMetAt, IsShiftMetAt, IsStackAt, IsTopFirst, KeepsAllGood, KeepsStacks, ShiftsFrom};
+    ghost use Rattle.lrpar_table_pops.specs.Searched.{HasNoneGoodAt, IsCovered, IsTopFirst};
 
     /// The start state alone.
     pub(crate) fn new(alloc: Global, checked: &Automaton<'_, StorageT>) -> Result<Self, AllocError>
-        ensures stacks { IfOk result (λ searched. AreStacks StorageT.index checked.now.grammar checked.now.table searched.stacks.items) }
-        ensures all_good { IfOk result (λ searched. AreAllGood StorageT.index checked.now.grammar checked.now.graph checked.now.table searched.stacks.items) }
+        ensures stacks { IfOk result (HasStacks StorageT.index checked.now) }
+        ensures all_good { IfOk result (HasAllGood StorageT.index checked.now) }
     {
         let stable = checked.stable();
         let mut by_top = Vec::new(alloc);
@@ -74,7 +73,7 @@ impl<StorageT: StorageIndex> Searched<StorageT> {
 
     /// Whether the stack at the place can be completed: a run can leave its top by a good exit.
     pub(crate) fn can_complete(&self, place: usize, pops: &Pops) -> bool
-        ensures completes { OnTrue result (CompletesAt StorageT.index (any_of pops.now) self.now.stacks.items place) }
+        ensures completes { OnTrue result (CompletesBy StorageT.index pops.now self.now place) }
         ensures none { OnFalse result (HasNoneGoodAt StorageT.index (any_of pops.now) self.now.stacks.items place) }
     {
         match self.stacks.get(place) {
@@ -94,17 +93,12 @@ impl<StorageT: StorageIndex> Searched<StorageT> {
         place: usize,
         reduced: &mut Vec<TokenSet>,
     ) -> Result<(), AllocError>
-        requires part { IsPartOf checked.now.table part.now }
-        requires room { HaveRoomFor checked.now.grammar reduced.old.items }
-        requires pops { ArePopsOf checked.now.grammar checked.now.table pops.now }
-        requires stacks { AreStacks StorageT.index checked.now.grammar checked.now.table self.old.stacks.items }
+        requires part { IsPartWith checked.now part.now pops.now }
+        requires room { HaveRoomIn checked.now reduced.old }
+        requires stacks { HasStacks StorageT.index checked.now self.old }
         requires place { place < length self.old.stacks.items }
-        requires sound { IsSoundTable checked.now.grammar checked.now.graph checked.now.table }
-        ensures stacks { OnOk result (AreStacks StorageT.index checked.now.grammar checked.now.table self.new.stacks.items) }
-        ensures keeps { OnOk result (KeepsStacks self.old.stacks.items self.new.stacks.items) }
-        ensures all_good { OnOk result (GoesOnAllGood StorageT.index checked.now.grammar checked.now.graph checked.now.table part.now pops.now self.old.stacks.items self.new.stacks.items) }
-        ensures gone_on { OnOk result (IsGoneOnAt StorageT.index checked.now.grammar checked.now.table self.new.stacks.items place) }
-        ensures room { HaveRoomFor checked.now.grammar reduced.new.items }
+        ensures gone_on { OnOk result (GoesOnAt StorageT.index checked.now part.now pops.now place self.old self.new) }
+        ensures room { HaveRoomIn checked.now reduced.new }
     {
         let stack = &self.stacks[place];
         let top = stack.top;
@@ -130,15 +124,12 @@ impl<StorageT: StorageIndex> Searched<StorageT> {
         reduced: &[TokenSet],
         action: Action<StorageT>,
     ) -> Result<(), AllocError>
-        requires stacks { AreStacks StorageT.index checked.now.grammar checked.now.table self.old.stacks.items }
+        requires stacks { HasStacks StorageT.index checked.now self.old }
         requires place { place < length self.old.stacks.items }
-        requires sound { IsSoundTable checked.now.grammar checked.now.graph checked.now.table }
-        requires reduced { AreReductionsAt StorageT.index checked.now.grammar checked.now.table self.old.stacks.items place reduced.now }
-        requires joined { ShiftsFrom StorageT.index checked.now.table self.old.stacks.items place action }
-        ensures stacks { OnOk result (AreStacks StorageT.index checked.now.grammar checked.now.table self.new.stacks.items) }
-        ensures keeps { OnOk result (KeepsStacks self.old.stacks.items self.new.stacks.items) }
-        ensures all_good { OnOk result (KeepsAllGood StorageT.index checked.now.grammar checked.now.graph checked.now.table place reduced.now self.old.stacks.items self.new.stacks.items) }
-        ensures met { OnOk result (IsShiftMetAt StorageT.index checked.now.grammar checked.now.table self.new.stacks.items place action) }
+        requires reduced { HasReductionsAt StorageT.index checked.now self.old place reduced.now }
+        requires joined { ShiftsAt StorageT.index checked.now self.old place action }
+        ensures added { OnOk result (AddsAt StorageT.index checked.now place reduced.now self.old self.new) }
+        ensures met { OnOk result (MeetsShift StorageT.index checked.now self.new place action) }
     {
         match action {
             Action::Shift(next) => self.add(alloc, checked, place, reduced, next),
@@ -155,17 +146,14 @@ impl<StorageT: StorageIndex> Searched<StorageT> {
         reduced: &[TokenSet],
         next: StIdx<StorageT>,
     ) -> Result<(), AllocError>
-        requires stacks { AreStacks StorageT.index checked.now.grammar checked.now.table self.old.stacks.items }
+        requires stacks { HasStacks StorageT.index checked.now self.old }
         requires place { place < length self.old.stacks.items }
-        requires sound { IsSoundTable checked.now.grammar checked.now.graph checked.now.table }
-        requires reduced { AreReductionsAt StorageT.index checked.now.grammar checked.now.table self.old.stacks.items place reduced.now }
-        requires joined { IsJoinedAt StorageT.index checked.now.table self.old.stacks.items place (StorageT.index next.0) }
-        ensures stacks { OnOk result (AreStacks StorageT.index checked.now.grammar checked.now.table self.new.stacks.items) }
-        ensures keeps { OnOk result (KeepsStacks self.old.stacks.items self.new.stacks.items) }
-        ensures all_good { OnOk result (KeepsAllGood StorageT.index checked.now.grammar checked.now.graph checked.now.table place reduced.now self.old.stacks.items self.new.stacks.items) }
-        ensures met { OnOk result (IsMetAt StorageT.index checked.now.grammar checked.now.table self.new.stacks.items place (StorageT.index next.0)) }
+        requires reduced { HasReductionsAt StorageT.index checked.now self.old place reduced.now }
+        requires joined { GoesTo StorageT.index checked.now self.old place next }
+        ensures added { OnOk result (AddsAt StorageT.index checked.now place reduced.now self.old self.new) }
+        ensures met { OnOk result (Meets StorageT.index checked.now self.new place next) }
     {
-        // The proof needs that shifts and gotos lead to states of the table.
+        // The proof needs that the table is safe, and that shifts and gotos lead to its states.
         let _lemma = checked.stable();
         let good = good_above(alloc, checked, &self.stacks[place].good, reduced, next)?;
         if self.is_covered(next, &good) {
@@ -214,7 +202,7 @@ impl<StorageT: StorageIndex> Searched<StorageT> {
         checked: &Automaton<'_, StorageT>,
         place: usize,
     ) -> Result<Vec<StIdx<StorageT>>, AllocError>
-        requires stacks { AreStacks StorageT.index checked.now.grammar checked.now.table self.now.stacks.items }
+        requires stacks { HasStacks StorageT.index checked.now self.now }
         requires place { place < length self.now.stacks.items }
         ensures stack { IfOk result (λ states. IsStack checked.now.table (states_of StorageT.index states.items)) }
         ensures whole { IfOk result (λ states. IsTopFirst StorageT.index self.now.stacks.items place (reverse (states_of StorageT.index states.items))) }

@@ -1,9 +1,10 @@
 //! Sets of tokens, one for each rule.
-ghost use Rattle.std.specs.Prelude.{◌≡◌, ◌<◌, IfOk, IsTrue};
+ghost use Rattle.std.specs.Prelude.{◌≡◌, IfOk, IsTrue};
 ghost use Rattle.lrpar_table_pops.specs.Growth.{AddsAll, HaveRoomFor, KeepRoom};
-ghost use Rattle.std.specs.Bool.{OnFalse, OnTrue};
-ghost use Rattle.lrpar_grammar.specs.Tokens.{has, missing};
-ghost use Rattle.lrpar_table_pops.specs.Sets.{AddsOnlyToken, AddsOnlyTokens, HaveNoTokens, room_in};
+ghost use Rattle.std.specs.Bool.{OnFalse};
+ghost use Rattle.lrpar_grammar.specs.Tokens.{has};
+ghost use Rattle.lrpar_table_pops.specs.Sets.{AddsOnlyToken, AddsOnlyTokens, HaveNoTokens};
+ghost use Rattle.lrpar_table_pops.specs.Room.{GainsToken};
 
 use lrpar_grammar::grammar::YaccGrammar;
 use lrpar_grammar::span::StorageIndex;
@@ -30,7 +31,7 @@ pub(crate) fn empty_sets<StorageT: StorageIndex>(
 pub(crate) fn unite(tokens: &mut TokenSet, others: &TokenSet) -> bool
     ensures adds { AddsOnlyTokens tokens.old tokens.new others.now }
     ensures all { AddsAll (λ t. IsTrue (has others.now t)) tokens.old tokens.new }
-    ensures grown { OnTrue result (missing tokens.new < missing tokens.old) }
+    ensures grown { GainsToken tokens.old tokens.new result }
     ensures same { OnFalse result (tokens.new ≡ tokens.old) }
 {
     let end = tokens.len();
@@ -51,7 +52,7 @@ pub(crate) fn insert(tokens: &mut TokenSet, token: usize)
 pub(crate) fn insert_new(tokens: &mut TokenSet, token: usize) -> bool
     ensures adds { AddsOnlyToken tokens.old tokens.new token }
     ensures all { AddsAll (λ t. t ≡ token) tokens.old tokens.new }
-    ensures grown { OnTrue result (missing tokens.new < missing tokens.old) }
+    ensures grown { GainsToken tokens.old tokens.new result }
     ensures same { OnFalse result (tokens.new ≡ tokens.old) }
 {
     if token >= tokens.len() || tokens.contains(token) {

@@ -27,4 +27,4 @@ search_all-requires g c =
     let table : c.new-part.result.table ≡ part = ap (λ (p : Parts). p.table) c.new-part.ensures in
     let of_part : ArePopsOf w.grammar part pops = subst (λ (x : Grammar). ArePopsOf x part pops) grammar
     (subst (λ (t : Table). ArePopsOf c.new-part.result.grammar t pops) table c.in_ok-pops.ensures.pops) in
-    record { part = is; pops = pops_kept w.table part is w.grammar pops of_part }
+    record { part = record { part = is; pops = pops_kept w.table part is w.grammar pops of_part } }

@@ -15,15 +15,15 @@ stacks-init g c = record {
 
 pub stacks-preserved : goal.stacks-preserved
 stacks-preserved g c =
-    let went = c.in_ok-go_on.ensures in
+    let went = c.in_ok-go_on.ensures.gone_on in
     let test = c.stacks-test.true in
     let len = c.len.ensures in
     record {
       stacks = went.stacks;
       all_good = λ whole pops. went.all_good whole pops (c.stacks.invariant.all_good whole pops);
-      room = went.room;
+      room = c.in_ok-go_on.ensures.room;
       done = done_more g.StorageT.StorageIndex.index c.args.checked.now.grammar c.args.checked.now.table (any_of c.args.pops.now) c.stacks.searched.stacks.items
-          c.go_on.new.searched.stacks.items c.stacks.place went.keeps (omega (arith, test, len)) c.stacks.invariant.done went.completes went.gone_on;
+          c.go_on.new.searched.stacks.items c.stacks.place went.keeps (omega (arith, test, len)) c.stacks.invariant.done c.in_ok-go_on.ensures.completes went.gone_on;
     }
 
 pub returns-clause-done : goal.returns-clause-done

@@ -50,21 +50,21 @@ gotos-preserved g c =
     let good = c.args.good.now in
     let pops = c.args.pops.now in
     let there = read_at rules rules l.place rule refl c.gotos-test.true c.index-rules-place.is in
-    let goes = c.requires.part.gotos s (index rule.0) ∙ stored.goto.goes in
+    let goes = c.requires.part.part.gotos s (index rule.0) ∙ stored.goto.goes in
     let Closed = AreRulesClosedBy index gr part pops good s old rules (l.place + 1) in
     let adding : IsAdding K old new c.if-add_by_goto.grown = elim c.if-add_by_goto.branch [
       | then-add_by_goto w ↦
           subst (λ (b : Bool). IsAdding K old new b) (sym w.grown-is)
-          (adding_grown K old now new c.gotos.grown c.gotos.invariant.adding more (OnTrue_at w.if-add_by_goto.true c.add_by_goto.ensures.grown))
+          (adding_grown K old now new c.gotos.grown c.gotos.invariant.adding more (OnTrue_at w.if-add_by_goto.true c.add_by_goto.ensures.sets.grown))
       | else-add_by_goto w ↦
           subst (λ (b : Bool). IsAdding K old new b) (sym w.grown-is)
-          (adding_on K old now new c.gotos.grown c.gotos.invariant.adding more c.add_by_goto.ensures.room)
+          (adding_on K old now new c.gotos.grown c.gotos.invariant.adding more c.add_by_goto.ensures.sets.room)
     ] in
     let same : OnFalse c.if-add_by_goto.grown (new ≡ old) = elim c.if-add_by_goto.branch [
       | then-add_by_goto w ↦ subst (λ (b : Bool). OnFalse b (new ≡ old)) (sym w.grown-is) tt
       | else-add_by_goto w ↦
           subst (λ (b : Bool). OnFalse b (new ≡ old)) (sym w.grown-is)
-          (on_false_both l.grown l.invariant.same l.invariant.same (λ before _. OnFalse_at w.if-add_by_goto.false c.add_by_goto.ensures.same ∙ before))
+          (on_false_both l.grown l.invariant.same l.invariant.same (λ before _. OnFalse_at w.if-add_by_goto.false c.add_by_goto.ensures.sets.same ∙ before))
     ] in
     let all : OnFalse c.if-add_by_goto.grown Closed = elim c.if-add_by_goto.branch [
       | then-add_by_goto w ↦ subst (λ (b : Bool). OnFalse b Closed) (sym w.grown-is) tt
@@ -76,7 +76,7 @@ gotos-preserved g c =
     ] in
     record {
       adding = adding;
-      keeps_room = λ r. c.add_by_goto.ensures.keeps_room r ∙ l.invariant.keeps_room r;
+      keeps_room = λ r. c.add_by_goto.ensures.sets.keeps_room r ∙ l.invariant.keeps_room r;
       same = same;
       all = all;
     }
@@ -99,11 +99,13 @@ returns g c =
     (all_rules index c.stable.result.now c.args.state rules c.gotos_of.result.1.now at.entries at.states at.exact) in
     record {
       keeps = l.invariant.adding.keeps;
-      keeps_room = l.invariant.keeps_room;
-      same = l.invariant.same;
+      sets = record {
+        keeps_room = l.invariant.keeps_room;
+        same = l.invariant.same;
+        room = l.invariant.adding.room;
+        grown = l.invariant.adding.grown;
+      };
       all = on_false_both l.grown l.invariant.all l.invariant.all (λ closed _.
           rules_closed_by_all index c.args.checked.now.grammar c.args.part.now c.args.pops.now c.args.good.now c.args.state c.args.reduced.now.items rules l.place
-          c.gotos-test.false (λ r next goto. all r next (sym (c.requires.part.gotos (index c.args.state.0) r) ∙ goto)) closed);
-      room = l.invariant.adding.room;
-      grown = l.invariant.adding.grown;
+          c.gotos-test.false (λ r next goto. all r next (sym (c.requires.part.part.gotos (index c.args.state.0) r) ∙ goto)) closed);
     }

@@ -12,13 +12,13 @@ use Rattle.lrpar_table_pops.proofs.good.add_by_goto.Goals.{then-add_token, else-
 use Rattle.lrpar_table_pops.proofs.good.add_by_goto.Goals as goal
 
 pub actions_of-requires : goal.actions_of-requires
-actions_of-requires g c = subst (λ (n : ℕ). g.StorageT.StorageIndex.index c.args.next.0 < n) (sym c.requires.part.states) c.requires.next
+actions_of-requires g c = subst (λ (n : ℕ). g.StorageT.StorageIndex.index c.args.next.0 < n) (sym c.requires.part.part.states) c.requires.next
 
 pub add_token-requires-clause-action : goal.add_token-requires-clause-action
 add_token-requires-clause-action g c =
     let index = g.StorageT.StorageIndex.index in
     let at = c.actions_of.ensures in
-    part_action index c.args.checked.now.table c.args.part.now c.requires.part c.args.next c.actions_of.result.0.now c.actions_of.result.1.now at.entries at.actions at.exact
+    part_action index c.args.checked.now.table c.args.part.now c.requires.part.part c.args.next c.actions_of.result.0.now c.actions_of.result.1.now at.entries at.actions at.exact
     c.tokens.place c.index-tokens-place.result c.index-actions-place.result c.tokens-test.true c.index-tokens-place.is c.index-actions-place.is
 
 pub tokens-init : goal.tokens-init
@@ -49,21 +49,21 @@ tokens-preserved g c =
     let more : K now → K new = λ before s goto leads. c.add_token.ensures.keeps s goto (before s goto leads) in
     let part = c.args.part.now in
     let at = c.actions_of.ensures in
-    let acts = same_action index table part c.requires.part c.args.next tokens c.actions_of.result.1.now at.entries at.actions at.exact
+    let acts = same_action index table part c.requires.part.part c.args.next tokens c.actions_of.result.1.now at.entries at.actions at.exact
     l.place token c.index-actions-place.result c.tokens-test.true c.index-tokens-place.is c.index-actions-place.is in
     let Closed = AreTokensClosedBy index gr part pops good rule next old tokens (l.place + 1) in
     let adding : IsAdding K old new c.if-add_token.grown = elim c.if-add_token.branch [
       | then-add_token w ↦
           subst (λ (b : Bool). IsAdding K old new b) (sym w.grown-is)
-          (adding_grown K old now new l.grown l.invariant.adding more (OnTrue_at w.if-add_token.true c.add_token.ensures.grown))
+          (adding_grown K old now new l.grown l.invariant.adding more (OnTrue_at w.if-add_token.true c.add_token.ensures.sets.grown))
       | else-add_token w ↦
-          subst (λ (b : Bool). IsAdding K old new b) (sym w.grown-is) (adding_on K old now new l.grown l.invariant.adding more c.add_token.ensures.room)
+          subst (λ (b : Bool). IsAdding K old new b) (sym w.grown-is) (adding_on K old now new l.grown l.invariant.adding more c.add_token.ensures.sets.room)
     ] in
     let same : OnFalse c.if-add_token.grown (new ≡ old) = elim c.if-add_token.branch [
       | then-add_token w ↦ subst (λ (b : Bool). OnFalse b (new ≡ old)) (sym w.grown-is) tt
       | else-add_token w ↦
           subst (λ (b : Bool). OnFalse b (new ≡ old)) (sym w.grown-is)
-          (on_false_both l.grown l.invariant.same l.invariant.same (λ before _. OnFalse_at w.if-add_token.false c.add_token.ensures.same ∙ before))
+          (on_false_both l.grown l.invariant.same l.invariant.same (λ before _. OnFalse_at w.if-add_token.false c.add_token.ensures.sets.same ∙ before))
     ] in
     let all : OnFalse c.if-add_token.grown Closed = elim c.if-add_token.branch [
       | then-add_token w ↦ subst (λ (b : Bool). OnFalse b Closed) (sym w.grown-is) tt
@@ -75,7 +75,7 @@ tokens-preserved g c =
     ] in
     record {
       adding = adding;
-      keeps_room = λ r. c.add_token.ensures.keeps_room r ∙ l.invariant.keeps_room r;
+      keeps_room = λ r. c.add_token.ensures.sets.keeps_room r ∙ l.invariant.keeps_room r;
       same = same;
       all = all;
     }
@@ -89,11 +89,13 @@ returns g c =
     let all = all_tokens index c.args.part.now c.args.next tokens c.actions_of.result.1.now at.entries at.actions at.exact in
     record {
       keeps = l.invariant.adding.keeps;
-      keeps_room = l.invariant.keeps_room;
-      same = l.invariant.same;
+      sets = record {
+        keeps_room = l.invariant.keeps_room;
+        same = l.invariant.same;
+        room = l.invariant.adding.room;
+        grown = l.invariant.adding.grown;
+      };
       all = on_false_both l.grown l.invariant.all l.invariant.all (λ closed _.
           tokens_closed_by_all index c.args.checked.now.grammar c.args.part.now c.args.pops.now c.args.good.now c.args.rule c.args.next c.args.reduced.now.items tokens l.place
           c.tokens-test.false all closed);
-      room = l.invariant.adding.room;
-      grown = l.invariant.adding.grown;
     }

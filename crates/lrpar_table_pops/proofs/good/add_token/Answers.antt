@@ -47,5 +47,10 @@ returns-clause-all g c =
     subst (λ (l : List (List Bool)). IsTrue (has (tokens_by l c.args.rule) t)) (OnFalse_at off c.insert_by.ensures.same)
     (c.insert_by.ensures.all.more c.args.rule t (refl, sym c.from-2.ensures) low))
 
-pub returns-clause-same : goal.returns-clause-same
-returns-clause-same g c = c.insert_by.ensures.same
+pub returns-clause-sets : goal.returns-clause-sets
+returns-clause-sets g c = record {
+  keeps_room = c.insert_by.ensures.all.room;
+  same = c.insert_by.ensures.same;
+  room = c.insert_by.ensures.room;
+  grown = c.insert_by.ensures.grown;
+}

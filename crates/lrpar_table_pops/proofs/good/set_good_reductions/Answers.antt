@@ -12,16 +12,16 @@ passes-init g c = record {
 pub passes-preserved : goal.passes-preserved
 passes-preserved g c = record {
   good = c.add_all.ensures.keeps c.passes.invariant.good;
-  room = λ r low. c.add_all.ensures.keeps_room r ∙ c.passes.invariant.room r low;
+  room = λ r low. c.add_all.ensures.sets.keeps_room r ∙ c.passes.invariant.room r low;
 }
 
 pub returns : goal.returns
 returns g c =
     let d = c.args.checked.now in
-    let same = OnFalse_at c.passes-test.false c.add_all.ensures.same in
+    let same = OnFalse_at c.passes-test.false c.add_all.ensures.sets.same in
     record {
       good = c.add_all.ensures.keeps c.passes.invariant.good;
-      room = λ r low. c.add_all.ensures.keeps_room r ∙ c.passes.invariant.room r low;
+      room = λ r low. c.add_all.ensures.sets.keeps_room r ∙ c.passes.invariant.room r low;
       all = subst (AreReductionsClosed d.grammar c.args.part.now c.args.pops.now (g.StorageT.StorageIndex.index c.args.state.0) c.args.good.now) (sym same)
           (OnFalse_at c.passes-test.false c.add_all.ensures.all);
     }

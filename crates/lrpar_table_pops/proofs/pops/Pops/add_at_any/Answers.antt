@@ -30,7 +30,7 @@ returns-clause-all g c = λ sound low room places.
     let started = c.start_all.new.found in
     let found = c.follow.new.found in
     let rights = right_actions d.grammar d.graph d.table sound in
-    let empty = cleared_room d.grammar d.graph s c.args.found.now cleared c.clear.ensures.places c.clear.ensures.room c.clear.ensures.followed_room room in
+    let empty = cleared_room d.grammar d.graph s c.args.found.now cleared c.clear.ensures.places c.clear.ensures.room.0 c.clear.ensures.room.1 room in
     let stores = subst (λ (n : ℕ). StoresAll n None found.exits old new) c.from.ensures
     (subst (λ (l : List Exit). StoresAll c.from.result None l old new) c.exits.ensures c.unite_any.ensures.all) in
     add_saturates d.grammar d.graph d.table sound s None c.unite_any.result old new (StartsFrom d.grammar d.table old s) cleared started found low places empty

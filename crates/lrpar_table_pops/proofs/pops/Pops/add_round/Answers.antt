@@ -41,7 +41,7 @@ states-preserved g c =
     let here : number + l.above + 1 ≡ states_len d.table = omega (arith, states, test) in
     let all = subst (λ (m : List Bool). SaturatesState d.grammar d.graph d.table number r (IsUntouched d.table m number ⊎ IsClosedState d.grammar d.graph d.table l.self number)
     l.self next l.found c.add_number.new.found) c.deref.ensures.value c.in_ok-add_number.ensures.all in
-    let done = all c.requires.sound (omega (arith, states, test)) l.invariant.sets l.invariant.places in
+    let done = all c.stable.ensures.sound (omega (arith, states, test)) l.invariant.sets l.invariant.places in
     let settled : AreSettledFrom d.grammar d.graph d.table next c.if-branch.changed_now.items old (l.above + 1) = elim c.if-branch.branch [
       | then-branch w ↦
           let low : number < length marks = let len = l.invariant.len in omega (arith, len, states, test) in

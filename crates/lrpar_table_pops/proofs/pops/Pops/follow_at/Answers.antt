@@ -19,7 +19,7 @@ returns-clause-follows g c = λ table s at action goto are alone found.
     let due = OnTrue_at c.if-not-is_due.false c.is_due.ensures.due in
     let here : IsTrue (has (tokens_by c.args.found.now.reduced.items c.args.rule) (index c.args.token.0)) =
     subst (λ (t : ℕ). IsTrue (has (tokens_by c.args.found.now.reduced.items c.args.rule) t)) c.from.ensures due in
-    let before = follow_leads c.args.grm.now table s at c.args.found.now c.is_due.new.self c.is_due.ensures.exits c.is_due.ensures.reduced found in
+    let before = follow_leads c.args.grm.now table s at c.args.found.now c.is_due.new.self c.is_due.ensures.kept.0 c.is_due.ensures.kept.1 found in
     c.follow_action.ensures.follows table s at action
     (λ q pops. goto_leads c.args.grm.now table s at c.args.rule (index c.args.token.0) (index c.args.next.0)
     (found.by_reductions c.args.rule (index c.args.token.0) here) goto q pops) are alone before
@@ -42,8 +42,8 @@ returns-clause-all g c = λ graph table s action goto right.
     let now = c.is_due.new.self in
     let new = c.follow_action.new.found in
     let right_here : IsRightAction gr t _ = subst (IsRightAction gr t) action (right next t) in
-    followed_keeps gr graph table c.args.self.now s c.args.rule next t old now new right goto c.is_due.ensures.exits
-    (ap (λ (v : Vec TokenSet Global). v.items) c.is_due.ensures.reduced) c.is_due.ensures.grows.room
+    followed_keeps gr graph table c.args.self.now s c.args.rule next t old now new right goto c.is_due.ensures.kept.0
+    (ap (λ (v : Vec TokenSet Global). v.items) c.is_due.ensures.kept.1) c.is_due.ensures.grows.room
     (subst (λ (u : ℕ). FollowsOnly c.args.rule u old now) c.from.ensures c.is_due.ensures.only)
     (ap (λ (v : Vec TokenSet Global). v.items) c.follow_action.ensures.followed)
     (subst (λ (a : TableAction). FindsAll gr (FollowsIn gr c.args.self.now next t a) now new) (sym action) (c.follow_action.ensures.all right_here))

@@ -15,9 +15,6 @@ add_round-requires-clause-alone g c =
     let sound = c.stable.ensures.sound in
     safe_alone d.grammar d.graph d.table sound.safe sound.states
 
-pub add_round-requires-clause-sound : goal.add_round-requires-clause-sound
-add_round-requires-clause-sound g c = c.stable.ensures.sound
-
 pub rounds-init : goal.rounds-init
 rounds-init g c =
     let d = c.args.checked.now in
@@ -27,8 +24,8 @@ rounds-init g c =
       pops = c.in_ok-pops.ensures.pops;
       places = c.in_ok-pops.ensures.places;
       sets = (
-        subst (λ (x : Grammar). HaveRoomFor x c.in_ok-found.found.reduced.items) c.grm.ensures c.in_ok-found.ensures.reduced,
-        subst (λ (x : Grammar). HaveRoomFor x c.in_ok-found.found.followed.items) c.grm.ensures c.in_ok-found.ensures.followed,
+        subst (λ (x : Grammar). HaveRoomFor x c.in_ok-found.found.reduced.items) c.grm.ensures c.in_ok-found.ensures.0,
+        subst (λ (x : Grammar). HaveRoomFor x c.in_ok-found.found.followed.items) c.grm.ensures c.in_ok-found.ensures.1,
       );
       settled = λ s low untouched. absurd (untouched.itself
           (subst (λ (m : List Bool). IsMarked m s) (sym made) (all_marked c.states_len.result s (omega (arith, low, states)))));

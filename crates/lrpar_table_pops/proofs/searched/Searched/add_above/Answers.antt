@@ -58,7 +58,7 @@ shifts-preserved g c =
     let table = c.args.checked.now.table in
     let now = c.shifts.self.stacks.items in
     let new = c.add_shift.new.self.stacks.items in
-    let added = c.in_ok-add_shift.ensures in
+    let added = c.in_ok-add_shift.ensures.added in
     let more = c.shifts.invariant.keeps.more in
     let place = c.requires.place in
     let low : c.args.place < length now = omega (arith, place, more) in
@@ -69,7 +69,7 @@ shifts-preserved g c =
           let old = c.args.self.now.stacks.items in
           let at = at_read old c.args.place under c.requires.place c.index-stack.ensures in
           let reduced = c.set_good_reductions.new.reduced.items in
-          let leads = reductions_all gr graph table c.requires.sound c.args.pops.now pops under.good reduced c.set_good_reductions.ensures.room
+          let leads = reductions_all gr graph table c.stable.ensures.sound c.args.pops.now pops under.good reduced c.set_good_reductions.ensures.room
           (index under.top.0) (c.requires.stacks.within c.args.place under at)
           (subst (λ (t : Table). AreReductionsClosed gr t c.args.pops.now (index under.top.0) under.good reduced) whole c.set_good_reductions.ensures.all) in
           added.all_good (c.shifts.invariant.all_good whole pops good) (subst (AreAllReductionsAt index gr graph table now c.args.place) (sym c.as_slice-reduced.ensures.value)
@@ -78,7 +78,7 @@ shifts-preserved g c =
       met = each_more (IsShiftMetAt index gr table new c.args.place) c.actions_of.result.1.now c.shifts.action-index c.action-item.result c.shifts-test.true
           c.action-item.is
           (λ action there next shift. met_kept index gr table now new added.keeps c.args.place next low (c.shifts.invariant.met action there next shift))
-          added.met;
+          c.in_ok-add_shift.ensures.met;
     }
 
 pub gotos-init : goal.gotos-init
@@ -145,7 +145,7 @@ gotos-preserved g c =
     let table = c.args.checked.now.table in
     let now = c.gotos.self.stacks.items in
     let new = c.add.new.self.stacks.items in
-    let added = c.in_ok-add.ensures in
+    let added = c.in_ok-add.ensures.added in
     let more = c.gotos.invariant.keeps.more in
     let place = c.requires.place in
     let low : c.args.place < length now = omega (arith, place, more) in
@@ -156,7 +156,7 @@ gotos-preserved g c =
           let old = c.args.self.now.stacks.items in
           let at = at_read old c.args.place under c.requires.place c.index-stack.ensures in
           let reduced = c.set_good_reductions.new.reduced.items in
-          let leads = reductions_all gr graph table c.requires.sound c.args.pops.now pops under.good reduced c.set_good_reductions.ensures.room
+          let leads = reductions_all gr graph table c.stable.ensures.sound c.args.pops.now pops under.good reduced c.set_good_reductions.ensures.room
           (index under.top.0) (c.requires.stacks.within c.args.place under at)
           (subst (λ (t : Table). AreReductionsClosed gr t c.args.pops.now (index under.top.0) under.good reduced) whole c.set_good_reductions.ensures.all) in
           added.all_good (c.gotos.invariant.all_good whole pops good) (subst (AreAllReductionsAt index gr graph table now c.args.place) (sym c.as_slice-reduced.ensures.value)
@@ -166,7 +166,7 @@ gotos-preserved g c =
       met = each_more (λ (x : StIdx g.row.StorageT.Denot). IsMetAt index gr table new c.args.place (index x.0)) c.gotos_of.result.1.now c.gotos.next-index
           c.next-item.result c.gotos-test.true c.next-item.is
           (λ x there. met_kept index gr table now new added.keeps c.args.place (index x.0) low (c.gotos.invariant.met x there))
-          added.met;
+          c.in_ok-add.ensures.met;
     }
 
 pub returns-clause-gone_on : goal.returns-clause-gone_on
@@ -182,8 +182,13 @@ returns-clause-gone_on g c =
     let by = c.gotos_of.ensures in
     let all =
     each_all (λ (x : StIdx g.row.StorageT.Denot). IsMetAt index gr table now c.args.place (index x.0)) nexts c.gotos.next-index c.gotos-test.false c.gotos.invariant.met in
-    all_met index gr table old now c.gotos.invariant.keeps c.args.place under at c.gotos.invariant.shifts (λ next goto.
-    let read =
-    goto_read index c.stable-2.result.now table c.stable-2.ensures.table under.top next c.gotos_of.result.0.now nexts by.entries by.states by.exact by.within in
-    let state = Contains-preimage (λ (x : StIdx g.row.StorageT.Denot). index x.0) nexts next (read.1 goto) in
-    subst (IsMetAt index gr table now c.args.place) state.2 (all state.0 state.1))
+    record {
+      stacks = c.gotos.invariant.stacks;
+      keeps = c.gotos.invariant.keeps;
+      all_good = c.gotos.invariant.all_good;
+      gone_on = all_met index gr table old now c.gotos.invariant.keeps c.args.place under at c.gotos.invariant.shifts (λ next goto.
+          let read =
+          goto_read index c.stable-2.result.now table c.stable-2.ensures.table under.top next c.gotos_of.result.0.now nexts by.entries by.states by.exact by.within in
+          let state = Contains-preimage (λ (x : StIdx g.row.StorageT.Denot). index x.0) nexts next (read.1 goto) in
+          subst (IsMetAt index gr table now c.args.place) state.2 (all state.0 state.1));
+    }
