@@ -23,7 +23,9 @@ use std::alloc::Global;
 /// Checks that each stack of the table can be completed: some tokens lead from it to a stack that accepts.
 ///
 /// The check goes over all stacks, from the start state up. It tells stacks apart by their tops, and by the ways in which a run can leave the
-/// top and go on to accept; a stack is left out if a known one will do. `most` limits how many it tells apart.
+/// top and go on to accept; a stack is left out if a known one will do. `most` limits how many it tells apart. At first the runs read few
+/// tokens alone: the end token, and those that shortest complete a kernel core of each state. Most tables pass by these, in a tenth of the
+/// time. If not, all is done again with all tokens.
 ///
 /// `Stuck` gives a stack of the table for which there are no such tokens. `TooMany` means that there are more stacks to tell apart than
 /// `most`, and says nothing of the table. `Memory` means that an allocation failed.
