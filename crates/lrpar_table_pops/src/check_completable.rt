@@ -24,8 +24,8 @@ use std::alloc::Global;
 ///
 /// The check goes over all stacks, from the start state up. It tells stacks apart by their tops, and by the ways in which a run can leave the
 /// top and go on to accept; a stack is left out if a known one will do. `most` limits how many it tells apart. At first the runs read few
-/// tokens alone: the end token, and those that shortest complete a kernel core of each state. Most tables pass by these, in a tenth of the
-/// time. If not, all is done again with all tokens.
+/// tokens alone: the end token, and those that shortest complete a kernel core of each state. By these the tables of C, C99, Lua, Python and
+/// PHP pass. If they leave a stack, all is done again with all tokens, which takes several times as long.
 ///
 /// `Stuck` gives a stack of the table for which there are no such tokens. `TooMany` means that there are more stacks to tell apart than
 /// `most`, and says nothing of the table. `Memory` means that an allocation failed.
@@ -51,7 +51,7 @@ pub fn check_completable<StorageT: StorageIndex>(
     check_whole(alloc, &whole, most)
 }
 
-// Checks that each stack of the whole table can be completed. Most tables pass by few tokens, which is found soon.
+// Checks that each stack of the whole table can be completed, with few tokens first.
 fn check_whole<StorageT: StorageIndex>(
     alloc: Global,
     whole: &Automaton<'_, StorageT>,
@@ -68,7 +68,8 @@ fn check_whole<StorageT: StorageIndex>(
     search_all(alloc, whole, whole.stable(), &pops, most)
 }
 
-// Whether it is found that each stack can be completed by runs that read these tokens alone. If not, that says nothing of the table.
+// Whether it is found that each stack can be completed by runs that read these tokens alone. If not, that says nothing of the table. Refused
+// as the check is; `TooMany`, too, so that a large table isn't gone over twice.
 fn are_completable_by<StorageT: StorageIndex>(
     alloc: Global,
     whole: &Automaton<'_, StorageT>,
@@ -86,7 +87,8 @@ fn are_completable_by<StorageT: StorageIndex>(
     match search_all(alloc, whole, &stable, &pops, most) {
         Ok(()) => Ok(true),
         Err(Incompletable::Memory) => Err(Incompletable::Memory),
-        Err(Incompletable::Stuck(_) | Incompletable::TooMany) => Ok(false),
+        Err(Incompletable::TooMany) => Err(Incompletable::TooMany),
+        Err(Incompletable::Stuck(_)) => Ok(false),
     }
 }
 
