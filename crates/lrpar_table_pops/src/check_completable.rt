@@ -24,8 +24,8 @@ use std::alloc::Global;
 ///
 /// The check goes over all stacks, from the start state up. It tells stacks apart by their tops, and by the ways in which a run can leave the
 /// top and go on to accept; a stack is left out if a known one will do. `most` limits how many it tells apart. At first the runs read few
-/// tokens alone: the end token, and those that shortest complete a kernel core of each state. By these the tables of C, C99, Lua, Python and
-/// PHP pass. If they leave a stack, all is done again with all tokens, which takes several times as long.
+/// tokens alone: the end token, and those that shortest complete a kernel core of each state. By these the tables of C, C99, Python and PHP
+/// pass. If they leave a stack, as in Lua, all is done again with all tokens, which takes several times as long.
 ///
 /// `Stuck` gives a stack of the table for which there are no such tokens. `TooMany` means that there are more stacks to tell apart than
 /// `most`, and says nothing of the table. `Memory` means that an allocation failed.
