@@ -9,9 +9,9 @@ use Rattle.std.proofs.lemmas.Map.Keys.{any_passes_from_place}
 use Rattle.std.proofs.lemmas.Option.{none-some, same_Some}
 use Rattle.indexmap.specs.IndexSet.{insert_key}
 use Rattle.lrpar_table_rows.specs.Table.{Table}
-use Rattle.lrpar_table_stacks.specs.SharedStacks.{AreApart, Extends, Shared}
+use Rattle.lrpar_table_shared_stacks.specs.SharedStacks.{AreApart, Extends, Shared}
 use Rattle.lrpar_table_stacks.specs.Stack.{IsStack}
-use Rattle.lrpar_table_stacks.proofs.SharedStacksLemmas.{extends_keeps}
+use Rattle.lrpar_table_shared_stacks.proofs.SharedStacksLemmas.{extends_keeps}
 use Rattle.lrpar_parse_cpctplus.specs.Configurations.{Configured}
 use Rattle.lrpar_parse_cpctplus.specs.GraphView.{AreHeld, IsHeld, IsNumbered, configured_at, nodes_in}
 use Rattle.lrpar_parse_cpctplus.specs.declared.graph.Configuration.{Configuration}

@@ -2,7 +2,7 @@
 -- is added to it grows by them, and then by Shifts, up to the next round or past the limit.
 use Rattle.std.proofs.Common.{◌≡◌, ◌<◌, ◌-◌, ◌∙◌, ◌++◌, ◌∷◌, [], ℕ, List, Vec, ap, arith, length, subst, sym}
 use Rattle.std.proofs.lemmas.List.{length-map, length_push}
-use Rattle.lrpar_table_stacks.specs.SharedStacks.{Extends, Shared}
+use Rattle.lrpar_table_shared_stacks.specs.SharedStacks.{Extends, Shared}
 use Rattle.lrpar_parse_lexemes.specs.Lexemes.{LexemeParts}
 use Rattle.lrpar_parse_lexemes.specs.Views.{token_by}
 use Rattle.lrpar_parse_repair.specs.Asked.{Asked}

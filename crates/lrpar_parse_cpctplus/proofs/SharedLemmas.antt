@@ -3,7 +3,7 @@ use Rattle.std.proofs.Common.{◌≡◌, ◌-◌, ◌∙◌, ℕ, Bool, true, fa
 use Rattle.std.proofs.lemmas.List.{length_push}
 use Rattle.lrpar_grammar.specs.Grammar.{Grammar}
 use Rattle.lrpar_table_rows.specs.Table.{Table}
-use Rattle.lrpar_table_stacks.specs.SharedStacks.{AreApart, Extends, Shared, current_stack, stack_at}
+use Rattle.lrpar_table_shared_stacks.specs.SharedStacks.{AreApart, Extends, Shared, current_stack, stack_at}
 use Rattle.lrpar_table_stacks.specs.Stack.{IsStack}
 use Rattle.lrpar_parse_repair.specs.Asked.{Asked}
 use Rattle.lrpar_parse_repair.specs.Moves.{IsMovedBy, IsMovedWithin, stays, reduced_first, shifted_first}

@@ -1,7 +1,7 @@
 -- The graph of the program, as contracts see it; `index` is the number that a storage number represents.
 use Rattle.std.specs.Prelude.{◌≡◌, ◌≢◌, ◌<◌, ◌≤◌, ◌⊎◌, ◌++◌, ℕ, List, [], ◌∷◌, length, map, slice_get, Some}
 use Rattle.lrpar_table_rows.specs.Table.{Table}
-use Rattle.lrpar_table_stacks.specs.SharedStacks.{stack_at}
+use Rattle.lrpar_table_shared_stacks.specs.SharedStacks.{stack_at}
 use Rattle.lrpar_table_stacks.specs.Stack.{IsStack}
 use Rattle.lrpar_parse_repair.specs.PlainSteps.{plain_step}
 use Rattle.lrpar_parse_repair.specs.declared.repair_step.RepairStep.{RepairStep}

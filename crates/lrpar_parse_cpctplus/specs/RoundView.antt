@@ -9,7 +9,7 @@ use Rattle.lrpar_table_rows.specs.Table.{Fails}
 use Rattle.lrpar_table_stacks.specs.Expected.{tokens_of}
 use Rattle.lrpar_table_stacks.specs.Reduction.{top_action}
 use Rattle.lrpar_table_stacks.specs.Run.{token_at}
-use Rattle.lrpar_table_stacks.specs.SharedStacks.{Shared, stack_at}
+use Rattle.lrpar_table_shared_stacks.specs.SharedStacks.{Shared, stack_at}
 use Rattle.lrpar_parse_lexemes.specs.Lexemes.{LexemeParts}
 use Rattle.lrpar_parse_lexemes.specs.Views.{token_by}
 use Rattle.lrpar_parse_repair.specs.Asked.{HaveTokens}

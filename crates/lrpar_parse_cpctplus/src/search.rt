@@ -2,7 +2,7 @@
 ghost use Rattle.std.specs.Prelude.{◌≡◌, ◌<◌, ◌≤◌, ◌+◌, ◌⊎◌, ◌∷◌, [], length, IfOk, OnOk};
 ghost use Rattle.std.specs.List.Sorted.{IsStrictlyIncreasing};
 ghost use Rattle.lrpar_table_stacks.specs.Expected.{tokens_of};
-ghost use Rattle.lrpar_table_stacks.specs.SharedStacks.{Extends};
+ghost use Rattle.lrpar_table_shared_stacks.specs.SharedStacks.{Extends};
 ghost use Rattle.lrpar_parse_cpctplus.specs.Costs.{AreCosts, token_cost};
 ghost use Rattle.lrpar_parse_cpctplus.specs.SearchRound.{AreWeights};
 
@@ -13,7 +13,7 @@ use lrpar_grammar::span::{StorageIndex, TIdx};
 use lrpar_parse_lexemes::lex_api::Lexeme;
 use lrpar_parse_repair::engine::Engine;
 use lrpar_parse_repair::repair::{RecoveryPoint, RepairStep};
-use lrpar_table_stacks::shared_stacks::SharedStacks;
+use lrpar_table_shared_stacks::shared_stacks::SharedStacks;
 use lrpar_table_stacks::state_stack::StateStack;
 use std::alloc::{AllocError, Global};
 

@@ -9,4 +9,3 @@ pub mod StackReductionLemmas
 pub mod OverlayLemmas
 pub mod OverSettleLemmas
 pub mod RunLemmas
-pub mod SharedStacksLemmas

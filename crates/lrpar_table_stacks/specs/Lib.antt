@@ -6,7 +6,6 @@ pub mod ReductionStep
 pub mod Settled
 pub mod StackReduction
 pub mod Overlay
-pub mod SharedStacks
 pub mod Expected
 pub mod Run
 pub mod RunLaws

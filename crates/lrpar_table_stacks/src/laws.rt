@@ -5,7 +5,6 @@ ghost use Rattle.lrpar_grammar.specs.Sum.{sum_grammar};
 ghost use Rattle.lrpar_table_stacks.specs.Chain.{AreChainsShort, BoundsReductions, IsLongChain};
 ghost use Rattle.lrpar_table_stacks.specs.Path.{CheckedRunsNeverStick, IsPath, PathsAreStacks, StacksArePaths};
 ghost use Rattle.lrpar_table_stacks.specs.Reduction.{SettlesOneWay, Settles};
-ghost use Rattle.lrpar_table_stacks.specs.SharedStacks.{NumberedStacksStay};
 ghost use Rattle.lrpar_table_stacks.specs.Stack.{IsStack};
 ghost use Rattle.lrpar_table_rows.specs.Sum.{sum_table};
 
@@ -58,9 +57,4 @@ pub fn reductions_are_bounded()
 pub fn sum_table_has_chains()
     ensures long { IsLongChain sum_grammar sum_table 1 4 2 }
     ensures short { AreChainsShort sum_grammar sum_table 2 }
-{}
-
-/// The number of a stack means the same stack from then on.
-pub fn numbered_stacks_stay()
-    ensures { NumberedStacksStay }
 {}

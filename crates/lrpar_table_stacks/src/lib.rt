@@ -5,6 +5,5 @@ pub mod laws;
 pub mod overlay;
 pub mod probe;
 pub mod reduction;
-pub mod shared_stacks;
 pub mod stack_check;
 pub mod state_stack;

@@ -1,5 +1,5 @@
 use Rattle.std.proofs.Common.{take}
-use Rattle.lrpar_table_stacks.specs.SharedStacks.{Extends}
+use Rattle.lrpar_table_shared_stacks.specs.SharedStacks.{Extends}
 use Rattle.lrpar_parse_lexemes.specs.Views.{token_by}
 use Rattle.lrpar_parse_cpctplus.specs.RoundView.{nodes_of, plain_attempts, plain_endings}
 use Rattle.lrpar_parse_cpctplus.specs.SearchRound.{AreEndingsOf}

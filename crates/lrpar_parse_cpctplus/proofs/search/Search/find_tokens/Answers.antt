@@ -5,7 +5,7 @@ use Rattle.lrpar_table_rows.specs.PlainRows.{plain_action}
 use Rattle.lrpar_table_rows.specs.Table.{Table, TableAction, Fails, action_of, actions_at, states_len}
 use Rattle.lrpar_table_rows.proofs.EntryLemmas.{keys_ascend}
 use Rattle.lrpar_table_stacks.specs.Reduction.{top_action}
-use Rattle.lrpar_table_stacks.specs.SharedStacks.{current_stack, stack_at}
+use Rattle.lrpar_table_shared_stacks.specs.SharedStacks.{current_stack, stack_at}
 use Rattle.lrpar_table_stacks.proofs.StepLemmas.{action_by_top}
 use Rattle.lrpar_parse_cpctplus.proofs.AddLemmas.{tokens_read, top_known}
 use Rattle.lrpar_parse_cpctplus.proofs.SharedLemmas.{gone_stack, gone_to}

@@ -1,6 +1,6 @@
 use Rattle.std.proofs.Common.{◌≡◌, ◌<◌, ◌≤◌, ◌+◌, ℕ, List, ap, arith, length, min, refl, subst}
 use Rattle.std.specs.Int.{from_bool}
-use Rattle.lrpar_table_stacks.specs.SharedStacks.{current_stack}
+use Rattle.lrpar_table_shared_stacks.specs.SharedStacks.{current_stack}
 use Rattle.lrpar_parse_lexemes.specs.Views.{token_by}
 use Rattle.lrpar_parse_cpctplus.specs.Reaching.{is_far}
 use Rattle.lrpar_parse_cpctplus.specs.RoundView.{ReachesBy}

@@ -1,5 +1,5 @@
 use Rattle.std.proofs.Common.{◌≤◌, ℕ, max}
-use Rattle.lrpar_table_stacks.specs.SharedStacks.{Extends, current_stack}
+use Rattle.lrpar_table_shared_stacks.specs.SharedStacks.{Extends, current_stack}
 use Rattle.lrpar_table_stacks.specs.Stack.{IsStack}
 use Rattle.lrpar_parse_lexemes.specs.Views.{token_by}
 use Rattle.lrpar_parse_cpctplus.specs.RoundView.{ReachesBy}

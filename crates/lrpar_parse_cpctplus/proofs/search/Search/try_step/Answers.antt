@@ -1,5 +1,5 @@
 use Rattle.std.proofs.Common.{◌≡◌, ℕ, subst, sym}
-use Rattle.lrpar_table_stacks.specs.SharedStacks.{current_stack, stack_at}
+use Rattle.lrpar_table_shared_stacks.specs.SharedStacks.{current_stack, stack_at}
 use Rattle.lrpar_table_stacks.specs.Stack.{IsStack}
 use Rattle.lrpar_parse_lexemes.specs.Views.{token_by}
 use Rattle.lrpar_parse_repair.specs.PlainSteps.{plain_step}

@@ -8,9 +8,9 @@ use Rattle.std.proofs.lemmas.Option.{none-some, same_Some, slice_get-get_or, sli
 use Rattle.std.specs.Cmp.Derive.{both_true}
 use Rattle.std.specs.List.{list_any}
 use Rattle.indexmap.specs.IndexSet.{insert_key}
-use Rattle.lrpar_table_stacks.specs.SharedStacks.{AreApart, AreShared, AreTops, Extends, IsTop, Shared, stack_at, stack_of, stacks_after, stacks_of}
+use Rattle.lrpar_table_shared_stacks.specs.SharedStacks.{AreApart, AreShared, AreTops, Extends, IsTop, Shared, stack_at, stack_of, stacks_after, stacks_of}
 use Rattle.lrpar_table_stacks.specs.Stack.{top_of}
-use Rattle.lrpar_table_stacks.specs.declared.shared_stacks.Top.{Top}
+use Rattle.lrpar_table_shared_stacks.specs.declared.shared_stacks.Top.{Top}
 
 -- one more top makes one more stack
 after_push : (stacks : List (List ℕ)) (tops : List Top) (top : Top)

@@ -2,7 +2,7 @@
 use Rattle.std.specs.Prelude.{◌≡◌, ◌<◌, ◌≤◌, ◌+◌, ◌-◌, ℕ, List, [], ◌∷◌, ◌++◌, length, slice_get, slice_index_or, take, Some}
 use Rattle.lrpar_grammar_places.specs.declared.span.StIdx.{StIdx}
 use Rattle.lrpar_table_stacks.specs.Stack.{Pushes, Replaces}
-use Rattle.lrpar_table_stacks.specs.declared.shared_stacks.Top.{Top}
+use Rattle.lrpar_table_shared_stacks.specs.declared.shared_stacks.Top.{Top}
 
 -- the stacks by their numbers, and the number of the current one
 pub record Shared : Type 0 where

@@ -1,7 +1,7 @@
 use Rattle.std.proofs.Common.{◌<◌, ◌-◌, ◌∙◌, Some, ap, arith, length, rules, subst, sym}
-use Rattle.lrpar_table_stacks.specs.SharedStacks.{stack_at}
-use Rattle.lrpar_table_stacks.proofs.SharedStacksLemmas.{some_states, stacks_len, top_is, top_read}
-use Rattle.lrpar_table_stacks.proofs.shared_stacks.SharedStacks.top_state.Goals as goal
+use Rattle.lrpar_table_shared_stacks.specs.SharedStacks.{stack_at}
+use Rattle.lrpar_table_shared_stacks.proofs.SharedStacksLemmas.{some_states, stacks_len, top_is, top_read}
+use Rattle.lrpar_table_shared_stacks.proofs.shared_stacks.SharedStacks.top_state.Goals as goal
 
 pub overflow_sub-top : goal.overflow_sub-top
 overflow_sub-top g c =

@@ -1,6 +1,6 @@
 use Rattle.std.proofs.Common.{◌<◌, ◌≤◌, ◌-◌, ap, arith, length, rules, subst, sym}
-use Rattle.lrpar_table_stacks.proofs.SharedStacksLemmas.{height_most, no_states, stacks_len, top_read}
-use Rattle.lrpar_table_stacks.proofs.shared_stacks.SharedStacks.height_of.Goals as goal
+use Rattle.lrpar_table_shared_stacks.proofs.SharedStacksLemmas.{height_most, no_states, stacks_len, top_read}
+use Rattle.lrpar_table_shared_stacks.proofs.shared_stacks.SharedStacks.height_of.Goals as goal
 
 pub bounds-tops-number : goal.bounds-tops-number
 bounds-tops-number g c =

@@ -1,9 +1,9 @@
 //! Stacks of states that share their lower states.
 ghost use Rattle.std.specs.Prelude.{◌≡◌, ◌<◌, ◌≤◌, ◌^◌, IfOk, OnErr, OnOk, length};
 ghost use Rattle.lrpar_table_stacks.specs.Stack.{IsTopOf, states_of};
-ghost use Rattle.lrpar_table_stacks.specs.SharedStacks.{AreApart, Extends, IsBelow, PushesOnto, current_stack, stack_at};
+ghost use Rattle.lrpar_table_shared_stacks.specs.SharedStacks.{AreApart, Extends, IsBelow, PushesOnto, current_stack, stack_at};
 
-use crate::state_stack::{Reduction, ShiftStack, StateStack};
+use lrpar_table_stacks::state_stack::{Reduction, ShiftStack, StateStack};
 use indexmap::IndexSet;
 use lrpar_grammar::span::{StIdx, StorageIndex};
 use std::alloc::{AllocError, Global};
@@ -41,7 +41,7 @@ impl<StorageT: StorageIndex> Drop for SharedStacks<StorageT> {
 }
 
 impl<StorageT: StorageIndex> Model for SharedStacks<StorageT> {
-    ghost use Rattle.lrpar_table_stacks.specs.SharedStacks.{AreShared, Shared, stacks_of};
+    ghost use Rattle.lrpar_table_shared_stacks.specs.SharedStacks.{AreShared, Shared, stacks_of};
 
     ghost Value = { Shared };
 
@@ -143,7 +143,7 @@ impl<StorageT: StorageIndex> SharedStacks<StorageT> {
 
 impl<StorageT: StorageIndex> StateStack<StorageT> for SharedStacks<StorageT> {
     ghost use Rattle.std.specs.Prelude.{◌≡◌, ◌<◌, length, OnOk, OnErr};
-    ghost use Rattle.lrpar_table_stacks.specs.SharedStacks.{Extends, ReplacesCurrent, current_stack};
+    ghost use Rattle.lrpar_table_shared_stacks.specs.SharedStacks.{Extends, ReplacesCurrent, current_stack};
 
     ghost states = { λ s. current_stack s };
 
@@ -186,7 +186,7 @@ impl<StorageT: StorageIndex> StateStack<StorageT> for SharedStacks<StorageT> {
 
 impl<StorageT: StorageIndex> ShiftStack<StorageT> for SharedStacks<StorageT> {
     ghost use Rattle.std.specs.Prelude.{◌≡◌, OnOk, OnErr};
-    ghost use Rattle.lrpar_table_stacks.specs.SharedStacks.{Extends, PushesCurrent, current_stack};
+    ghost use Rattle.lrpar_table_shared_stacks.specs.SharedStacks.{Extends, PushesCurrent, current_stack};
 
     ghost shifts = { λ old new. Extends old new };
 

@@ -1,7 +1,7 @@
 use Rattle.std.proofs.Common.{◌≡◌, ◌∙◌, ◌++◌, ◌∷◌, ◌<◌, ◌^◌, [], ap, arith, length, subst, sym}
-use Rattle.lrpar_table_stacks.specs.SharedStacks.{stack_at, stacks_of}
-use Rattle.lrpar_table_stacks.proofs.SharedStacksLemmas.{place_most, pushed_by, stacks_len}
-use Rattle.lrpar_table_stacks.proofs.shared_stacks.SharedStacks.push.Goals as goal
+use Rattle.lrpar_table_shared_stacks.specs.SharedStacks.{stack_at, stacks_of}
+use Rattle.lrpar_table_shared_stacks.proofs.SharedStacksLemmas.{place_most, pushed_by, stacks_len}
+use Rattle.lrpar_table_shared_stacks.proofs.shared_stacks.SharedStacks.push.Goals as goal
 
 pub overflow_add-self : goal.overflow_add-self
 overflow_add-self g c =

@@ -1,7 +1,7 @@
 use Rattle.std.proofs.Common.{◌<◌, ◌+◌, ◌-◌, ◌∙◌, ap, arith, length, rules}
-use Rattle.lrpar_table_stacks.specs.SharedStacks.{AreTops, stack_at, stacks_of}
-use Rattle.lrpar_table_stacks.proofs.SharedStacksLemmas.{left_less, left_some, stacks_len}
-use Rattle.lrpar_table_stacks.proofs.shared_stacks.SharedStacks.number_below.Goals as goal
+use Rattle.lrpar_table_shared_stacks.specs.SharedStacks.{AreTops, stack_at, stacks_of}
+use Rattle.lrpar_table_shared_stacks.proofs.SharedStacksLemmas.{left_less, left_some, stacks_len}
+use Rattle.lrpar_table_shared_stacks.proofs.shared_stacks.SharedStacks.number_below.Goals as goal
 
 pub overflow_sub-below : goal.overflow_sub-below
 overflow_sub-below g c =

@@ -1,0 +1,5 @@
+//! Stacks of states that share their lower states.
+#![tactic(auto)]
+
+pub mod laws;
+pub mod shared_stacks;

@@ -1,5 +1,0 @@
-use Rattle.lrpar_table_stacks.proofs.SharedStacksLemmas.{extends_keeps}
-use Rattle.lrpar_table_stacks.proofs.laws.numbered_stacks_stay.Goals as goal
-
-pub returns : goal.returns
-returns c = λ old new n extends within. extends_keeps old new extends n within
