@@ -45,20 +45,17 @@ moved_extends states g table cap tokens old new moved = moves_extend states g ta
 pub level_cost : (firsts : List ℕ) (count : ℕ) → length (firsts ++ count ∷ []) - 1 ≡ length firsts
 level_cost firsts count = omega (arith, length_push firsts count)
 
--- another stack becomes the current one
-pub gone_to : (old new : Shared) (n : ℕ) → new.stacks ≡ old.stacks → new.current ≡ n → current_stack new ≡ stack_at old.stacks n
-gone_to old new n same is = ap (λ (s : List (List ℕ)). stack_at s new.current) same ∙ ap (λ (k : ℕ). stack_at old.stacks k) is
-
--- it is a stack of the table
-pub gone_stack : (table : Table) (old new : Shared) (n : ℕ) → new.stacks ≡ old.stacks → new.current ≡ n → IsStack table (stack_at old.stacks n)
+-- what becomes the current stack is a stack of the table
+pub gone_stack : (table : Table) (old new : Shared) (n : ℕ) → current_stack new ≡ stack_at old.stacks n → IsStack table (stack_at old.stacks n)
     → IsStack table (current_stack new)
-gone_stack table old new n same is stack = subst (IsStack table) (sym (gone_to old new n same is)) stack
+gone_stack table old new n is stack = subst (IsStack table) (sym is) stack
 
 -- a step was taken from the stack with a number, or can't be
-module _ {X : Type 0} (token : X → ℕ) (at : Asked X) (old mid new : Shared) (n i : ℕ) (step : PlainStep) (o : Option ℕ) (same : mid.stacks ≡ old.stacks)
-    (is : mid.current ≡ n) (taken : IsStepTaken token at.checked.grammar at.checked.table at.lexemes (current_stack mid) i step (current_stack new) o) where
+module _ {X : Type 0} (token : X → ℕ) (at : Asked X) (old mid new : Shared) (n i : ℕ) (step : PlainStep) (o : Option ℕ)
+    (is : current_stack mid ≡ stack_at old.stacks n)
+    (taken : IsStepTaken token at.checked.grammar at.checked.table at.lexemes (current_stack mid) i step (current_stack new) o) where
   from_there : IsStepTaken token at.checked.grammar at.checked.table at.lexemes (stack_at old.stacks n) i step (current_stack new) o
-  from_there = subst (λ (st : List ℕ). IsStepTaken token at.checked.grammar at.checked.table at.lexemes st i step (current_stack new) o) (gone_to old mid n same is) taken
+  from_there = subst (λ (st : List ℕ). IsStepTaken token at.checked.grammar at.checked.table at.lexemes st i step (current_stack new) o) is taken
 
   pub leads_some : (j : ℕ) → o ≡ Some j → IsEdge token at (configured (stack_at old.stacks n) i) step (configured (current_stack new) j)
   leads_some j some =

@@ -64,7 +64,8 @@ impl<'a, 'p, StorageT: StorageIndex, LexemeT: Lexeme<StorageT>> Search<'a, 'p, S
     {
         let weights = self.terms.weights(alloc)?;
         let mut stacks = SharedStacks::new(alloc, self.point.stack())?;
-        let (stack, place) = (stacks.number(), self.point.place());
+        let stack = stacks.number()?;
+        let place = self.point.place();
         let mut graph = Graph::new(alloc, Configuration { stack, place })?;
         // Each token costs something.
         let _lemma = self.limit();
@@ -377,7 +378,7 @@ impl<'a, 'p, StorageT: StorageIndex, LexemeT: Lexeme<StorageT>> Search<'a, 'p, S
     {
         if let Some(reached) = self.try_step(stacks, graph.at(from), step)? {
             // No two numbers have the same stack.
-            let _lemma = stacks.number();
+            let _lemma = stacks.len();
             graph.link(first, from, step, reached)?;
         }
         Ok(())
@@ -418,10 +419,10 @@ impl<'a, 'p, StorageT: StorageIndex, LexemeT: Lexeme<StorageT>> Search<'a, 'p, S
         stacks.go_to(at.stack);
         let engine = self.engine();
         match engine.try_step(stacks, at.place, step)? {
-            Some(place) => Ok(Some(Configuration {
-                stack: stacks.number(),
-                place,
-            })),
+            Some(place) => {
+                let stack = stacks.number()?;
+                Ok(Some(Configuration { stack, place }))
+            }
             None => Ok(None),
         }
     }

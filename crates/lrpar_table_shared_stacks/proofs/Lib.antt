@@ -1,1 +1,2 @@
 pub mod SharedStacksLemmas
+pub mod CurrentLemmas

@@ -1,7 +1,7 @@
 -- Stacks that share their lower states. A number means the same stack from then on, since new stacks go last. A top that is new
 -- makes a stack that is new: if an earlier top made the same one, both tops would be on the same stack, thus on the same number,
 -- with the same state and the same height.
-use Rattle.std.proofs.Common.{◌≡◌, ◌≢◌, ◌<◌, ◌≤◌, ◌+◌, ◌-◌, ◌∙◌, ◌⊎◌, ◌||◌, ◌&&◌, eqb, inl, inr, refl, sym, ap, subst, arith, ℕ, zero, suc, List, [], ◌∷◌, ◌++◌, Bool, true, false, true≢false, if◌then◌else◌, Some, length, length-append, get_or, slice_get, take}
+use Rattle.std.proofs.Common.{◌≡◌, ◌≢◌, ◌<◌, ◌≤◌, ◌+◌, ◌-◌, ◌∙◌, ◌⊎◌, ◌||◌, ◌&&◌, eqb, inl, inr, refl, sym, ap, subst, arith, ℕ, zero, suc, List, [], ◌∷◌, ◌++◌, Bool, true, false, true≢false, if◌then◌else◌, Some, append_assoc, length, length-append, get_or, slice_get, take}
 use Rattle.std.proofs.lemmas.Bool.{cases_lt, eq-eqb, eqb-true}
 use Rattle.std.proofs.lemmas.List.{append-nil, get_or_append_left, get_or_push, length-take-le, length_push, same_from_push, take-take, take_at}
 use Rattle.std.proofs.lemmas.Option.{none-some, same_Some, slice_get-get_or, slice_get_within}
@@ -357,6 +357,21 @@ pushed_by limit old new current below high state place shared within height fits
     let onto : IsOnto limit old below top = record { within = within; under = refl; height = ap (λ (n : ℕ). n + 1) height; fits = fits } in
     let same : top ≡ stored.0 = eq_top top stored.0 stored.2 in
     push_any limit old current shared below top onto new (inserted old top new keys) place (stored.1 ∙ ap (λ (t : Top). Some t) (sym same))
+
+-- tops that share stacks share them whichever of the stacks is looked at
+pub shared_on : (limit : ℕ) (old new : List Top) (number other : ℕ) → number < length (stacks_of old) → AreShared limit new other
+    → (more : List (List ℕ)) × (stacks_of new ≡ stacks_of old ++ more) → AreShared limit new number
+shared_on limit old new number other within shared extends =
+    let longer : length (stacks_of new) ≡ length (stacks_of old) + length extends.0 =
+    ap (λ (s : List (List ℕ)). length s) extends.1 ∙ length-append (stacks_of old) extends.0 in
+    record { each = shared.each; fits = shared.fits; apart = shared.apart; within = omega (arith, within, longer) }
+
+-- stacks are added, and then more
+pub extends_then : (old mid new : Shared) → Extends old mid → Extends mid new → Extends old new
+extends_then old mid new one two = (
+  one.0 ++ two.0,
+  two.1 ∙ ap (λ (s : List (List ℕ)). s ++ two.0) one.1 ∙ append_assoc old.stacks one.0 two.0,
+)
 
 -- what a number means from then on
 pub extends_keeps : (old new : Shared) → Extends old new → (n : ℕ) → n < length old.stacks

@@ -4,10 +4,11 @@ use Rattle.lrpar_grammar_places.specs.declared.span.StIdx.{StIdx}
 use Rattle.lrpar_table_stacks.specs.Stack.{Pushes, Replaces}
 use Rattle.lrpar_table_shared_stacks.specs.declared.shared_stacks.Top.{Top}
 
--- the stacks by their numbers, and the number of the current one
+-- the stacks by their numbers; and of the current one the number of the stack that it begins with, and its states above that
 pub record Shared : Type 0 where
   pub stacks : List (List ℕ)
-  pub current : ℕ
+  pub below : ℕ
+  pub above : List ℕ
 
 -- the stack with a number
 abbrev pub stack_at : List (List ℕ) → ℕ → List ℕ
@@ -15,7 +16,7 @@ stack_at stacks n = slice_index_or stacks n []
 
 -- the current stack
 abbrev pub current_stack : Shared → List ℕ
-current_stack s = stack_at s.stacks s.current
+current_stack s = stack_at s.stacks s.below ++ s.above
 
 -- no two numbers have the same stack
 abbrev pub AreApart : List (List ℕ) → Type 0
@@ -34,9 +35,18 @@ NumberedStacksStay =
 abbrev pub IsBelow : List (List ℕ) → ℕ → ℕ → ℕ → Type 0
 IsBelow stacks number count below = stack_at stacks below ≡ take (length (stack_at stacks number) - count) (stack_at stacks number)
 
--- the current stack has the state of code on top of a numbered one
-abbrev pub PushesOnto : {S : Type 0} → (S → ℕ) → ℕ → StIdx S → Shared → Shared → Type 0
-PushesOnto index below state old new = Pushes index state (stack_at old.stacks below) (current_stack new)
+-- the number is one of the stacks, and means this one
+pub record IsNumberOf (stack : List ℕ) (stacks : List (List ℕ)) (number : ℕ) : Type 0 where
+  pub within : number < length stacks
+  pub means : stack_at stacks number ≡ stack
+
+-- the number means the stack that has the state of code on top of a numbered one
+abbrev pub IsNumberOfPushed : {S : Type 0} → (S → ℕ) → ℕ → StIdx S → Shared → Shared → ℕ → Type 0
+IsNumberOfPushed index below state old new number = IsNumberOf (stack_at old.stacks below ++ index state.0 ∷ []) new.stacks number
+
+-- a numbered stack with this number of states of the current one's list is the current one without so many of its top states
+abbrev pub IsPartLeft : Shared → ℕ → ℕ → ℕ → Type 0
+IsPartLeft s count below left = stack_at s.stacks below ++ take left s.above ≡ take (length (current_stack s) - count) (current_stack s)
 
 -- the state of code was pushed onto the current stack
 abbrev pub PushesCurrent : {S : Type 0} → (S → ℕ) → StIdx S → Shared → Shared → Type 0
@@ -68,9 +78,9 @@ pub record IsTop (stacks : List (List ℕ)) (i : ℕ) (top : Top) : Type 0 where
 abbrev pub AreTops : List Top → Type 0
 AreTops tops = (i : ℕ) (top : Top) → slice_get tops i ≡ Some top → IsTop (stacks_of tops) i top
 
--- each top is one of a stack, with a state below the limit; no two stacks are the same; and the current number is that of one
-pub record AreShared (limit : ℕ) (tops : List Top) (current : ℕ) : Type 0 where
+-- each top is one of a stack, with a state below the limit; no two stacks are the same; and this number is that of one
+pub record AreShared (limit : ℕ) (tops : List Top) (number : ℕ) : Type 0 where
   pub each : AreTops tops
   pub fits : (i : ℕ) (top : Top) → slice_get tops i ≡ Some top → top.state < limit
   pub apart : AreApart (stacks_of tops)
-  pub within : current < length (stacks_of tops)
+  pub within : number < length (stacks_of tops)

@@ -20,6 +20,8 @@ pub(crate) const KIND: &str = "kind";
 
 pub(crate) const MINIMISER: &str = "minimiser";
 
+pub(crate) const MAX_STATES: &str = "max-states";
+
 pub(crate) const REPAIRS: &str = "repairs";
 
 pub(crate) const LIMIT: &str = "limit";
@@ -314,6 +316,14 @@ fn add_table_options<'a>(
                 .value_parser(values.minimisers.as_slice())
                 .default_value("pager")
                 .help("Merge states of the table in this way"),
+        )?
+        .arg(
+            Arg::new(alloc, MAX_STATES)
+                .long("max-states")
+                .value_name("N")
+                .value_parser(value_parser!(usize))
+                .default_value("10000")
+                .help("Build no table of more than N states"),
         )
 }
 

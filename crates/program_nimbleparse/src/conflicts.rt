@@ -11,7 +11,6 @@ use lrpar_grammar::grammar::YaccGrammar;
 use lrpar_report::{Level, Report, Reporter, conflict_reports, push_token};
 use lrpar_table::table::StateTable;
 use lrpar_table_precedence::precedences::Precedences;
-use program_files::tables::MAX_STATES;
 use std::alloc::{AllocError, Global};
 
 /// The bound of the search for a unifying counterexample of a conflict.
@@ -21,7 +20,8 @@ const BOUND: usize = 1_000;
 const MOST: usize = 10;
 
 /// Adds a warning for each of the first conflicts of the table, the first counterexamples, and a note of each of the first conflicts that have
-/// none. If a reachable rule derives no text, there are no counterexamples, and one warning says so.
+/// none. If a reachable rule derives no text, there are no counterexamples, and one warning says so; and so there are if the canonical table
+/// has more states than that.
 pub(crate) fn push_conflicts(
     out: &mut String,
     alloc: Global,
@@ -29,11 +29,12 @@ pub(crate) fn push_conflicts(
     grm: &YaccGrammar<u32>,
     precedences: &Precedences,
     stable: &StateTable<u32>,
+    max_states: usize,
 ) -> Result<(), AllocError> {
     if stable.conflicts().is_none() {
         return Ok(());
     }
-    match conflict_examples_by(alloc, grm, precedences, stable, MAX_STATES, BOUND) {
+    match conflict_examples_by(alloc, grm, precedences, stable, max_states, BOUND) {
         Ok(found) => push_found(out, alloc, reporter, grm, stable, &found),
         Err(NoExamples::Memory) => Err(AllocError),
         Err(NoExamples::Unproductive(_)) => {

@@ -21,7 +21,6 @@ use lrpar_table::check::{CheckFault, ParserData, Refused};
 use lrpar_table::table::{StateGraph, StateTable};
 use lrpar_table_options::{Minimiser, TableOptions};
 use program_files::fault::Fault;
-use program_files::tables::MAX_STATES;
 use std::alloc::{AllocError, Global};
 use std::io::Write;
 
@@ -41,6 +40,8 @@ pub struct Asked {
     pub is_verbose: bool,
     /// Whether its item sets are merged.
     pub minimiser: Minimiser,
+    /// How many states it may have.
+    pub max_states: usize,
     /// Whether the grammar is looked at alone. Then tokens that are of no use are warned of, too, and its states are what was asked for, so
     /// they go to standard output.
     pub is_looked_at: bool,
@@ -208,7 +209,7 @@ fn build_data<O: Write, E: Write>(
     let options = TableOptions::new()
         .precedences(&declared.precedences)
         .minimiser(asked.minimiser)
-        .max_states(MAX_STATES);
+        .max_states(asked.max_states);
     match options.state_table(alloc, &grm) {
         Ok((sgraph, stable)) => {
             let counts = counts_of(alloc, declared, &stable)?;
@@ -223,7 +224,7 @@ fn build_data<O: Write, E: Write>(
             let data = check_chains(alloc, reporter, grm, sgraph, stable)?;
             Ok((data, counts))
         }
-        Err(fault) => Err(fault_of_build(alloc, reporter, &grm, fault)),
+        Err(fault) => Err(fault_of_build(alloc, reporter, &grm, &fault, asked)),
     }
 }
 
@@ -242,7 +243,7 @@ fn write_notes<O: Write, E: Write>(
     if asked.is_quiet {
         return Ok(());
     }
-    let notes = notes_of(alloc, reporter, built, declared, warnings)?;
+    let notes = notes_of(alloc, reporter, built, declared, warnings, asked.max_states)?;
     write_messages(out, err, notes.as_str())?;
     if asked.shows_states {
         write_states(alloc, built, asked, out, err)?;
@@ -257,6 +258,7 @@ fn notes_of(
     built: Built<'_>,
     declared: &Declared<'_>,
     warnings: &[Report],
+    max_states: usize,
 ) -> Result<String, AllocError> {
     let Built {
         grm,
@@ -271,7 +273,7 @@ fn notes_of(
     }
     if !has_expected(declared, counts) {
         let precedences = &declared.precedences;
-        push_conflicts(&mut notes, alloc, reporter, grm, precedences, stable)?;
+        push_conflicts(&mut notes, alloc, reporter, grm, precedences, stable, max_states)?;
     }
     Ok(notes)
 }
@@ -321,13 +323,11 @@ fn fault_of_build(
     alloc: Global,
     reporter: &Reporter<'_>,
     grm: &YaccGrammar<u32>,
-    fault: BuildFault,
+    fault: &BuildFault,
+    asked: Asked,
 ) -> Fault {
-    fault_of_report(
-        alloc,
-        reporter,
-        build_report(alloc, grm, &fault, MAX_STATES),
-    )
+    let report = build_report(alloc, grm, fault, asked.max_states);
+    fault_of_report(alloc, reporter, report)
 }
 
 // The fault of a table with a chain of reductions that is too long for any cap.

@@ -1,7 +1,7 @@
 //! What the words after the program's name ask for.
 use crate::command::{
-    FORMAT, FORMATS, GRAMMAR, INPUT, INPUT_OPTIONS, KIND, KINDS, LEXER, LIMIT, MINIMISER,
-    MINIMISERS, PossibleValues, QUIET, REPAIRS, SEARCHES, SHIFTS, STATES, Search, VERBOSE,
+    FORMAT, FORMATS, GRAMMAR, INPUT, INPUT_OPTIONS, KIND, KINDS, LEXER, LIMIT, MAX_STATES,
+    MINIMISER, MINIMISERS, PossibleValues, QUIET, REPAIRS, SEARCHES, SHIFTS, STATES, Search, VERBOSE,
     command_line, meaning_of,
 };
 use crate::grammar::Asked;
@@ -126,6 +126,7 @@ fn asked_of(matches: &ArgMatches<'_>, is_looked_at: bool) -> Asked {
         shows_states: matches.get_flag(STATES),
         is_verbose: matches.get_flag(VERBOSE),
         minimiser: meaning_of(matches, MINIMISER, &MINIMISERS).unwrap_or(Minimiser::Pager),
+        max_states: matches.get_one::<usize>(MAX_STATES).unwrap_or(usize::MAX),
         is_looked_at,
     }
 }

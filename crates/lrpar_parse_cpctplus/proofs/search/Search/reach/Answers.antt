@@ -7,7 +7,7 @@ use Rattle.lrpar_parse_cpctplus.specs.RoundView.{ReachesBy}
 use Rattle.lrpar_parse_cpctplus.specs.SearchRound.{ReachesFrom}
 use Rattle.lrpar_parse_cpctplus.proofs.DistanceLemmas.{configured}
 use Rattle.lrpar_parse_cpctplus.proofs.ReachLemmas.{reach_ends, reach_fails, reach_fed}
-use Rattle.lrpar_parse_cpctplus.proofs.SharedLemmas.{extends_both, extends_none, extends_same, gone_stack, gone_to, moved_extends}
+use Rattle.lrpar_parse_cpctplus.proofs.SharedLemmas.{extends_both, extends_none, extends_same, gone_stack, moved_extends}
 use Rattle.lrpar_parse_cpctplus.proofs.search.Search.reach.Goals as goal
 
 pub feeding-init : goal.feeding-init
@@ -17,12 +17,12 @@ feeding-init g c =
     let old = c.args.stacks.now in
     let mid = c.go_to.new.self in
     record {
-      stack = gone_stack at.checked.table old mid c.args.at.stack c.go_to.ensures.stacks c.go_to.ensures.current c.requires.held.stack;
+      stack = gone_stack at.checked.table old mid c.args.at.stack c.go_to.ensures.current c.requires.held.stack;
       extends = extends_same old mid mid c.go_to.ensures.stacks (extends_none mid);
       last = omega arith;
       left = λ far h.
           subst (λ (st : List ℕ). ReachesFrom token at (configured st c.args.at.place) far)
-          (gone_to old mid c.args.at.stack c.go_to.ensures.stacks c.go_to.ensures.current) h;
+          c.go_to.ensures.current h;
     }
 
 pub shift-requires-clause-tokens : goal.shift-requires-clause-tokens

@@ -15,7 +15,7 @@ try_step-requires-clause-tokens g c = rw (c.engine-engine.ensures.checked, c.eng
 pub try_step-requires-clause-stack : goal.try_step-requires-clause-stack
 try_step-requires-clause-stack g c =
     rw c.engine-engine.ensures.checked
-    (gone_stack c.args.self.now.point.now.checked.table c.args.stacks.now c.go_to.new.self c.args.at.stack c.go_to.ensures.stacks c.go_to.ensures.current c.requires.held.stack)
+    (gone_stack c.args.self.now.point.now.checked.table c.args.stacks.now c.go_to.new.self c.args.at.stack c.go_to.ensures.current c.requires.held.stack)
 
 pub returns-in-Some : goal.returns-in-Some
 returns-in-Some g c =
@@ -39,7 +39,7 @@ returns-in-Some g c =
         };
         leads = subst (λ (n : ℕ). IsEdge token at (configured (stack_at old.stacks key.stack) key.place) step (configured (stack_at new.stacks n) c.in-Some.place))
             (sym number)
-            (leads_some token at old mid new key.stack key.place step c.in_ok-place.field-0 c.go_to.ensures.stacks c.go_to.ensures.current taken c.in-Some.place c.in-Some.is);
+            (leads_some token at old mid new key.stack key.place step c.in_ok-place.field-0 c.go_to.ensures.current taken c.in-Some.place c.in-Some.is);
       };
       extends = extends_same old mid new c.go_to.ensures.stacks (moved_extends _ _ _ _ _ mid new c.in_ok-place.ensures.moved);
     }
@@ -55,7 +55,7 @@ returns-in-None g c =
       leads = record {
         held = tt;
         leads = leads_none (token_by g.StorageT.StorageIndex.index g.LexemeT.Lexeme.parts) at old mid new c.args.at.stack c.args.at.place
-            (plain_step g.StorageT.StorageIndex.index c.args.step) c.in_ok-place.field-0 c.go_to.ensures.stacks c.go_to.ensures.current
+            (plain_step g.StorageT.StorageIndex.index c.args.step) c.in_ok-place.field-0 c.go_to.ensures.current
             (rw (engine.checked, engine.lexemes) at c.in_ok-place.ensures.taken) c.in-None.is;
       };
       extends = extends_same old mid new c.go_to.ensures.stacks (moved_extends _ _ _ _ _ mid new c.in_ok-place.ensures.moved);
