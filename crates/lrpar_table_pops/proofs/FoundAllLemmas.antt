@@ -102,6 +102,30 @@ sets_find g P Q old new same_exits grows same_followed asks = record {
   more = λ graph s q room h placed. asked_set g graph s P new.exits old.reduced.items new.reduced.items grows room.reduced q (asks q h) placed;
 }
 
+-- the tokens of a rule are replaced by more of them
+pub tokens_grow : (sets : List (List Bool)) (i : ℕ) (new : List Bool) (P : ℕ → Type 0) → i < length sets → AddsAll P (tokens_by sets i) new
+    → SetsGrowBy (λ r t. (r ≡ i) × P t) sets (set sets i new)
+tokens_grow sets i new P low adds =
+    let now : tokens_by (set sets i new) i ≡ new = tokens_set sets i new low in
+    record {
+      room = λ r.
+          elim (cases_eq r i) as (λ _. length (tokens_by (set sets i new) r) ≡ length (tokens_by sets r)) [
+            | inl here ↦
+                subst (λ (k : ℕ). length (tokens_by (set sets i new) k) ≡ length (tokens_by sets k)) (sym here) (ap (λ (l : List Bool). length l) now ∙ adds.room)
+            | inr other ↦ ap (λ (l : List Bool). length l) (tokens_kept sets i r new other)
+          ];
+      kept = λ r t h.
+          elim (cases_eq r i) as (λ _. IsTrue (has (tokens_by (set sets i new) r) t)) [
+            | inl here ↦
+                let before : IsTrue (has (tokens_by sets i) t) = subst (λ (k : ℕ). IsTrue (has (tokens_by sets k) t)) here h in
+                subst (λ (l : List Bool). IsTrue (has l t)) (sym (ap (tokens_by (set sets i new)) here ∙ now)) (adds.kept t before)
+            | inr other ↦ subst (λ (l : List Bool). IsTrue (has l t)) (sym (tokens_kept sets i r new other)) h
+          ];
+      more = λ r t q less.
+          let long : length (tokens_by sets r) ≡ length (tokens_by sets i) = ap (λ (k : ℕ). length (tokens_by sets k)) q.0 in
+          subst (λ (l : List Bool). IsTrue (has l t)) (sym (ap (tokens_by (set sets i new)) q.0 ∙ now)) (adds.more t q.1 (omega (arith, long, less)));
+    }
+
 -- one set was given more tokens
 pub set_grows : (sets : List (List Bool)) (i : ℕ) (old new : List Bool) (P : ℕ → Type 0) → i < length sets → old ≡ get_or sets i old → AddsAll P old new
     → SetsGrowBy (λ r t. (r ≡ i) × P t) sets (set sets i new)

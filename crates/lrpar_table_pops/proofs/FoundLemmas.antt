@@ -1,16 +1,20 @@
 -- What is found of a state, as exits and reductions are added.
-use Rattle.std.proofs.Common.{◌≡◌, ◌≢◌, ◌+◌, ◌-◌, inl, inr, refl, subst, arith, ℕ, suc, Bool, List, Option, Some, slice_get, take}
+use Rattle.std.proofs.Common.{◌≡◌, ◌≢◌, ◌<◌, ◌+◌, ◌-◌, ◌∙◌, ◌⊎◌, ap, inl, inr, length, refl, subst, sym, arith, ℕ, suc, Bool, List, Option, Some, slice_get, take}
+use Rattle.std.proofs.Math.ListN.{set}
+use Rattle.std.proofs.lemmas.Bool.{cases_eq}
 use Rattle.std.specs.Prelude.{IsTrue}
 use Rattle.lrpar_grammar.specs.Grammar.{Grammar}
 use Rattle.lrpar_grammar.specs.Tokens.{has}
 use Rattle.lrpar_table_rows.specs.Table.{Table}
 use Rattle.lrpar_table_pops.specs.Exits.{AddsOnly, HasExit, LeavesIn}
-use Rattle.lrpar_table_pops.specs.Found.{IsFoundOf, LeadsFrom, PopsAt, StaysFound}
+use Rattle.lrpar_table_pops.specs.Found.{IsFoundOf, IsReducedAt, LeadsFrom, PopsAt, StaysFound}
 use Rattle.lrpar_table_pops.specs.Pops.{Control, Done, Dropping, Pops, drops, ends}
+use Rattle.lrpar_table_pops.specs.Sets.{tokens_by}
 use Rattle.lrpar_table_pops.specs.declared.exits.Exit.{Exit}
 use Rattle.lrpar_table_pops.specs.declared.exits.Way.TheVariants.{Acceptance, Reduction}
 use Rattle.lrpar_table_pops.specs.declared.found.Found.{Found}
 use Rattle.lrpar_table_pops.proofs.ExitLemmas.{exits_before, exits_here}
+use Rattle.lrpar_table_pops.proofs.SetLemmas.{tokens_kept, tokens_set}
 
 module _ (g : Grammar) (table : Table) (s : ℕ) (at : Option ℕ) where
   -- exits more
@@ -52,6 +56,22 @@ module _ (g : Grammar) (table : Table) (s : ℕ) (at : Option ℕ) where
   finished_stays old new reduced tokens adds leads found =
       exits_stay (LeavesIn Acceptance tokens) old new reduced adds
       (λ r leaves. subst (PopsAt g table s at) leaves.2 (leads Done (leaves.0, leaves.1, refl) Done (ends s))) found
+
+-- the tokens of a rule are replaced by those that were there, and others at which the rule is reduced
+pub tokens_stay : (g : Grammar) (table : Table) (s : ℕ) (at : Option ℕ) (exits : List Exit) (sets : List (List Bool)) (rule : ℕ) (bits : List Bool) (Q : ℕ → Type 0)
+    → rule < length sets → ((t : ℕ) → IsTrue (has bits t) → IsTrue (has (tokens_by sets rule) t) ⊎ Q t) → ((t : ℕ) → Q t → IsReducedAt g table s at rule t)
+    → IsFoundOf g table s at exits sets → IsFoundOf g table s at exits (set sets rule bits)
+tokens_stay g table s at exits sets rule bits Q low adds more found = record {
+  by_exits = found.by_exits;
+  by_reductions = λ r t is.
+      elim (cases_eq r rule) as (λ _. IsReducedAt g table s at r t) [
+        | inl here ↦
+            let now : IsTrue (has bits t) = subst (λ (l : List Bool). IsTrue (has l t)) (ap (tokens_by (set sets rule bits)) here ∙ tokens_set sets rule bits low) is in
+            let own = elim (adds t now) as (λ _. IsReducedAt g table s at rule t) [ inl was ↦ found.by_reductions rule t was | inr new ↦ more t new ] in
+            subst (λ (k : ℕ). IsReducedAt g table s at k t) (sym here) own
+        | inr other ↦ found.by_reductions r t (subst (λ (l : List Bool). IsTrue (has l t)) (tokens_kept sets rule r bits other) is)
+      ];
+}
 
 -- one step after another
 pub stays_more : (g : Grammar) (exits : List Exit) (place : ℕ) (exit : Exit) (first now next : Found) → slice_get exits place ≡ Some exit

@@ -3,6 +3,7 @@ pub mod StepLemmas
 pub mod EntryLemmas
 pub mod FoundLemmas
 pub mod SetLemmas
+pub mod RuleSetLemmas
 pub mod ExitLemmas
 pub mod FinishLemmas
 pub mod PopLemmas

@@ -1,8 +1,8 @@
 -- What follows for a state from the exits of others.
-use Rattle.std.proofs.Common.{◌≡◌, ◌≢◌, ◌-◌, ◌∙◌, refl, sym, ap, subst, arith, ℕ, suc, Bool, Global, List, Option, Some, None, Vec, inl, inr}
+use Rattle.std.proofs.Common.{◌≡◌, ◌≢◌, ◌-◌, ◌∙◌, refl, sym, ap, subst, arith, ℕ, suc, List, Option, Some, None, inl, inr}
 use Rattle.std.specs.Prelude.{IsTrue}
 use Rattle.lrpar_grammar.specs.Tokens.{has}
-use Rattle.lrpar_table_pops.specs.Sets.{HaveNoTokens, tokens_by}
+use Rattle.lrpar_table_pops.specs.Sets.{HaveNoTokens, RuleTokens, tokens_by}
 use Rattle.lrpar_table_pops.specs.declared.exits.Exit.{Exit}
 use Rattle.lrpar_table_pops.specs.declared.found.Found.{Found}
 use Rattle.lrpar_grammar.specs.Grammar.{Grammar, end_token, prod_len, rule_of}
@@ -81,7 +81,7 @@ pub follow_leads : (g : Grammar) (table : Table) (s : ℕ) (at : Option ℕ) (ol
     → IsFound g table s at old → IsFound g table s at new
 follow_leads g table s at old new same_exits same_reduced found = record {
   by_exits = λ r h. found.by_exits r (subst (λ (l : List Exit). HasExit l r) same_exits h);
-  by_reductions = λ r t h. found.by_reductions r t (subst (λ (v : Vec (List Bool) Global). IsTrue (has (tokens_by v.items r) t)) same_reduced h);
+  by_reductions = λ r t h. found.by_reductions r t (subst (λ (v : RuleTokens). IsTrue (has (tokens_by v.items r) t)) same_reduced h);
 }
 
 -- nothing is found yet

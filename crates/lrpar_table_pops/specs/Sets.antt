@@ -23,9 +23,9 @@ AddsOnlyToken old new token = (t : ℕ) → IsTrue (has new t) → IsTrue (has o
 pub record RuleTokens : Type 0 where
   pub items : List (List Bool)
 
--- each rule that has a token is listed, unless the list is short
-abbrev pub AreListed : List (List Bool) → List ℕ → Bool → Type 0
-AreListed sets rules short = (r t : ℕ) → IsTrue (has (tokens_by sets r) t) → Contains rules r ⊎ IsTrue short
+-- each rule that has a token is one of these, unless some are left out
+abbrev pub HaveTokensAlone : List (List Bool) → List ℕ → Bool → Type 0
+HaveTokensAlone sets rules short = (r t : ℕ) → IsTrue (has (tokens_by sets r) t) → Contains rules r ⊎ IsTrue short
 
 -- the tokens of the rule are replaced by others, with P
 abbrev pub ReplacesTokens : (List Bool → List Bool → Type 0) → ℕ → List (List Bool) → List (List Bool) → Type 0

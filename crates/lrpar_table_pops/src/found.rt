@@ -16,7 +16,7 @@ ghost use Rattle.lrpar_table_pops.specs.StoredAll.{HaveSets};
 
 use crate::automaton::Automaton;
 use crate::exits::{Exit, Exits, Way};
-use crate::sets::{clear_sets, empty_sets, insert, insert_new, unite};
+use crate::rule_sets::RuleSets;
 use lrpar_grammar::grammar::YaccGrammar;
 use lrpar_grammar::span::{PIdx, StIdx, StorageIndex};
 use lrpar_grammar::token_set::TokenSet;
@@ -27,8 +27,8 @@ use std::alloc::{AllocError, Global};
 #[derive(Drop)]
 pub(crate) struct Found {
     exits: Exits,
-    reduced: Vec<TokenSet>,
-    followed: Vec<TokenSet>,
+    reduced: RuleSets,
+    followed: RuleSets,
 }
 
 impl Found {
@@ -43,8 +43,8 @@ impl Found {
         ensures { IfOk result (HaveSets grm.now) }
     {
         let exits = Exits::none(alloc);
-        let reduced = empty_sets(alloc, grm)?;
-        let followed = empty_sets(alloc, grm)?;
+        let reduced = RuleSets::new(alloc, grm)?;
+        let followed = RuleSets::new(alloc, grm)?;
         Ok(Found {
             exits,
             reduced,
@@ -83,8 +83,8 @@ impl Found {
         ensures room { KeepsSetRoom self.old self.new }
     {
         self.exits.clear();
-        clear_sets(&mut self.reduced);
-        clear_sets(&mut self.followed);
+        self.reduced.clear();
+        self.followed.clear();
     }
 
     /// At the token a run reduces by the production, and drops this number of states first, beginning with this one.
@@ -121,7 +121,7 @@ impl Found {
         if let Some(rule) = rule_number(grm, prod)
             && rule < self.reduced.len()
         {
-            insert(&mut self.reduced[rule], token);
+            self.reduced.insert(rule, token);
         }
     }
 
@@ -197,7 +197,7 @@ impl Found {
         if let Some(rule) = rule_number(grm, prod)
             && rule < self.reduced.len()
         {
-            unite(&mut self.reduced[rule], tokens);
+            self.reduced.unite(rule, tokens);
         }
     }
 
@@ -205,9 +205,10 @@ impl Found {
     pub(crate) fn is_rule_due(&self, rule: usize) -> bool
         ensures { OnFalse result ((t : ℕ) → IsDone self.now rule t) }
     {
-        match (self.reduced.get(rule), self.followed.get(rule)) {
-            (Some(reduced), Some(followed)) => !followed.covers(reduced),
-            (Some(_), None) | (None, Some(_)) | (None, None) => false,
+        if rule < self.reduced.len() && rule < self.followed.len() {
+            !self.followed.get(rule).covers(self.reduced.get(rule))
+        } else {
+            false
         }
     }
 
@@ -225,17 +226,14 @@ impl Found {
         if !self.has_reduced(rule, token) || rule >= self.followed.len() {
             return false;
         }
-        insert_new(&mut self.followed[rule], token)
+        self.followed.insert_new(rule, token)
     }
 
     // Whether a reduction to the rule at the token is found.
     fn has_reduced(&self, rule: usize, token: usize) -> bool
         ensures { result ≡ has (tokens_by self.now.reduced.items rule) token }
     {
-        match self.reduced.get(rule) {
-            Some(tokens) => tokens.contains(token),
-            None => false,
-        }
+        rule < self.reduced.len() && self.reduced.get(rule).contains(token)
     }
 }
 

@@ -13,6 +13,7 @@ pub mod laws;
 mod likely;
 mod part;
 mod pops;
+mod rule_sets;
 mod saturate;
 mod searched;
 mod sets;

@@ -1,10 +1,11 @@
 //! Sets of tokens by rules, which are emptied in the time that those take that have tokens.
-ghost use Rattle.std.specs.Prelude.{◌≡◌, ◌<◌, ◌⊎◌, IfOk, IsNone, IsSome, IsTrue, length};
+ghost use Rattle.std.specs.Prelude.{◌≡◌, ◌≢◌, ◌<◌, ◌⊎◌, ℕ, false, IfOk, IsTrue, length};
 ghost use Rattle.std.specs.Bool.{OnFalse};
+ghost use Rattle.std.specs.List.{Contains};
 ghost use Rattle.lrpar_grammar.specs.Tokens.{has};
 ghost use Rattle.lrpar_table_pops.specs.Growth.{AddsAll, HaveRoomFor, KeepRoom};
 ghost use Rattle.lrpar_table_pops.specs.Room.{GainsToken};
-ghost use Rattle.lrpar_table_pops.specs.Sets.{AddsOnlyToken, AddsOnlyTokens, HaveNoTokens, ReplacesTokens, tokens_by};
+ghost use Rattle.lrpar_table_pops.specs.Sets.{AddsOnlyToken, AddsOnlyTokens, HaveNoTokens, HaveTokensAlone, ReplacesTokens, tokens_by};
 
 use crate::sets::{clear_sets, empty_sets, insert, insert_new, unite};
 use lrpar_grammar::grammar::YaccGrammar;
@@ -35,13 +36,13 @@ impl Drop for RuleSets {
 }
 
 impl Model for RuleSets {
-    ghost use Rattle.lrpar_table_pops.specs.Sets.{AreListed, RuleTokens};
+    ghost use Rattle.lrpar_table_pops.specs.Sets.{HaveTokensAlone, RuleTokens};
 
     ghost Value = { RuleTokens };
 
     ghost view = { λ sets. record { items = sets.sets.items } };
 
-    ghost invariant = { λ sets. AreListed sets.sets.items sets.rules.items sets.is_short };
+    ghost invariant = { λ sets. HaveTokensAlone sets.sets.items sets.rules.items sets.is_short };
 }
 
 impl RuleSets {
@@ -81,7 +82,7 @@ impl RuleSets {
         requires { rule < length self.old.items }
         ensures adds { ReplacesTokens (λ old new. AddsOnlyToken old new token × AddsAll (λ t. t ≡ token) old new) rule self.old.items self.new.items }
     {
-        self.list(rule);
+        note_rule(&self.sets[rule], &mut self.rules, &mut self.is_short, rule);
         insert(&mut self.sets[rule], token);
     }
 
@@ -91,7 +92,7 @@ impl RuleSets {
         ensures adds { ReplacesTokens (λ old new. AddsOnlyToken old new token × AddsAll (λ t. t ≡ token) old new × GainsToken old new result) rule self.old.items self.new.items }
         ensures same { OnFalse result (self.new ≡ self.old) }
     {
-        self.list(rule);
+        note_rule(&self.sets[rule], &mut self.rules, &mut self.is_short, rule);
         insert_new(&mut self.sets[rule], token)
     }
 
@@ -100,19 +101,8 @@ impl RuleSets {
         requires { rule < length self.old.items }
         ensures adds { ReplacesTokens (λ old new. AddsOnlyTokens old new tokens.now × AddsAll (λ t. IsTrue (has tokens.now t)) old new) rule self.old.items self.new.items }
     {
-        self.list(rule);
+        note_rule(&self.sets[rule], &mut self.rules, &mut self.is_short, rule);
         unite(&mut self.sets[rule], tokens);
-    }
-
-    // Lists the rule, if it has no tokens yet.
-    fn list(&mut self, rule: usize)
-        requires { rule < length self.old.items }
-        ensures stays { self.new ≡ self.old }
-        ensures listed { IsRuleListed rule self.new }
-    {
-        if !self.sets[rule].has_any() && self.rules.push(rule).is_err() {
-            self.is_short = true;
-        }
     }
 
     /// Removes all tokens.
@@ -127,5 +117,40 @@ impl RuleSets {
         }
         self.rules.clear();
         self.is_short = false;
+    }
+}
+
+// Adds the rule with these tokens to the rules, if it has none yet; without memory for it, some are left out from then on.
+fn note_rule(tokens: &TokenSet, rules: &mut Vec<usize>, is_short: &mut bool, rule: usize)
+    ensures kept { (r : ℕ) → Contains rules.old.items r ⊎ IsTrue is_short.old → Contains rules.new.items r ⊎ IsTrue is_short.new }
+    ensures noted { ((t : ℕ) → IsTrue (has tokens.now t) → Contains rules.old.items rule ⊎ IsTrue is_short.old) → Contains rules.new.items rule ⊎ IsTrue is_short.new }
+{
+    if tokens.has_any() {
+        return;
+    }
+    if rules.push(rule).is_err() {
+        *is_short = true;
+    }
+}
+
+// Removes the tokens of these rules, which have all that there are.
+fn clear_sets_of(sets: &mut Vec<TokenSet>, rules: &[usize])
+    requires { HaveTokensAlone sets.old.items rules.now false }
+    ensures none { HaveNoTokens sets.new.items }
+    ensures room { KeepRoom sets.old.items sets.new.items }
+{
+    for place in 0..rules.len() {
+        clear_set(sets, rules[place]);
+    }
+}
+
+// Removes the tokens of the rule.
+fn clear_set(sets: &mut Vec<TokenSet>, rule: usize)
+    ensures none { (t : ℕ) → ¬ (IsTrue (has (tokens_by sets.new.items rule) t)) }
+    ensures others { (r : ℕ) → r ≢ rule → tokens_by sets.new.items r ≡ tokens_by sets.old.items r }
+    ensures room { KeepRoom sets.old.items sets.new.items }
+{
+    if rule < sets.len() {
+        sets[rule].clear();
     }
 }

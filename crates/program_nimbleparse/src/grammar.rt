@@ -273,7 +273,15 @@ fn notes_of(
     }
     if !has_expected(declared, counts) {
         let precedences = &declared.precedences;
-        push_conflicts(&mut notes, alloc, reporter, grm, precedences, stable, max_states)?;
+        push_conflicts(
+            &mut notes,
+            alloc,
+            reporter,
+            grm,
+            precedences,
+            stable,
+            max_states,
+        )?;
     }
     Ok(notes)
 }

@@ -1,8 +1,8 @@
 //! What the words after the program's name ask for.
 use crate::command::{
     FORMAT, FORMATS, GRAMMAR, INPUT, INPUT_OPTIONS, KIND, KINDS, LEXER, LIMIT, MAX_STATES,
-    MINIMISER, MINIMISERS, PossibleValues, QUIET, REPAIRS, SEARCHES, SHIFTS, STATES, Search, VERBOSE,
-    command_line, meaning_of,
+    MINIMISER, MINIMISERS, PossibleValues, QUIET, REPAIRS, SEARCHES, SHIFTS, STATES, Search,
+    VERBOSE, command_line, meaning_of,
 };
 use crate::grammar::Asked;
 use crate::plan::{Format, Recovery};

@@ -1,5 +1,4 @@
-use Rattle.std.proofs.Common.{ap, Global, List, Some, refl, subst, Vec, ℕ}
-use Rattle.lrpar_grammar.specs.declared.token_set.TokenSet.{TokenSet}
+use Rattle.std.proofs.Common.{ap, List, Some, refl, subst, ℕ}
 use Rattle.lrpar_table_rows.specs.PlainRows.{plain_action}
 use Rattle.lrpar_table_rows.specs.Table.{TableAction, action_of}
 use Rattle.std.proofs.lemmas.Bool.{OnFalse_at}
@@ -7,6 +6,7 @@ use Rattle.lrpar_table_pops.specs.Closed.{StartsIn}
 use Rattle.lrpar_table_pops.specs.FollowAll.{IsRightAction}
 use Rattle.lrpar_table_pops.specs.StoredAll.{StoresAll}
 use Rattle.lrpar_table_pops.specs.declared.exits.Exit.{Exit}
+use Rattle.lrpar_table_pops.specs.Sets.{RuleTokens}
 use Rattle.lrpar_table_pops.proofs.StepLemmas.{found_at, nothing_found, pops_at}
 use Rattle.lrpar_table_pops.proofs.SaturateLemmas.{add_saturates, cleared_room, right_actions, skip_saturates}
 use Rattle.lrpar_table_pops.proofs.pops.Pops.add_at.Goals as goal
@@ -54,7 +54,7 @@ returns-clause-all g c = λ sound low room places.
     (subst (λ (u : ℕ). StoresAll c.from.result (Some u) found.exits old new) c.from-2.ensures
     (subst (λ (l : List Exit). StoresAll c.from.result (Some c.from-2.result) l old new) c.exits.ensures c.unite_at.ensures.all)) in
     add_saturates d.grammar d.graph d.table sound s (Some t) c.unite_at.result old new (StartsIn d.grammar old t action) cleared started found low places empty
-    c.clear.ensures.followed finds (ap (λ (v : Vec TokenSet Global). v.items) c.start.ensures.followed) (c.follow.ensures.all d.graph rights) c.follow.ensures.done
+    c.clear.ensures.followed finds (ap (λ (v : RuleTokens). v.items) c.start.ensures.followed) (c.follow.ensures.all d.graph rights) c.follow.ensures.done
     (λ u q one start.
     subst (λ (a : TableAction). StartsIn d.grammar old t a q) c.requires.acts (subst (λ (v : ℕ). StartsIn d.grammar old v (action_of d.table s v) q) one start))
     stores c.unite_at.ensures.same

@@ -1,7 +1,7 @@
-use Rattle.std.proofs.Common.{ap, Global, List, None, subst, Vec, ℕ}
-use Rattle.lrpar_grammar.specs.declared.token_set.TokenSet.{TokenSet}
+use Rattle.std.proofs.Common.{ap, List, None, subst, ℕ}
 use Rattle.lrpar_table_pops.specs.StoredAll.{StartsFrom, StoresAll}
 use Rattle.lrpar_table_pops.specs.declared.exits.Exit.{Exit}
+use Rattle.lrpar_table_pops.specs.Sets.{RuleTokens}
 use Rattle.lrpar_table_pops.proofs.StepLemmas.{found_at_any, nothing_found, pops_at_any}
 use Rattle.lrpar_table_pops.proofs.SaturateLemmas.{add_saturates, cleared_room, right_actions}
 use Rattle.lrpar_table_pops.proofs.pops.Pops.add_at_any.Goals as goal
@@ -34,5 +34,5 @@ returns-clause-all g c = λ sound low room places.
     let stores = subst (λ (n : ℕ). StoresAll n None found.exits old new) c.from.ensures
     (subst (λ (l : List Exit). StoresAll c.from.result None l old new) c.exits.ensures c.unite_any.ensures.all) in
     add_saturates d.grammar d.graph d.table sound s None c.unite_any.result old new (StartsFrom d.grammar d.table old s) cleared started found low places empty
-    c.clear.ensures.followed (c.start_all.ensures.all rights) (ap (λ (v : Vec TokenSet Global). v.items) c.start_all.ensures.followed)
+    c.clear.ensures.followed (c.start_all.ensures.all rights) (ap (λ (v : RuleTokens). v.items) c.start_all.ensures.followed)
     (c.follow.ensures.all d.graph rights) c.follow.ensures.done (λ t q one start. (t, start)) stores c.unite_any.ensures.same

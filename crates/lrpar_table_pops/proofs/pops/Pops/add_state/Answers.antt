@@ -1,8 +1,8 @@
-use Rattle.std.proofs.Common.{◌∙◌, Global, None, Some, subst, sym, Vec, ℕ}
-use Rattle.lrpar_grammar.specs.declared.token_set.TokenSet.{TokenSet}
+use Rattle.std.proofs.Common.{◌∙◌, None, Some, subst, sym, ℕ}
 use Rattle.lrpar_table_pops.specs.FoundAll.{HasRoomFor}
 use Rattle.lrpar_table_pops.specs.Growth.{HaveRoomFor}
 use Rattle.lrpar_table_pops.specs.StoredAll.{IsClosedIf, IsClosedState}
+use Rattle.lrpar_table_pops.specs.Sets.{RuleTokens}
 use Rattle.lrpar_table_pops.proofs.SaturateLemmas.{saturates_then, state_closed}
 use Rattle.lrpar_table_pops.proofs.pops.Pops.add_state.Goals as goal
 
@@ -17,8 +17,8 @@ returns-else-at_tokens-clause-all g c = λ sound low sets places.
     let next = at_any.new.self in
     let room : HasRoomFor d.grammar d.graph s c.enter.new.self = record {
       exits = c.in_ok-enter.ensures.places;
-      reduced = subst (λ (v : Vec TokenSet Global). HaveRoomFor d.grammar v.items) (sym c.in_ok-enter.ensures.sets.0) sets.0;
-      followed = subst (λ (v : Vec TokenSet Global). HaveRoomFor d.grammar v.items) (sym c.in_ok-enter.ensures.sets.1) sets.1;
+      reduced = subst (λ (v : RuleTokens). HaveRoomFor d.grammar v.items) (sym c.in_ok-enter.ensures.sets.0) sets.0;
+      followed = subst (λ (v : RuleTokens). HaveRoomFor d.grammar v.items) (sym c.in_ok-enter.ensures.sets.1) sets.1;
     } in
     let tokens = at_tokens.ensures.all sound low room places in
     let any = at_any.ensures.all sound low tokens.1 tokens.0.ways in (

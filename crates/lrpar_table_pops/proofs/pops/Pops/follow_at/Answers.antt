@@ -1,11 +1,11 @@
-use Rattle.std.proofs.Common.{ap, Global, subst, sym, Vec, ℕ}
+use Rattle.std.proofs.Common.{ap, subst, sym, ℕ}
 use Rattle.std.proofs.lemmas.Bool.{OnFalse_at}
 use Rattle.std.specs.Prelude.{IsTrue}
 use Rattle.std.proofs.lemmas.Bool.{OnTrue_at}
 use Rattle.lrpar_grammar.specs.Tokens.{has}
 use Rattle.lrpar_table_pops.specs.Sets.{tokens_by}
+use Rattle.lrpar_table_pops.specs.Sets.{RuleTokens}
 use Rattle.lrpar_table_pops.proofs.StepLemmas.{follow_leads, goto_leads}
-use Rattle.lrpar_grammar.specs.declared.token_set.TokenSet.{TokenSet}
 use Rattle.lrpar_table_rows.specs.Table.{TableAction}
 use Rattle.lrpar_table_pops.specs.Closed.{FollowsIn}
 use Rattle.lrpar_table_pops.specs.FollowAll.{IsRightAction}
@@ -43,7 +43,7 @@ returns-clause-all g c = λ graph table s action goto right.
     let new = c.follow_action.new.found in
     let right_here : IsRightAction gr t _ = subst (IsRightAction gr t) action (right next t) in
     followed_keeps gr graph table c.args.self.now s c.args.rule next t old now new right goto c.is_due.ensures.kept.0
-    (ap (λ (v : Vec TokenSet Global). v.items) c.is_due.ensures.kept.1) c.is_due.ensures.grows.room
+    (ap (λ (v : RuleTokens). v.items) c.is_due.ensures.kept.1) c.is_due.ensures.grows.room
     (subst (λ (u : ℕ). FollowsOnly c.args.rule u old now) c.from.ensures c.is_due.ensures.only)
-    (ap (λ (v : Vec TokenSet Global). v.items) c.follow_action.ensures.followed)
+    (ap (λ (v : RuleTokens). v.items) c.follow_action.ensures.followed)
     (subst (λ (a : TableAction). FindsAll gr (FollowsIn gr c.args.self.now next t a) now new) (sym action) (c.follow_action.ensures.all right_here))
