@@ -28,7 +28,7 @@ returns-in_ok-link g c =
       firsts = c.in_ok-link.ensures.firsts;
       grown = step_linked token c.args.self.now.terms.now.costs at c.args.first (length graph.firsts.items - 1) old new extends keys growing.held
           (plain_links index graph.links.items) growing.known c.args.from c.at.result (plain_step index c.args.step) c.at.ensures c.requires.due c.in-Some.reached
-          (rw c.in-Some.is at c.in_ok-reached.ensures.leads.leads) c.number-lemma.ensures.apart held stay linked.to c.link.new.self.configurations.keys
+          (rw c.in-Some.is at c.in_ok-reached.ensures.leads.leads) c.len-lemma.ensures.apart held stay linked.to c.link.new.self.configurations.keys
           (plain_links index c.link.new.self.links.items) linked.numbered linked.kept;
     }
 

@@ -20,14 +20,14 @@ run_rounds-requires-clause-round g c =
     let token = token_by index g.LexemeT.Lexeme.parts in
     let costs = c.args.self.now.terms.now.costs in
     let at = c.args.self.now.point.now in
-    let stacks = c.in_ok-stacks.stacks in
+    let stacks = c.number.new.self in
     let graph = c.in_ok-graph.graph in
     let is = c.in_ok-graph.ensures in
-    let root : Configuration = record { stack = c.number-stack.result; place = c.place-place.result } in
-    let there : stack_at stacks.stacks root.stack ≡ at.stack =
-    ap (λ (n : ℕ). stack_at stacks.stacks n) c.number-stack.ensures.number ∙ c.in_ok-stacks.ensures ∙ c.stack.ensures.stack in
+    let numbered = c.in_ok-stack.ensures.number in
+    let root : Configuration = record { stack = c.in_ok-stack.stack; place = c.place-place.result } in
+    let there : stack_at stacks.stacks root.stack ≡ at.stack = numbered.means ∙ c.in_ok-stacks.ensures ∙ c.stack.ensures.stack in
     let held : IsHeld at.checked.table (length at.lexemes) stacks.stacks root = record {
-      within = c.number-stack.ensures.within;
+      within = numbered.within;
       stack = subst (IsStack at.checked.table) (sym there) c.stack.ensures.stop.stack;
       place = omega (arith, c.place-place.ensures.place, c.place-place.ensures.stop.within);
     } in
