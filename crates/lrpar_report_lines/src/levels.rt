@@ -1,4 +1,6 @@
 //! The levels of reports, and how reports look.
+ghost use Rattle.std.specs.Prelude.{◌≡◌};
+
 use std::alloc::AllocError;
 
 /// What a report is.
@@ -13,8 +15,12 @@ pub enum Level {
 }
 
 impl Level {
-    /// The word before the message.
-    pub fn word(self) -> &'static str {
+    ghost use Rattle.lrpar_report_lines.specs.Levels.{level_word};
+
+    /// The word before the message: `error`, `warning` or `note`.
+    pub fn word(self) -> &'static str
+        ensures { result.now ≡ level_word self }
+    {
         match self {
             Level::Error => "error",
             Level::Warning => "warning",
