@@ -37,25 +37,25 @@ byte_members part = number_member (codes "start") part.start ++ number_member (c
 abbrev pub place_members : List ℕ → ℕ → List ℕ → List ℕ → List Token
 place_members text byte line column = number_member line (line_of text byte) ++ number_member column (column_of text byte)
 
--- a part of the text, with its lines and columns, and what is said of it, or what it becomes
+-- the members of a part of the text: its ends, with their lines and columns, and what is said of it, or what it becomes
 abbrev pub part_members : List ℕ → Extent → List ℕ → List Token
 part_members text part said =
     byte_members part ++ place_members text part.start (codes "line") (codes "column")
     ++ place_members text part.end (codes "end_line") (codes "end_column") ++ text_member (codes "text") said
 
--- the same as an object, at the place to which the part is moved
+-- a part of the text as an object, at the place to which it is moved
 abbrev pub part_object : List ℕ → Extent → List ℕ → List Token
 part_object text span said = begin_object ∷ (part_members text (moved_part text span) said ++ end_object ∷ [])
 
--- a label
+-- a label as an object
 abbrev pub label_object : List ℕ → Label → List Token
 label_object text label = part_object text label.span (string_bytes label.text)
 
--- an edit
+-- an edit as an object
 abbrev pub edit_object : List ℕ → Edit → List Token
 edit_object text edit = part_object text edit.span (string_bytes edit.text)
 
--- a fix
+-- a fix as an object
 abbrev pub fix_object : List ℕ → Fix → List Token
 fix_object text fix =
     begin_object ∷ (text_member (codes "message") (string_bytes fix.message)
@@ -74,7 +74,7 @@ list_members text report =
     ++ list_member (codes "notes") (map (λ note. string (string_bytes note)) report.notes.items)
     ++ list_member (codes "fixes") (flat_map (fix_object text) report.fixes.items)
 
--- a report
+-- a report as an object
 abbrev pub report_object : Source → Report → List Token
 report_object source report = begin_object ∷ (title_members source report ++ list_members source.text report ++ end_object ∷ [])
 

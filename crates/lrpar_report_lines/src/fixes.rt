@@ -43,7 +43,7 @@ fn push_edits(
     lines: &Lines<'_>,
     fix: &Fix,
 ) -> Result<(), AllocError> {
-    if !fix.fits(lines.text()) || has_line_feed(&fix.edits) {
+    if !fix.fits(lines.text()) || has_line_break(&fix.edits) {
         return Ok(());
     }
     match changes_of(alloc, lines, &fix.edits)? {
@@ -53,7 +53,7 @@ fn push_edits(
 }
 
 // Whether the new text of an edit has a line feed.
-fn has_line_feed(edits: &[Edit]) -> bool {
+fn has_line_break(edits: &[Edit]) -> bool {
     for edit in edits {
         if edit.text.as_bytes().contains(&b'\n') {
             return true;
