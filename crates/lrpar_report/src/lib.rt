@@ -27,7 +27,7 @@ pub use grammar::grammar_report;
 pub use lexer::rules_report;
 pub use lrlex::lrlex_report;
 pub use lrpar_report_lines::{
-    Label, Level, Look, PlacedFault, Report, Reporter, next_boundary, part_of,
+    Edit, Fix, Label, Level, Look, PlacedFault, Report, Reporter, next_boundary, part_of,
 };
 pub use near::nearest;
 pub use placed::{placed_error, placed_grammar_fault, placed_rules_fault};

@@ -27,6 +27,10 @@ HasNoLabels report = report.labels.items ≡ []
 abbrev pub HasNoNotes : Report → Type 0
 HasNoNotes report = report.notes.items ≡ []
 
+-- the report has no fixes
+abbrev pub HasNoFixes : Report → Type 0
+HasNoFixes report = report.fixes.items ≡ []
+
 -- the report has one label, at this place
 abbrev pub HasOneLabel : Extent → Report → Type 0
 HasOneLabel span report = label_spans report ≡ span ∷ []

@@ -1,2 +1,4 @@
 pub mod Places
+pub mod Edits
 pub mod Labels
+pub mod Levels

@@ -1,7 +1,7 @@
 -- Where a byte or a part of a text lies, if its ends may be inside a character, or after the text's end.
 use Rattle.std.specs.Prelude.{◌≡◌, ℕ, ◌<◌, ◌≤◌, ◌∷◌, List, [], length}
 use Rattle.std.specs.Str.{IsCharBoundary}
-use Rattle.lrpar_grammar_places.specs.Span.{Extent, nowhere}
+use Rattle.lrpar_grammar_places.specs.Span.{Extent, IsPartOf, nowhere}
 
 -- the boundary of characters to which a byte is moved: the next one from the byte on, and the text's end if the byte is after it
 pub record IsNextBoundary (text : List ℕ) (byte : ℕ) (next : ℕ) : Type 0 where
@@ -14,6 +14,12 @@ pub record IsNextBoundary (text : List ℕ) (byte : ℕ) (next : ℕ) : Type 0 w
 pub record IsMovedPart (text : List ℕ) (span : Extent) (place : Extent) : Type 0 where
   pub start : IsNextBoundary text span.start place.start
   pub end : IsNextBoundary text span.end place.end
+
+-- the part starts no earlier than this byte, and no later than it ends, and is cut out of the text between characters
+pub record IsPartFrom (text : List ℕ) (byte : ℕ) (part : Extent) : Type 0 where
+  pub after : byte ≤ part.start
+  pub ordered : part.start ≤ part.end
+  pub within : IsPartOf text part
 
 -- the first of some parts, moved; without any, the empty part at the start of the text
 abbrev pub IsFirstPlace : List ℕ → List Extent → Extent → Type 0

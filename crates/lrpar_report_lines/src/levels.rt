@@ -1,4 +1,6 @@
 //! The levels of reports, and how reports look.
+ghost use Rattle.std.specs.Prelude.{◌≡◌};
+
 use std::alloc::AllocError;
 
 /// What a report is.
@@ -13,8 +15,12 @@ pub enum Level {
 }
 
 impl Level {
-    /// The word before the message.
-    pub fn word(self) -> &'static str {
+    ghost use Rattle.lrpar_report_lines.specs.Levels.{level_word};
+
+    /// The word before the message: `error`, `warning` or `note`.
+    pub fn word(self) -> &'static str
+        ensures { result.now ≡ level_word self }
+    {
         match self {
             Level::Error => "error",
             Level::Warning => "warning",
@@ -41,13 +47,26 @@ pub enum Look {
     Coloured,
 }
 
+// The escape sequence that sets the colour of the word `help` on a terminal.
+const HELP_COLOUR: &str = "\u{1b}[1;32m";
+
 /// Adds the word of a level, in its colour if there are colours.
 pub(crate) fn push_word(out: &mut String, look: Look, level: Level) -> Result<(), AllocError> {
+    push_coloured(out, look, level.colour(), level.word())
+}
+
+/// Adds the word `help`, in its colour if there are colours.
+pub(crate) fn push_help(out: &mut String, look: Look) -> Result<(), AllocError> {
+    push_coloured(out, look, HELP_COLOUR, "help")
+}
+
+// Adds a word, in this colour if there are colours.
+fn push_coloured(out: &mut String, look: Look, colour: &str, word: &str) -> Result<(), AllocError> {
     match look {
-        Look::Plain => out.push_str(level.word()),
+        Look::Plain => out.push_str(word),
         Look::Coloured => {
-            out.push_str(level.colour())?;
-            out.push_str(level.word())?;
+            out.push_str(colour)?;
+            out.push_str(word)?;
             out.push_str("\u{1b}[0m")
         }
     }

@@ -1,7 +1,10 @@
-//! Reports for people, and how they look: a message, the lines of a text that its labels touch, and notes.
+//! Reports for people, and how they look: a message, the lines of a text that its labels touch, notes, and fixes.
 #![tactic(auto)]
 
 mod captions;
+mod changes;
+mod edits;
+mod fixes;
 mod levels;
 mod marks;
 mod placed;
@@ -10,6 +13,7 @@ mod reporting;
 mod reports;
 mod touched;
 
+pub use edits::{Edit, Fix};
 pub use levels::{Level, Look};
 pub use placed::PlacedFault;
 pub use places::{next_boundary, part_of};

@@ -1,5 +1,6 @@
 //! How reports are shown.
 use crate::captions::push_captions;
+use crate::fixes::push_fixes;
 use crate::levels::{Level, Look, push_word};
 use crate::marks::{marks_of, push_marks};
 use crate::places::next_boundary;
@@ -28,7 +29,7 @@ impl<'a> Reporter<'a> {
         Ok(Reporter { path, look, lines })
     }
 
-    /// Adds the report: its title, the lines that its labels touch, and its notes.
+    /// Adds the report: its title, the lines that its labels touch, its notes, and its fixes.
     ///
     /// The title is `PATH:LINE:COLUMN: error: MESSAGE`, with the place at which the first label starts; `PATH: error: MESSAGE` if there
     /// are no labels. Lines and columns count from 1, columns in characters.
@@ -54,13 +55,31 @@ impl<'a> Reporter<'a> {
     /// written without the blanks at its end, so one of blanks alone counts as empty. Texts should have no line feeds: they are written
     /// as they are.
     ///
-    /// Then comes a line `note: NOTE` for each note. With [`Look::Coloured`] the words `error`, `warning` and `note` have colours.
+    /// Then comes a line `note: NOTE` for each note.
+    ///
+    /// Then comes a line `help: MESSAGE` for the first fix, and each line of the text that one of its edits touches, once, as it would be
+    /// after them, with the marks below it: `+` where text is new and nothing goes, `~` where new text is in place of text that goes, and
+    /// `-` where text goes and nothing comes, which is still shown. There is at least one mark for each edit. Parts that go with only
+    /// blanks between them are marked as one. Of an edit over several lines the new text is on the first one. `...` is between two lines
+    /// that don't follow one another:
+    ///
+    /// ```text
+    /// help: insert ';'
+    /// 2|   int x = 3;
+    ///               +
+    /// help: or delete 'int'
+    /// ```
+    ///
+    /// Lines aren't shown if there are more than four, if the text can't be edited so ([`crate::Fix::apply`] gives `None`), or if a new
+    /// text has a line feed. For the second and the third fix there is only a line `help: or MESSAGE`, and more aren't shown.
+    ///
+    /// With [`Look::Coloured`] the words `error`, `warning`, `note` and `help` have colours.
     ///
     /// An end of a label that is inside a character is moved to the next character, and one after the text's end to that end
     /// ([`crate::part_of`]).
     ///
-    /// Takes time linear in what it writes and in the lines that it shows, and for n labels O(n log n) more, and memory for the underlines
-    /// of one line. `Err`: out of memory; then a part of the report may have been added.
+    /// Takes time linear in what it writes, in the lines that it shows and in the edits of the first fix, and for n labels O(n log n) more,
+    /// and memory for the underlines of one line and what those edits change. `Err`: out of memory; then a part of the report may have been added.
     pub fn push(&self, out: &mut String, alloc: Global, report: &Report) -> Result<(), AllocError> {
         self.push_title(out, report)?;
         if !report.labels.is_empty() {
@@ -70,7 +89,7 @@ impl<'a> Reporter<'a> {
         for note in &report.notes {
             self.push_note(out, note.as_str())?;
         }
-        Ok(())
+        push_fixes(out, alloc, self.look, &self.lines, &report.fixes)
     }
 
     // Adds the first line of a report.

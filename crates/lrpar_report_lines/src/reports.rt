@@ -1,6 +1,7 @@
 //! A report: what is wrong with a text, and at which places.
 ghost use Rattle.std.specs.Prelude.{◌≡◌, ◌∷◌, ◌++◌, [], IfOk};
 
+use crate::edits::Fix;
 use crate::levels::Level;
 use lrpar_grammar_places::span::Span;
 use std::alloc::{AllocError, Global};
@@ -44,42 +45,48 @@ pub struct Report {
     pub labels: Vec<Label>,
     /// What else is good to know.
     pub notes: Vec<String>,
+    /// Ways to mend the text, with the best one first.
+    pub fixes: Vec<Fix>,
 }
 
 impl Report {
-    ghost use Rattle.lrpar_report_lines.specs.Labels.{HasMessage, HasNoLabels, HasNoNotes, label_spans, label_texts, note_texts};
+    ghost use Rattle.lrpar_report_lines.specs.Labels.{HasMessage, HasNoFixes, HasNoLabels, HasNoNotes, label_spans, label_texts, note_texts};
 
-    /// The report with this message, without labels and notes. `Err`: out of memory.
+    /// The report with this message, without labels, notes and fixes. `Err`: out of memory.
     pub fn new(alloc: Global, level: Level, message: &str) -> Result<Self, AllocError>
         ensures level { IfOk result (λ report. report.level ≡ level) }
         ensures message { IfOk result (HasMessage message.now) }
         ensures labels { IfOk result HasNoLabels }
         ensures notes { IfOk result HasNoNotes }
+        ensures fixes { IfOk result HasNoFixes }
     {
         Ok(Report {
             level,
             message: String::from_str(alloc, message)?,
             labels: Vec::new(alloc),
             notes: Vec::new(alloc),
+            fixes: Vec::new(alloc),
         })
     }
 
-    /// The report of an error, without labels and notes. `Err`: out of memory.
+    /// The report of an error, without labels, notes and fixes. `Err`: out of memory.
     pub fn error(alloc: Global, message: &str) -> Result<Self, AllocError>
         ensures level { IfOk result (λ report. report.level ≡ Level.Error) }
         ensures message { IfOk result (HasMessage message.now) }
         ensures labels { IfOk result HasNoLabels }
         ensures notes { IfOk result HasNoNotes }
+        ensures fixes { IfOk result HasNoFixes }
     {
         Report::new(alloc, Level::Error, message)
     }
 
-    /// The report of a warning, without labels and notes. `Err`: out of memory.
+    /// The report of a warning, without labels, notes and fixes. `Err`: out of memory.
     pub fn warning(alloc: Global, message: &str) -> Result<Self, AllocError>
         ensures level { IfOk result (λ report. report.level ≡ Level.Warning) }
         ensures message { IfOk result (HasMessage message.now) }
         ensures labels { IfOk result HasNoLabels }
         ensures notes { IfOk result HasNoNotes }
+        ensures fixes { IfOk result HasNoFixes }
     {
         Report::new(alloc, Level::Warning, message)
     }
@@ -91,6 +98,7 @@ impl Report {
         ensures spans { IfOk result (λ report. label_spans report ≡ label_spans self ++ span ∷ []) }
         ensures texts { IfOk result (λ report. label_texts report ≡ label_texts self ++ text.now ∷ []) }
         ensures notes { IfOk result (λ report. report.notes ≡ self.notes) }
+        ensures fixes { IfOk result (λ report. report.fixes ≡ self.fixes) }
     {
         let text = String::from_str(*self.labels.allocator(), text)?;
         self.labels.push(Label { span, text })?;
@@ -103,9 +111,22 @@ impl Report {
         ensures message { IfOk result (λ report. report.message ≡ self.message) }
         ensures labels { IfOk result (λ report. report.labels ≡ self.labels) }
         ensures notes { IfOk result (λ report. note_texts report ≡ note_texts self ++ text.now ∷ []) }
+        ensures fixes { IfOk result (λ report. report.fixes ≡ self.fixes) }
     {
         let text = String::from_str(*self.notes.allocator(), text)?;
         self.notes.push(text)?;
+        Ok(self)
+    }
+
+    /// The report with one more fix, after those that it has. `Err`: out of memory; the report is dropped.
+    pub fn fix(mut self, fix: Fix) -> Result<Self, AllocError>
+        ensures level { IfOk result (λ report. report.level ≡ self.level) }
+        ensures message { IfOk result (λ report. report.message ≡ self.message) }
+        ensures labels { IfOk result (λ report. report.labels ≡ self.labels) }
+        ensures notes { IfOk result (λ report. report.notes ≡ self.notes) }
+        ensures fixes { IfOk result (λ report. report.fixes.items ≡ self.fixes.items ++ fix ∷ []) }
+    {
+        self.fixes.push(fix)?;
         Ok(self)
     }
 }

@@ -1,5 +1,7 @@
 //! Cases of reports about a text.
-use lrpar_report_lines::{Level, Look, Report, Reporter};
+use lrpar_grammar_places::span::Span;
+use lrpar_report_json::JsonReporter;
+use lrpar_report_lines::{Fix, Level, Look, Report, Reporter};
 use std::alloc::{AllocError, Global};
 use test_case_lines::cases::Case;
 use test_case_lines::fault::Fault;
@@ -10,17 +12,25 @@ use test_case_lines::values::span_of;
 
 /// The keys of the lines that say what is done.
 pub const INPUTS: &[&str] = &[
-    "text", "path", "level", "message", "label", "note", "look", "show",
+    "text", "path", "level", "message", "label", "note", "fix", "edit", "look", "show",
 ];
 
 /// The report of the case, about its text.
 pub fn outcome(out: &mut Printed, alloc: Global, case: Case<'_, '_>) -> Result<(), Fault> {
     let text = case.text(alloc, "text")?;
     let report = report_of(alloc, case)?;
-    let shown = shown(alloc, case, text.as_str(), &report)?;
     match case.value_or_nothing("show") {
-        "" => out.field("report", shown.as_str()),
-        "escaped" => push_escaped(out, alloc, shown.as_str())?,
+        "" => out.field(
+            "report",
+            shown(alloc, case, text.as_str(), &report)?.as_str(),
+        ),
+        "escaped" => push_escaped(
+            out,
+            alloc,
+            shown(alloc, case, text.as_str(), &report)?.as_str(),
+        )?,
+        "json" => out.field("json", json(alloc, case, text.as_str(), &report)?.as_str()),
+        "applied" => push_applied(out, alloc, text.as_str(), &report)?,
         _ => return Err(Fault::Line(case.number, "what is shown isn't known")),
     }
     Ok(())
@@ -41,6 +51,36 @@ fn shown(
     let mut out = String::new(alloc);
     reporter.push(&mut out, alloc, report)?;
     Ok(out)
+}
+
+// The report as JSON.
+fn json(
+    alloc: Global,
+    case: Case<'_, '_>,
+    text: &str,
+    report: &Report,
+) -> Result<String, AllocError> {
+    let reporter = JsonReporter::new(alloc, text, case.value_or_nothing("path"))?;
+    let mut out = String::new(alloc);
+    reporter.push(&mut out, alloc, report)?;
+    Ok(out)
+}
+
+// The text after the edits of the first fix.
+fn push_applied(
+    out: &mut Printed,
+    alloc: Global,
+    text: &str,
+    report: &Report,
+) -> Result<(), AllocError> {
+    let Some(fix) = report.fixes.first() else {
+        return Ok(());
+    };
+    match fix.apply(alloc, text)? {
+        Some(after) => out.field("applied", after.as_str()),
+        None => out.line("applied ", &"none"),
+    }
+    Ok(())
 }
 
 // The report of a case.
@@ -64,23 +104,47 @@ fn level_of(case: Case<'_, '_>) -> Level {
 
 // The report with what the line adds to it.
 fn with_line(alloc: Global, report: Report, line: Line<'_>) -> Result<Report, Fault> {
-    match line.content {
-        Content::Field {
-            key: "label",
-            value,
-        } => {
-            let (place, text) = value.split_once(' ').unwrap_or((value, ""));
-            let Some(span) = span_of(place) else {
-                return Err(Fault::Line(line.number, "a span is wanted"));
-            };
-            let text = value_text(alloc, text, line.number)?;
+    let Content::Field { key, value } = line.content else {
+        return Ok(report);
+    };
+    match key {
+        "label" => {
+            let (span, text) = part_and_text(alloc, value, line.number)?;
             Ok(report.label(span, text.as_str())?)
         }
-        Content::Field { key: "note", value } => {
+        "note" => {
             let text = value_text(alloc, value, line.number)?;
             Ok(report.note(text.as_str())?)
         }
+        "fix" => {
+            let message = value_text(alloc, value, line.number)?;
+            Ok(report.fix(Fix::new(alloc, message.as_str())?)?)
+        }
+        "edit" => with_edit(alloc, report, value, line.number),
         _ => Ok(report),
+    }
+}
+
+// The report, with one more edit in its last fix.
+fn with_edit(
+    alloc: Global,
+    mut report: Report,
+    value: &str,
+    number: usize,
+) -> Result<Report, Fault> {
+    let (span, text) = part_and_text(alloc, value, number)?;
+    match report.fixes.pop() {
+        Some(fix) => Ok(report.fix(fix.edit(span, text.as_str())?)?),
+        None => Err(Fault::Line(number, "a fix is wanted above")),
+    }
+}
+
+// The span and the text of a value `START..END TEXT`.
+fn part_and_text(alloc: Global, value: &str, number: usize) -> Result<(Span, String), Fault> {
+    let (place, text) = value.split_once(' ').unwrap_or((value, ""));
+    match span_of(place) {
+        Some(span) => Ok((span, value_text(alloc, text, number)?)),
+        None => Err(Fault::Line(number, "a span is wanted")),
     }
 }
 

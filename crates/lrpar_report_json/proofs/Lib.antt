@@ -1,0 +1,2 @@
+pub mod MovedLemmas
+pub mod WriterLemmas

@@ -1,0 +1,9 @@
+-- What a writer of JSON has written.
+use Rattle.std.specs.Prelude.{◌≡◌, ◌++◌, List}
+use Rattle.json.specs.Token.{Token}
+use Rattle.json.specs.Written.{Written}
+
+-- these tokens are written, after those that are there
+pub record WritesAll (old new : Written) (ts : List Token) : Type 0 where
+  pub tokens : new.tokens ≡ old.tokens ++ ts
+  pub before : new.before ≡ old.before
