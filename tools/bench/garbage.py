@@ -90,7 +90,7 @@ def main():
     languages = [Language(given.tools, it, shared, f"{it}.y", f"{it}.lex") for it in ("ansic", "c99", "lua")] + given.languages
     bare = 0
     with tempfile.TemporaryDirectory() as folder:
-        parses = Parses(given.nimbleparse, ["--minimise", given.minimise], folder)
+        parses = Parses(given.nimbleparse, ["--minimise", given.minimise, "--max-states", "20000"], folder)
         for language in languages:
             empty = min(parses.parse(language, [])[1] for _ in range(3))
             found = [parses.parse(language, words) for words in texts(language, given.texts)]
