@@ -1,5 +1,5 @@
 -- Reports as JSON (RFC 8259): their tokens, in order.
-use Rattle.std.specs.Prelude.{ℕ, List, [], ◌∷◌, ◌++◌, codes, decimal, map, string_bytes}
+use Rattle.std.specs.Prelude.{ℕ, List, [], ◌∷◌, ◌++◌, codes, decimal, map, string_bytes, String}
 use Rattle.std.specs.List.{flat_map}
 use Rattle.json.specs.Print.{print}
 use Rattle.json.specs.Token.{Token, begin_object, end_object, begin_array, end_array, key, string, number}
@@ -55,11 +55,15 @@ label_object text label = part_object text label.span (string_bytes label.text)
 abbrev pub edit_object : List ℕ → Edit → List Token
 edit_object text edit = part_object text edit.span (string_bytes edit.text)
 
+-- the edits of a fix as a member
+abbrev pub edits_member : List ℕ → List Edit → List Token
+edits_member text edits = list_member (codes "edits") (flat_map (edit_object text) edits)
+
 -- a fix as an object
 abbrev pub fix_object : List ℕ → Fix → List Token
 fix_object text fix =
     begin_object ∷ (text_member (codes "message") (string_bytes fix.message)
-    ++ list_member (codes "edits") (flat_map (edit_object text) fix.edits.items) ++ end_object ∷ [])
+    ++ edits_member text fix.edits.items ++ end_object ∷ [])
 
 -- the path of the text, what the report is, and what is wrong
 abbrev pub title_members : Source → Report → List Token
@@ -67,12 +71,22 @@ title_members source report =
     text_member (codes "path") source.path ++ text_member (codes "severity") (level_word report.level)
     ++ text_member (codes "message") (string_bytes report.message)
 
+-- the labels of a report as a member
+abbrev pub labels_member : List ℕ → List Label → List Token
+labels_member text labels = list_member (codes "labels") (flat_map (label_object text) labels)
+
+-- the notes of a report as a member
+abbrev pub notes_member : {A : Type 0} → List (String A) → List Token
+notes_member notes = list_member (codes "notes") (map (λ note. string (string_bytes note)) notes)
+
+-- the fixes of a report as a member
+abbrev pub fixes_member : List ℕ → List Fix → List Token
+fixes_member text fixes = list_member (codes "fixes") (flat_map (fix_object text) fixes)
+
 -- the labels, the notes and the fixes of a report
 abbrev pub list_members : List ℕ → Report → List Token
 list_members text report =
-    list_member (codes "labels") (flat_map (label_object text) report.labels.items)
-    ++ list_member (codes "notes") (map (λ note. string (string_bytes note)) report.notes.items)
-    ++ list_member (codes "fixes") (flat_map (fix_object text) report.fixes.items)
+    labels_member text report.labels.items ++ notes_member report.notes.items ++ fixes_member text report.fixes.items
 
 -- a report as an object
 abbrev pub report_object : Source → Report → List Token

@@ -1,9 +1,6 @@
 //! The labels, notes and fixes of reports as JSON.
-ghost use Rattle.std.specs.Prelude.{OnOk, codes, map, string_bytes};
-ghost use Rattle.std.specs.List.{flat_map};
-ghost use Rattle.json.specs.Token.{string};
-ghost use Rattle.lrpar_report_json.specs.Tokens.{edit_object, fix_object, label_object, list_member};
-ghost use Rattle.lrpar_report_json.specs.Writers.{WritesAll};
+ghost use Rattle.lrpar_report_json.specs.Tokens.{edits_member, fix_object, fixes_member, labels_member, notes_member};
+ghost use Rattle.lrpar_report_json.specs.Writers.{Puts};
 
 use crate::members::write_text;
 use crate::parts::write_part;
@@ -18,7 +15,7 @@ pub(crate) fn write_labels(
     lines: &Lines<'_>,
     labels: &[Label],
 ) -> Result<(), AllocError>
-    ensures { OnOk result (WritesAll writer.old writer.new (list_member (codes "labels") (flat_map (label_object lines.now) labels.now))) }
+    ensures { Puts result writer.old writer.new (labels_member lines.now labels.now) }
 {
     writer.key("labels")?;
     writer.begin_array()?;
@@ -30,7 +27,7 @@ pub(crate) fn write_labels(
 
 /// Writes the notes of a report as a member.
 pub(crate) fn write_notes(writer: &mut Writer, notes: &[String]) -> Result<(), AllocError>
-    ensures { OnOk result (WritesAll writer.old writer.new (list_member (codes "notes") (map (λ note. string (string_bytes note)) notes.now))) }
+    ensures { Puts result writer.old writer.new (notes_member notes.now) }
 {
     writer.key("notes")?;
     writer.begin_array()?;
@@ -46,7 +43,7 @@ pub(crate) fn write_fixes(
     lines: &Lines<'_>,
     fixes: &[Fix],
 ) -> Result<(), AllocError>
-    ensures { OnOk result (WritesAll writer.old writer.new (list_member (codes "fixes") (flat_map (fix_object lines.now) fixes.now))) }
+    ensures { Puts result writer.old writer.new (fixes_member lines.now fixes.now) }
 {
     writer.key("fixes")?;
     writer.begin_array()?;
@@ -58,7 +55,7 @@ pub(crate) fn write_fixes(
 
 // Writes a fix.
 fn write_fix(writer: &mut Writer, lines: &Lines<'_>, fix: &Fix) -> Result<(), AllocError>
-    ensures { OnOk result (WritesAll writer.old writer.new (fix_object lines.now fix.now)) }
+    ensures { Puts result writer.old writer.new (fix_object lines.now fix.now) }
 {
     writer.begin_object()?;
     write_text(writer, "message", fix.message.as_str())?;
@@ -68,7 +65,7 @@ fn write_fix(writer: &mut Writer, lines: &Lines<'_>, fix: &Fix) -> Result<(), Al
 
 // Writes the edits of a fix as a member.
 fn write_edits(writer: &mut Writer, lines: &Lines<'_>, edits: &[Edit]) -> Result<(), AllocError>
-    ensures { OnOk result (WritesAll writer.old writer.new (list_member (codes "edits") (flat_map (edit_object lines.now) edits.now))) }
+    ensures { Puts result writer.old writer.new (edits_member lines.now edits.now) }
 {
     writer.key("edits")?;
     writer.begin_array()?;

@@ -1,14 +1,13 @@
 //! Members of JSON objects.
-ghost use Rattle.std.specs.Prelude.{OnOk};
 ghost use Rattle.lrpar_report_json.specs.Tokens.{number_member, text_member};
-ghost use Rattle.lrpar_report_json.specs.Writers.{WritesAll};
+ghost use Rattle.lrpar_report_json.specs.Writers.{Puts};
 
 use json::Writer;
 use std::alloc::AllocError;
 
 /// Writes a member whose value is a text.
 pub(crate) fn write_text(writer: &mut Writer, name: &str, text: &str) -> Result<(), AllocError>
-    ensures { OnOk result (WritesAll writer.old writer.new (text_member name.now text.now)) }
+    ensures { Puts result writer.old writer.new (text_member name.now text.now) }
 {
     writer.key(name)?;
     writer.string(text)
@@ -16,7 +15,7 @@ pub(crate) fn write_text(writer: &mut Writer, name: &str, text: &str) -> Result<
 
 /// Writes a member whose value is a number.
 pub(crate) fn write_number(writer: &mut Writer, name: &str, number: usize) -> Result<(), AllocError>
-    ensures { OnOk result (WritesAll writer.old writer.new (number_member name.now number)) }
+    ensures { Puts result writer.old writer.new (number_member name.now number) }
 {
     writer.key(name)?;
     writer.u64(number as u64)

@@ -1,9 +1,8 @@
 //! Parts of a text as JSON.
-ghost use Rattle.std.specs.Prelude.{OnOk};
 ghost use Rattle.std.specs.Str.{IsCharBoundary};
 ghost use Rattle.lrpar_grammar_places.specs.Span.{IsPartOf};
 ghost use Rattle.lrpar_report_json.specs.Tokens.{byte_members, part_members, part_object, place_members};
-ghost use Rattle.lrpar_report_json.specs.Writers.{WritesAll};
+ghost use Rattle.lrpar_report_json.specs.Writers.{Puts};
 
 use crate::members::{write_number, write_text};
 use json::Writer;
@@ -20,7 +19,7 @@ pub(crate) fn write_part(
     span: Span,
     said: &str,
 ) -> Result<(), AllocError>
-    ensures { OnOk result (WritesAll writer.old writer.new (part_object lines.now span said.now)) }
+    ensures { Puts result writer.old writer.new (part_object lines.now span said.now) }
 {
     let part = part_of(lines.text(), span);
     writer.begin_object()?;
@@ -36,7 +35,7 @@ fn write_members(
     said: &str,
 ) -> Result<(), AllocError>
     requires { IsPartOf lines.now part }
-    ensures { OnOk result (WritesAll writer.old writer.new (part_members lines.now part said.now)) }
+    ensures { Puts result writer.old writer.new (part_members lines.now part said.now) }
 {
     write_ends(writer, part)?;
     write_place(writer, lines, part.start(), "line", "column")?;
@@ -46,7 +45,7 @@ fn write_members(
 
 // Writes where a part starts and ends, in bytes.
 fn write_ends(writer: &mut Writer, part: Span) -> Result<(), AllocError>
-    ensures { OnOk result (WritesAll writer.old writer.new (byte_members part)) }
+    ensures { Puts result writer.old writer.new (byte_members part) }
 {
     write_number(writer, "start", part.start())?;
     write_number(writer, "end", part.end())
@@ -61,7 +60,7 @@ fn write_place(
     column_name: &str,
 ) -> Result<(), AllocError>
     requires { IsCharBoundary lines.now byte }
-    ensures { OnOk result (WritesAll writer.old writer.new (place_members lines.now byte line_name.now column_name.now)) }
+    ensures { Puts result writer.old writer.new (place_members lines.now byte line_name.now column_name.now) }
 {
     let Some((line, column)) = lines.position(byte) else {
         unreachable!()

@@ -1,7 +1,7 @@
 //! Reports as JSON.
 ghost use Rattle.std.specs.Prelude.{◌≡◌, IfOk, OnErr, OnOk, string_bytes};
 ghost use Rattle.lrpar_grammar_places.specs.Strings.{Appends};
-ghost use Rattle.lrpar_report_json.specs.Writers.{WritesAll};
+ghost use Rattle.lrpar_report_json.specs.Writers.{Puts};
 
 use crate::lists::{write_fixes, write_labels, write_notes};
 use crate::members::write_text;
@@ -31,8 +31,8 @@ impl<'a> JsonReporter<'a> {
 
     /// The reporter of a text and its path. Takes time linear in the text, and memory for each of its lines. `Err`: out of memory.
     pub fn new(alloc: Global, text: &'a str, path: &'a str) -> Result<Self, AllocError>
-        ensures path { IfOk result (λ reporter. reporter.path ≡ path.now) }
-        ensures text { IfOk result (λ reporter. reporter.text ≡ text.now) }
+        ensures path { IfOk result (λ new. new.path ≡ path.now) }
+        ensures text { IfOk result (λ new. new.text ≡ text.now) }
     {
         let lines = Lines::new(alloc, text)?;
         Ok(JsonReporter { path, lines })
@@ -68,7 +68,7 @@ impl<'a> JsonReporter<'a> {
 
     // Writes the report.
     fn write_report(&self, writer: &mut Writer, report: &Report) -> Result<(), AllocError>
-        ensures { OnOk result (WritesAll writer.old writer.new (report_object self.now report.now)) }
+        ensures { Puts result writer.old writer.new (report_object self.now report.now) }
     {
         writer.begin_object()?;
         self.write_title(writer, report)?;
@@ -78,7 +78,7 @@ impl<'a> JsonReporter<'a> {
 
     // Writes the path, what the report is, and what is wrong.
     fn write_title(&self, writer: &mut Writer, report: &Report) -> Result<(), AllocError>
-        ensures { OnOk result (WritesAll writer.old writer.new (title_members self.now report.now)) }
+        ensures { Puts result writer.old writer.new (title_members self.now report.now) }
     {
         write_text(writer, "path", self.path)?;
         write_text(writer, "severity", report.level.word())?;
@@ -87,7 +87,7 @@ impl<'a> JsonReporter<'a> {
 
     // Writes the labels, the notes and the fixes.
     fn write_lists(&self, writer: &mut Writer, report: &Report) -> Result<(), AllocError>
-        ensures { OnOk result (WritesAll writer.old writer.new (list_members self.now.text report.now)) }
+        ensures { Puts result writer.old writer.new (list_members self.now.text report.now) }
     {
         write_labels(writer, &self.lines, &report.labels)?;
         write_notes(writer, &report.notes)?;

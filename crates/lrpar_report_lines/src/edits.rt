@@ -35,8 +35,8 @@ impl Fix {
 
     /// The fix with this message, without edits. `Err`: out of memory.
     pub fn new(alloc: Global, message: &str) -> Result<Self, AllocError>
-        ensures message { IfOk result (λ fix. string_bytes fix.message ≡ message.now) }
-        ensures edits { IfOk result (λ fix. fix.edits.items ≡ []) }
+        ensures message { IfOk result (λ new. string_bytes new.message ≡ message.now) }
+        ensures edits { IfOk result (λ new. new.edits.items ≡ []) }
     {
         Ok(Fix {
             message: String::from_str(alloc, message)?,
@@ -46,8 +46,8 @@ impl Fix {
 
     /// The fix with one more edit, after those that it has: this part becomes this text. `Err`: out of memory; the fix is dropped.
     pub fn edit(mut self, span: Span, text: &str) -> Result<Self, AllocError>
-        ensures message { IfOk result (λ fix. fix.message ≡ self.message) }
-        ensures edits { IfOk result (λ fix. replacements fix ≡ replacements self ++ (record { part = span; text = text.now }) ∷ []) }
+        ensures message { IfOk result (λ new. new.message ≡ self.message) }
+        ensures edits { IfOk result (λ new. replacements new ≡ replacements self ++ (record { part = span; text = text.now }) ∷ []) }
     {
         let text = String::from_str(*self.edits.allocator(), text)?;
         self.edits.push(Edit { span, text })?;

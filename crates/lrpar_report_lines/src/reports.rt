@@ -54,7 +54,7 @@ impl Report {
 
     /// The report with this message, without labels, notes and fixes. `Err`: out of memory.
     pub fn new(alloc: Global, level: Level, message: &str) -> Result<Self, AllocError>
-        ensures level { IfOk result (λ report. report.level ≡ level) }
+        ensures level { IfOk result (λ new. new.level ≡ level) }
         ensures message { IfOk result (HasMessage message.now) }
         ensures labels { IfOk result HasNoLabels }
         ensures notes { IfOk result HasNoNotes }
@@ -71,7 +71,7 @@ impl Report {
 
     /// The report of an error, without labels, notes and fixes. `Err`: out of memory.
     pub fn error(alloc: Global, message: &str) -> Result<Self, AllocError>
-        ensures level { IfOk result (λ report. report.level ≡ Level.Error) }
+        ensures level { IfOk result (λ new. new.level ≡ Level.Error) }
         ensures message { IfOk result (HasMessage message.now) }
         ensures labels { IfOk result HasNoLabels }
         ensures notes { IfOk result HasNoNotes }
@@ -82,7 +82,7 @@ impl Report {
 
     /// The report of a warning, without labels, notes and fixes. `Err`: out of memory.
     pub fn warning(alloc: Global, message: &str) -> Result<Self, AllocError>
-        ensures level { IfOk result (λ report. report.level ≡ Level.Warning) }
+        ensures level { IfOk result (λ new. new.level ≡ Level.Warning) }
         ensures message { IfOk result (HasMessage message.now) }
         ensures labels { IfOk result HasNoLabels }
         ensures notes { IfOk result HasNoNotes }
@@ -93,12 +93,12 @@ impl Report {
 
     /// The report with one more label, after those that it has. The text may be empty. `Err`: out of memory; the report is dropped.
     pub fn label(mut self, span: Span, text: &str) -> Result<Self, AllocError>
-        ensures level { IfOk result (λ report. report.level ≡ self.level) }
-        ensures message { IfOk result (λ report. report.message ≡ self.message) }
-        ensures spans { IfOk result (λ report. label_spans report ≡ label_spans self ++ span ∷ []) }
-        ensures texts { IfOk result (λ report. label_texts report ≡ label_texts self ++ text.now ∷ []) }
-        ensures notes { IfOk result (λ report. report.notes ≡ self.notes) }
-        ensures fixes { IfOk result (λ report. report.fixes ≡ self.fixes) }
+        ensures level { IfOk result (λ new. new.level ≡ self.level) }
+        ensures message { IfOk result (λ new. new.message ≡ self.message) }
+        ensures spans { IfOk result (λ new. label_spans new ≡ label_spans self ++ span ∷ []) }
+        ensures texts { IfOk result (λ new. label_texts new ≡ label_texts self ++ text.now ∷ []) }
+        ensures notes { IfOk result (λ new. new.notes ≡ self.notes) }
+        ensures fixes { IfOk result (λ new. new.fixes ≡ self.fixes) }
     {
         let text = String::from_str(*self.labels.allocator(), text)?;
         self.labels.push(Label { span, text })?;
@@ -107,11 +107,11 @@ impl Report {
 
     /// The report with one more note, after those that it has. `Err`: out of memory; the report is dropped.
     pub fn note(mut self, text: &str) -> Result<Self, AllocError>
-        ensures level { IfOk result (λ report. report.level ≡ self.level) }
-        ensures message { IfOk result (λ report. report.message ≡ self.message) }
-        ensures labels { IfOk result (λ report. report.labels ≡ self.labels) }
-        ensures notes { IfOk result (λ report. note_texts report ≡ note_texts self ++ text.now ∷ []) }
-        ensures fixes { IfOk result (λ report. report.fixes ≡ self.fixes) }
+        ensures level { IfOk result (λ new. new.level ≡ self.level) }
+        ensures message { IfOk result (λ new. new.message ≡ self.message) }
+        ensures labels { IfOk result (λ new. new.labels ≡ self.labels) }
+        ensures notes { IfOk result (λ new. note_texts new ≡ note_texts self ++ text.now ∷ []) }
+        ensures fixes { IfOk result (λ new. new.fixes ≡ self.fixes) }
     {
         let text = String::from_str(*self.notes.allocator(), text)?;
         self.notes.push(text)?;
@@ -120,11 +120,11 @@ impl Report {
 
     /// The report with one more fix, after those that it has. `Err`: out of memory; the report is dropped.
     pub fn fix(mut self, fix: Fix) -> Result<Self, AllocError>
-        ensures level { IfOk result (λ report. report.level ≡ self.level) }
-        ensures message { IfOk result (λ report. report.message ≡ self.message) }
-        ensures labels { IfOk result (λ report. report.labels ≡ self.labels) }
-        ensures notes { IfOk result (λ report. report.notes ≡ self.notes) }
-        ensures fixes { IfOk result (λ report. report.fixes.items ≡ self.fixes.items ++ fix ∷ []) }
+        ensures level { IfOk result (λ new. new.level ≡ self.level) }
+        ensures message { IfOk result (λ new. new.message ≡ self.message) }
+        ensures labels { IfOk result (λ new. new.labels ≡ self.labels) }
+        ensures notes { IfOk result (λ new. new.notes ≡ self.notes) }
+        ensures fixes { IfOk result (λ new. new.fixes.items ≡ self.fixes.items ++ fix ∷ []) }
     {
         self.fixes.push(fix)?;
         Ok(self)
