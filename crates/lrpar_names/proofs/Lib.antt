@@ -1,0 +1,12 @@
+pub mod BitLemmas
+pub mod CandidateLemmas
+pub mod ChoiceLemmas
+pub mod ChosenLemmas
+pub mod FaultLemmas
+pub mod LineLemmas
+pub mod ListLemmas
+pub mod PartLemmas
+pub mod PieceLemmas
+pub mod RangeLemmas
+pub mod RowLemmas
+pub mod TrimLemmas

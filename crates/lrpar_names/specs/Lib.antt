@@ -1,0 +1,10 @@
+pub mod Faults
+pub mod Parts
+pub mod Entries
+pub mod Names
+pub mod Messages
+pub mod FirstTokens
+pub mod Choosing
+pub mod Choices
+pub mod Candidates
+pub mod Laws
