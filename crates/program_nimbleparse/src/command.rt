@@ -3,6 +3,7 @@
 use crate::inputs::STANDARD_INPUT;
 use crate::kind::GrammarKind;
 use crate::plan::Format;
+use crate::printer::MessageForm;
 use clap::builder::PossibleValue;
 use clap::{Arg, ArgAction, ArgMatches, Command, value_parser};
 use lrpar_grammar_yacc::parts::YaccKind;
@@ -30,6 +31,10 @@ pub(crate) const SHIFTS: &str = "shifts";
 
 pub(crate) const FORMAT: &str = "format";
 
+pub(crate) const MESSAGES: &str = "messages";
+
+pub(crate) const MESSAGES_FORMAT: &str = "messages-format";
+
 pub(crate) const LEXER: &str = "lexer";
 
 pub(crate) const GRAMMAR: &str = "grammar";
@@ -37,11 +42,12 @@ pub(crate) const GRAMMAR: &str = "grammar";
 pub(crate) const INPUT: &str = "input";
 
 /// The options about lexers and inputs, each with the word that it is given by.
-pub(crate) const INPUT_OPTIONS: [(&str, &str); 4] = [
+pub(crate) const INPUT_OPTIONS: [(&str, &str); 5] = [
     (REPAIRS, "-r"),
     (LIMIT, "--limit"),
     (SHIFTS, "--shifts"),
     (FORMAT, "--format"),
+    (MESSAGES, "--messages"),
 ];
 
 const ABOUT: &str =
@@ -175,6 +181,20 @@ pub(crate) const FORMATS: [Choice<Format>; 4] = [
     },
 ];
 
+/// The forms of messages.
+pub(crate) const FORMS: [Choice<MessageForm>; 2] = [
+    Choice {
+        name: "text",
+        meaning: MessageForm::Text,
+        help: "Lines for people, with the lines of the text that they are about",
+    },
+    Choice {
+        name: "json",
+        meaning: MessageForm::Json,
+        help: "A JSON object on a line for each message, for programs",
+    },
+];
+
 /// The words that options take, as their parser checks them and the help shows them.
 #[derive(Clone, Copy)]
 pub(crate) struct PossibleValues<'a> {
@@ -182,6 +202,7 @@ pub(crate) struct PossibleValues<'a> {
     minimisers: [PossibleValue<'a>; 2],
     searches: [PossibleValue<'a>; 3],
     formats: [PossibleValue<'a>; 4],
+    forms: [PossibleValue<'a>; 2],
 }
 
 impl<'a> PossibleValues<'a> {
@@ -208,6 +229,7 @@ impl<'a> PossibleValues<'a> {
                 FORMATS[2].to_possible_value(),
                 FORMATS[3].to_possible_value(),
             ],
+            forms: [FORMS[0].to_possible_value(), FORMS[1].to_possible_value()],
         }
     }
 }
@@ -240,7 +262,8 @@ pub(crate) fn command_line<'a>(
     let command = add_flags(alloc, command)?;
     let command = add_table_options(alloc, command, values)?;
     let command = add_repair_options(alloc, command, values)?;
-    add_format(alloc, command, values)
+    let command = add_format(alloc, command, values)?;
+    add_message_options(alloc, command, values)
 }
 
 // Adds the paths. A single one is found under the name of the lexer, though it is that of a grammar.
@@ -375,4 +398,27 @@ fn add_format<'a>(
             .default_value("brackets")
             .help("Print trees in this form"),
     )
+}
+
+// Adds the options about messages.
+fn add_message_options<'a>(
+    alloc: Global,
+    command: Command<'a>,
+    values: &'a PossibleValues<'a>,
+) -> Result<Command<'a>, AllocError> {
+    command
+        .arg(
+            Arg::new(alloc, MESSAGES)
+                .long("messages")
+                .value_name("FILE")
+                .help("Name tokens and rules in messages as this file does"),
+        )?
+        .arg(
+            Arg::new(alloc, MESSAGES_FORMAT)
+                .long("messages-format")
+                .value_name("FORM")
+                .value_parser(values.forms.as_slice())
+                .default_value("text")
+                .help("Write messages in this form"),
+        )
 }

@@ -91,9 +91,9 @@ fn refusal_note(
         Incompletable::Memory => {}
     }
     let mut text = String::new(alloc);
-    let reporter = file.reporter(alloc)?;
+    let printer = file.printer(alloc)?;
     let report = Report::new(alloc, Level::Note, why.as_str())?;
-    reporter.push(&mut text, alloc, &report)?;
+    printer.push(&mut text, alloc, &report)?;
     Ok(text)
 }
 

@@ -2,13 +2,14 @@
 ghost use Rattle.lrpar_conflict_examples.specs.ExamplesFit.{ExamplesFit};
 ghost use Rattle.lrpar_grammar.specs.Grammar.{Grammar};
 
+use crate::printer::Printer;
 use crate::show::push_reports;
 use lrpar_conflict_examples::examples::{
     ConflictExample, MergedConflicts, NoExamples, UnmetConflict, conflict_examples_by,
     format_examples,
 };
 use lrpar_grammar::grammar::YaccGrammar;
-use lrpar_report::{Level, Report, Reporter, conflict_reports, push_token};
+use lrpar_report::{Level, Report, conflict_reports, push_token};
 use lrpar_table::table::StateTable;
 use lrpar_table_precedence::precedences::Precedences;
 use std::alloc::{AllocError, Global};
@@ -19,13 +20,16 @@ const BOUND: usize = 1_000;
 /// How many conflicts of a grammar are shown at most, and how many counterexamples.
 const MOST: usize = 10;
 
+/// What the counterexamples are called where they are a message of their own.
+const EXAMPLES: &str = "counterexamples";
+
 /// Adds a warning for each of the first conflicts of the table, the first counterexamples, and a note of each of the first conflicts that have
 /// none. If a reachable rule derives no text, there are no counterexamples, and one warning says so; and so there are if the canonical table
 /// has more states than that.
 pub(crate) fn push_conflicts(
     out: &mut String,
     alloc: Global,
-    reporter: &Reporter<'_>,
+    printer: &Printer<'_>,
     grm: &YaccGrammar<u32>,
     precedences: &Precedences,
     stable: &StateTable<u32>,
@@ -35,14 +39,14 @@ pub(crate) fn push_conflicts(
         return Ok(());
     }
     match conflict_examples_by(alloc, grm, precedences, stable, max_states, BOUND) {
-        Ok(found) => push_found(out, alloc, reporter, grm, stable, &found),
+        Ok(found) => push_found(out, alloc, printer, grm, stable, &found),
         Err(NoExamples::Memory) => Err(AllocError),
         Err(NoExamples::Unproductive(_)) => {
-            push_count(out, alloc, reporter, stable, "a rule derives no text")
+            push_count(out, alloc, printer, stable, "a rule derives no text")
         }
         Err(NoExamples::Unbuilt(_)) => {
             let why = "the canonical table, in which they are looked for, is too large";
-            push_count(out, alloc, reporter, stable, why)
+            push_count(out, alloc, printer, stable, why)
         }
     }
 }
@@ -52,7 +56,7 @@ pub(crate) fn push_conflicts(
 fn push_found(
     out: &mut String,
     alloc: Global,
-    reporter: &Reporter<'_>,
+    printer: &Printer<'_>,
     grm: &YaccGrammar<u32>,
     stable: &StateTable<u32>,
     found: &MergedConflicts<u32>,
@@ -60,35 +64,36 @@ fn push_found(
     requires { ExamplesFit grm.now found.now.examples.items }
 {
     if found.unmet.is_empty() && found.merged.is_empty() {
-        return push_with_examples(out, alloc, reporter, grm, stable, &found.examples);
+        return push_with_examples(out, alloc, printer, grm, stable, &found.examples);
     }
     let reports = conflict_reports(alloc, grm, stable)?;
     let shown = reports.get(..MOST).unwrap_or(&reports);
-    push_reports(out, alloc, reporter, shown)?;
+    push_reports(out, alloc, printer, shown)?;
     let first = first_of(&found.examples);
-    out.push_str(format_examples(alloc, grm, first)?.as_str())?;
-    push_notes(out, alloc, reporter, grm, found)?;
-    push_more(out, alloc, reporter, reports.len(), found.examples.len())
+    let text = format_examples(alloc, grm, first)?;
+    printer.push_text(out, alloc, EXAMPLES, text.as_str())?;
+    push_notes(out, alloc, printer, grm, found)?;
+    push_more(out, alloc, printer, reports.len(), found.examples.len())
 }
 
 // Adds notes of the first conflicts that have no counterexample.
 fn push_notes(
     out: &mut String,
     alloc: Global,
-    reporter: &Reporter<'_>,
+    printer: &Printer<'_>,
     grm: &YaccGrammar<u32>,
     found: &MergedConflicts<u32>,
 ) -> Result<(), AllocError> {
     for conflict in found.unmet.iter().take(MOST) {
         let why = ": precedences take away each way there";
-        push_note(out, alloc, reporter, grm, conflict, "no parse meets", why)?;
+        push_note(out, alloc, printer, grm, conflict, "no parse meets", why)?;
     }
     for conflict in found.merged.iter().take(MOST) {
         let why = ", with --minimise canonical there is none";
         push_note(
             out,
             alloc,
-            reporter,
+            printer,
             grm,
             conflict,
             "merging alone makes",
@@ -102,7 +107,7 @@ fn push_notes(
 fn push_note(
     out: &mut String,
     alloc: Global,
-    reporter: &Reporter<'_>,
+    printer: &Printer<'_>,
     grm: &YaccGrammar<u32>,
     conflict: &UnmetConflict<u32>,
     what: &str,
@@ -113,7 +118,7 @@ fn push_note(
     push_token(&mut message, grm, conflict.token)?;
     let state = usize::from(conflict.state);
     write!(message, " in state {state}{why}")?;
-    reporter.push(
+    printer.push(
         out,
         alloc,
         &Report::new(alloc, Level::Note, message.as_str())?,
@@ -124,7 +129,7 @@ fn push_note(
 fn push_count(
     out: &mut String,
     alloc: Global,
-    reporter: &Reporter<'_>,
+    printer: &Printer<'_>,
     stable: &StateTable<u32>,
     why: &str,
 ) -> Result<(), AllocError> {
@@ -133,14 +138,14 @@ fn push_count(
     };
     let count = conflicts.rr_len().saturating_add(conflicts.sr_len());
     let text = format!(in alloc; "conflicts without examples, as {why}: {count}")?;
-    reporter.push(out, alloc, &Report::warning(alloc, text.as_str())?)
+    printer.push(out, alloc, &Report::warning(alloc, text.as_str())?)
 }
 
 // Adds the first warnings, the first counterexamples, and how many more there are.
 fn push_with_examples(
     out: &mut String,
     alloc: Global,
-    reporter: &Reporter<'_>,
+    printer: &Printer<'_>,
     grm: &YaccGrammar<u32>,
     stable: &StateTable<u32>,
     examples: &[ConflictExample<u32>],
@@ -151,9 +156,10 @@ fn push_with_examples(
     let first = first_of(examples);
     name_examples(&mut reports, first)?;
     let shown = reports.get(..MOST).unwrap_or(&reports);
-    push_reports(out, alloc, reporter, shown)?;
-    out.push_str(format_examples(alloc, grm, first)?.as_str())?;
-    push_more(out, alloc, reporter, reports.len(), examples.len())
+    push_reports(out, alloc, printer, shown)?;
+    let text = format_examples(alloc, grm, first)?;
+    printer.push_text(out, alloc, EXAMPLES, text.as_str())?;
+    push_more(out, alloc, printer, reports.len(), examples.len())
 }
 
 // The counterexamples that are shown: the first ones.
@@ -197,7 +203,7 @@ fn are_alike(one: &ConflictExample<u32>, other: &ConflictExample<u32>) -> bool {
 fn push_more(
     out: &mut String,
     alloc: Global,
-    reporter: &Reporter<'_>,
+    printer: &Printer<'_>,
     conflicts: usize,
     examples: usize,
 ) -> Result<(), AllocError> {
@@ -211,5 +217,5 @@ fn push_more(
             "conflicts that aren't shown: {conflicts}, and examples: {examples}"
         )?,
     };
-    reporter.push(out, alloc, &Report::new(alloc, Level::Note, text.as_str())?)
+    printer.push(out, alloc, &Report::new(alloc, Level::Note, text.as_str())?)
 }

@@ -1,10 +1,11 @@
 //! The numbers of conflicts that a file expects.
 use crate::counts::Counts;
 use crate::declared::Declared;
+use crate::printer::Printer;
 use crate::show::fault_of_report;
 use lrpar_grammar::span::Span;
 use lrpar_grammar_yacc::declarations::Number;
-use lrpar_report::{Report, Reporter};
+use lrpar_report::Report;
 use program_files::fault::Fault;
 use std::alloc::{AllocError, Global};
 
@@ -31,13 +32,13 @@ fn number_in(number: Option<Number>) -> usize {
 /// the other kind; if it says nothing, any number of conflicts is right.
 pub(crate) fn expect(
     alloc: Global,
-    reporter: &Reporter<'_>,
+    printer: &Printer<'_>,
     declared: &Declared<'_>,
     counts: Counts,
 ) -> Result<(), Fault> {
     expect_number(
         alloc,
-        reporter,
+        printer,
         "shift/reduce",
         declared.expected.as_ref(),
         declared.expected_rr.as_ref(),
@@ -45,7 +46,7 @@ pub(crate) fn expect(
     )?;
     expect_number(
         alloc,
-        reporter,
+        printer,
         "reduce/reduce",
         declared.expected_rr.as_ref(),
         declared.expected.as_ref(),
@@ -56,7 +57,7 @@ pub(crate) fn expect(
 // Refuses another number of conflicts of a kind than the expected one; or any, if a number of the other kind alone is expected.
 fn expect_number(
     alloc: Global,
-    reporter: &Reporter<'_>,
+    printer: &Printer<'_>,
     kind: &str,
     expected: Option<&Number>,
     other: Option<&Number>,
@@ -75,7 +76,7 @@ fn expect_number(
         return Ok(());
     }
     let report = count_report(alloc, kind, number, count, span, label);
-    Err(fault_of_report(alloc, reporter, report))
+    Err(fault_of_report(alloc, printer, report))
 }
 
 // The report of another number of conflicts than the expected one.

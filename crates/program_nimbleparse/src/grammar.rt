@@ -6,6 +6,7 @@ use crate::counts::{Counts, counts_of};
 use crate::declared::Declared;
 use crate::expects::{expect, expects_conflicts, has_expected};
 use crate::kind::GrammarKind;
+use crate::printer::{MessageForm, Printer};
 use crate::program::Terminal;
 use crate::show::{fault_of_report, push_reports, write_messages};
 use crate::source::{Source, source_of};
@@ -14,7 +15,7 @@ use crate::unmatched::{Unmatched, table_grammar};
 use crate::useless::useless_reports;
 use lrpar_grammar::grammar::YaccGrammar;
 use lrpar_grammar::span::TIdx;
-use lrpar_report::{Level, Report, Reporter, build_report, chain_report};
+use lrpar_report::{Level, Report, build_report, chain_report};
 use lrpar_report_bison::bison_warnings;
 use lrpar_table::build::BuildFault;
 use lrpar_table::check::{CheckFault, ParserData, Refused};
@@ -42,6 +43,8 @@ pub struct Asked {
     pub minimiser: Minimiser,
     /// How many states it may have.
     pub max_states: usize,
+    /// The form of messages.
+    pub form: MessageForm,
     /// Whether the grammar is looked at alone. Then tokens that are of no use are warned of, too, and its states are what was asked for, so
     /// they go to standard output.
     pub is_looked_at: bool,
@@ -58,8 +61,9 @@ pub(crate) struct GrammarFile<'a> {
 
 impl<'a> GrammarFile<'a> {
     /// What messages about the file need.
-    pub(crate) fn reporter(self, alloc: Global) -> Result<Reporter<'a>, AllocError> {
-        Reporter::new(alloc, self.text, self.path, self.terminal.look)
+    pub(crate) fn printer(self, alloc: Global) -> Result<Printer<'a>, AllocError> {
+        let form = self.asked.form;
+        Printer::new(alloc, self.text, self.path, form, self.terminal.look)
     }
 }
 
@@ -121,25 +125,25 @@ pub(crate) fn make_table<O: Write, E: Write>(
     if file.terminal.shows_progress && !file.asked.is_quiet {
         write_messages(out, err, "nimbleparse: building the table ..\n")?;
     }
-    let reporter = file.reporter(alloc)?;
-    build_table(alloc, &reporter, file.text, file.asked, out, err)
+    let printer = file.printer(alloc)?;
+    build_table(alloc, &printer, file.text, file.asked, out, err)
 }
 
 // The checked table of a grammar file. Warns of what is of no use, and of conflicts, unless the program is to be quiet. A table with another
 // number of conflicts than the file expects is refused.
 fn build_table<O: Write, E: Write>(
     alloc: Global,
-    reporter: &Reporter<'_>,
+    printer: &Printer<'_>,
     text: &str,
     asked: Asked,
     out: &mut O,
     err: &mut E,
 ) -> Result<GrammarTable, Fault> {
-    let Source { grammar, declared } = source_of(alloc, reporter, text, asked.kind)?;
+    let Source { grammar, declared } = source_of(alloc, printer, text, asked.kind)?;
     let warnings = warnings_of(alloc, text, &grammar, &declared, asked)?;
     let (grammar, unmatched) = grammar_of_table(alloc, grammar, asked)?;
     let (data, counts) = build_data(
-        alloc, reporter, grammar, &declared, &warnings, asked, out, err,
+        alloc, printer, grammar, &declared, &warnings, asked, out, err,
     )?;
     let has_warnings = !warnings.is_empty() || !has_expected(&declared, counts);
     Ok(GrammarTable {
@@ -198,7 +202,7 @@ struct Built<'a> {
 // The checked table of a grammar whose conflicts are resolved by the precedences that its file declares, if it declares any.
 fn build_data<O: Write, E: Write>(
     alloc: Global,
-    reporter: &Reporter<'_>,
+    printer: &Printer<'_>,
     grm: YaccGrammar<u32>,
     declared: &Declared<'_>,
     warnings: &[Report],
@@ -219,12 +223,12 @@ fn build_data<O: Write, E: Write>(
                 stable: &stable,
                 counts,
             };
-            write_notes(alloc, reporter, built, declared, warnings, asked, out, err)?;
-            expect(alloc, reporter, declared, counts)?;
-            let data = check_chains(alloc, reporter, grm, sgraph, stable)?;
+            write_notes(alloc, printer, built, declared, warnings, asked, out, err)?;
+            expect(alloc, printer, declared, counts)?;
+            let data = check_chains(alloc, printer, grm, sgraph, stable)?;
             Ok((data, counts))
         }
-        Err(fault) => Err(fault_of_build(alloc, reporter, &grm, &fault, asked)),
+        Err(fault) => Err(fault_of_build(alloc, printer, &grm, &fault, asked)),
     }
 }
 
@@ -232,7 +236,7 @@ fn build_data<O: Write, E: Write>(
 // be quiet.
 fn write_notes<O: Write, E: Write>(
     alloc: Global,
-    reporter: &Reporter<'_>,
+    printer: &Printer<'_>,
     built: Built<'_>,
     declared: &Declared<'_>,
     warnings: &[Report],
@@ -243,10 +247,10 @@ fn write_notes<O: Write, E: Write>(
     if asked.is_quiet {
         return Ok(());
     }
-    let notes = notes_of(alloc, reporter, built, declared, warnings, asked.max_states)?;
+    let notes = notes_of(alloc, printer, built, declared, warnings, asked.max_states)?;
     write_messages(out, err, notes.as_str())?;
     if asked.shows_states {
-        write_states(alloc, built, asked, out, err)?;
+        write_states(alloc, printer, built, asked, out, err)?;
     }
     Ok(())
 }
@@ -254,7 +258,7 @@ fn write_notes<O: Write, E: Write>(
 // The warnings, and those of conflicts, unless these are what the file expects.
 fn notes_of(
     alloc: Global,
-    reporter: &Reporter<'_>,
+    printer: &Printer<'_>,
     built: Built<'_>,
     declared: &Declared<'_>,
     warnings: &[Report],
@@ -267,16 +271,16 @@ fn notes_of(
         ..
     } = built;
     let mut notes = String::new(alloc);
-    push_reports(&mut notes, alloc, reporter, warnings)?;
+    push_reports(&mut notes, alloc, printer, warnings)?;
     if declared.is_glr {
-        push_reports(&mut notes, alloc, reporter, &[glr_note(alloc)?])?;
+        push_reports(&mut notes, alloc, printer, &[glr_note(alloc)?])?;
     }
     if !has_expected(declared, counts) {
         let precedences = &declared.precedences;
         push_conflicts(
             &mut notes,
             alloc,
-            reporter,
+            printer,
             grm,
             precedences,
             stable,
@@ -295,6 +299,7 @@ fn glr_note(alloc: Global) -> Result<Report, AllocError> {
 // Writes the states of the table: to standard output if the grammar is looked at, and to standard error otherwise.
 fn write_states<O: Write, E: Write>(
     alloc: Global,
+    printer: &Printer<'_>,
     built: Built<'_>,
     asked: Asked,
     out: &mut O,
@@ -304,16 +309,17 @@ fn write_states<O: Write, E: Write>(
     push_states(&mut text, built.grm, built.sgraph, built.stable)?;
     if asked.is_looked_at {
         out.write_all(text.as_bytes())?;
-        Ok(())
-    } else {
-        write_messages(out, err, text.as_str())
+        return Ok(());
     }
+    let mut shown = String::new(alloc);
+    printer.push_text(&mut shown, alloc, "states of the table", text.as_str())?;
+    write_messages(out, err, shown.as_str())
 }
 
 // Checks the chains of reductions of a table, and returns it.
 fn check_chains(
     alloc: Global,
-    reporter: &Reporter<'_>,
+    printer: &Printer<'_>,
     grm: YaccGrammar<u32>,
     sgraph: StateGraph<u32>,
     stable: StateTable<u32>,
@@ -322,28 +328,28 @@ fn check_chains(
 {
     match ParserData::of_safe(alloc, grm, sgraph, stable, CAP) {
         Ok(data) => Ok(data),
-        Err(refused) => Err(fault_of_chain(alloc, reporter, refused)),
+        Err(refused) => Err(fault_of_chain(alloc, printer, refused)),
     }
 }
 
 // The fault of a grammar that has no table.
 fn fault_of_build(
     alloc: Global,
-    reporter: &Reporter<'_>,
+    printer: &Printer<'_>,
     grm: &YaccGrammar<u32>,
     fault: &BuildFault,
     asked: Asked,
 ) -> Fault {
     let report = build_report(alloc, grm, fault, asked.max_states);
-    fault_of_report(alloc, reporter, report)
+    fault_of_report(alloc, printer, report)
 }
 
 // The fault of a table with a chain of reductions that is too long for any cap.
-fn fault_of_chain(alloc: Global, reporter: &Reporter<'_>, refused: Refused<u32>) -> Fault {
+fn fault_of_chain(alloc: Global, printer: &Printer<'_>, refused: Refused<u32>) -> Fault {
     let CheckFault::ChainTooLong(state, token) = refused.fault() else {
         return Fault::Memory;
     };
     let (grm, _, _) = refused.into_parts();
     let report = chain_report(alloc, &grm, state, token, CAP);
-    fault_of_report(alloc, reporter, report)
+    fault_of_report(alloc, printer, report)
 }

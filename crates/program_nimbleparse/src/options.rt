@@ -1,11 +1,12 @@
 //! What the words after the program's name ask for.
 use crate::command::{
-    FORMAT, FORMATS, GRAMMAR, INPUT, INPUT_OPTIONS, KIND, KINDS, LEXER, LIMIT, MAX_STATES,
-    MINIMISER, MINIMISERS, PossibleValues, QUIET, REPAIRS, SEARCHES, SHIFTS, STATES, Search,
-    VERBOSE, command_line, meaning_of,
+    FORMAT, FORMATS, FORMS, GRAMMAR, INPUT, INPUT_OPTIONS, KIND, KINDS, LEXER, LIMIT, MAX_STATES,
+    MESSAGES, MESSAGES_FORMAT, MINIMISER, MINIMISERS, PossibleValues, QUIET, REPAIRS, SEARCHES,
+    SHIFTS, STATES, Search, VERBOSE, command_line, meaning_of,
 };
 use crate::grammar::Asked;
 use crate::plan::{Format, Recovery};
+use crate::printer::MessageForm;
 use clap::error::ErrorKind;
 use clap::parser::ValueSource;
 use clap::{ArgMatches, Error};
@@ -46,6 +47,8 @@ pub(crate) struct Options<'a> {
     /// The rules of the lexer.
     pub(crate) lexer: &'a str,
     pub(crate) grammar: &'a str,
+    /// The messages file.
+    pub(crate) messages: Option<&'a str>,
     /// The inputs, `-` being standard input. There is at least one.
     pub(crate) inputs: Vec<&'a str>,
 }
@@ -114,6 +117,7 @@ fn options_of<'a>(
         format: meaning_of(matches, FORMAT, &FORMATS).unwrap_or(Format::Brackets),
         lexer,
         grammar,
+        messages: matches.get_str(MESSAGES),
         inputs,
     })
 }
@@ -127,6 +131,7 @@ fn asked_of(matches: &ArgMatches<'_>, is_looked_at: bool) -> Asked {
         is_verbose: matches.get_flag(VERBOSE),
         minimiser: meaning_of(matches, MINIMISER, &MINIMISERS).unwrap_or(Minimiser::Pager),
         max_states: matches.get_one::<usize>(MAX_STATES).unwrap_or(usize::MAX),
+        form: meaning_of(matches, MESSAGES_FORMAT, &FORMS).unwrap_or(MessageForm::Text),
         is_looked_at,
     }
 }

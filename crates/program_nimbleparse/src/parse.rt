@@ -1,31 +1,59 @@
 //! The parse of one input, and what is printed of it.
 use crate::completer::Completer;
-use crate::errors::{Subject, push_lexing_error, push_parse_error};
+use crate::errors::{report_of_lexing, with_no_repairs};
 use crate::plan::{Format, Plan, Recovery};
+use crate::printer::Printer;
 use crate::recoverers::{Completing, Searches, Searching};
 use crate::rules::LexerRules;
 use crate::show::write_messages;
+use crate::wording::wording_of;
 use lrpar_grammar::span::TIdx;
-use lrpar_lexer::{LexRules, RuleLexer, TextLexer, Token, TokenTypes};
+use lrpar_lexer::{LexRules, ListLexer, RuleLexer, TextLexer, Token, TokenTypes};
 use lrpar_lexer_lrlex::StateLexer;
+use lrpar_names::Names;
 use lrpar_parse::RTParserBuilder;
 use lrpar_parse_errors::errors::LexParseError;
-use lrpar_parse_lexemes::lex_api::NonStreamingLexer;
+use lrpar_parse_lexemes::lex_api::Lexer;
 use lrpar_parse_repair::repair::{NoRecovery, Recoverer};
 use lrpar_parse_trees::{Form, write_graph, write_nested};
-use lrpar_report::Reporter;
-use lrpar_table::check::ParserData;
+use lrpar_report::Report;
+use lrpar_report_fixes::{TextReports, Wording};
 use program_files::fault::Fault;
 use program_files::parsing::{Parsed, TextError, Tree, with_shifts};
 use std::alloc::{AllocError, Global};
 use std::io::Write;
 
-/// What repairs the errors of inputs.
+/// What repairs the errors of inputs, and what their messages call tokens and rules.
 #[derive(Drop)]
 pub(crate) struct Repairs<'a> {
     /// The searches, if any are asked for.
     pub(crate) searches: Option<Searches>,
     pub(crate) completer: Completer<'a>,
+    /// The names of a messages file, until there is an error.
+    pub(crate) names: Option<Names>,
+    /// The words of messages, once there is an error.
+    pub(crate) wording: Option<Wording<u32>>,
+}
+
+impl<'a> Repairs<'a> {
+    // Makes the words of messages, if they aren't made yet, and returns them.
+    fn make_wording(
+        &mut self,
+        alloc: Global,
+        plan: &Plan<'_>,
+    ) -> Result<&Wording<u32>, AllocError> {
+        if self.wording.is_none() {
+            let names = match self.names.take() {
+                Some(names) => names,
+                None => Names::new(alloc, plan.data().grm())?,
+            };
+            self.wording = Some(wording_of(alloc, plan, names)?);
+        }
+        match &self.wording {
+            Some(wording) => Ok(wording),
+            None => unreachable!(),
+        }
+    }
 }
 
 /// An input: its path and its text.
@@ -44,14 +72,30 @@ pub(crate) fn parse<'a, O: Write, E: Write>(
     out: &mut O,
     err: &mut E,
 ) -> Result<bool, Fault> {
+    let lexer = lex(alloc, plan, input.text)?;
+    let (tree, errors) = parse_lexemes(alloc, repairs, plan, &lexer, out, err)?;
+    if !errors.is_empty() {
+        let wording = repairs.make_wording(alloc, plan)?;
+        let text = errors_text(alloc, plan, wording, input, &lexer, &errors)?;
+        write_messages(out, err, text.as_str())?;
+    }
+    match tree {
+        Some(tree) => {
+            print_tree(alloc, plan, input, &tree, out)?;
+            Ok(errors.is_empty())
+        }
+        None => Ok(false),
+    }
+}
+
+// The lexemes of the input, found once.
+fn lex<'i>(alloc: Global, plan: &Plan<'_>, text: &'i str) -> Result<ListLexer<'i>, AllocError> {
     match plan.rules {
         LexerRules::Lines(rules) => {
-            let lexer = with_token(RuleLexer::new(alloc, rules, input.text)?, plan.unmatched());
-            parse_by(alloc, repairs, plan, input, &lexer, out, err)
+            with_token(RuleLexer::new(alloc, rules, text)?, plan.unmatched()).lexed(alloc)
         }
         LexerRules::States(rules) => {
-            let lexer = with_token(StateLexer::new(alloc, rules, input.text)?, plan.unmatched());
-            parse_by(alloc, repairs, plan, input, &lexer, out, err)
+            with_token(StateLexer::new(alloc, rules, text)?, plan.unmatched()).lexed(alloc)
         }
     }
 }
@@ -67,26 +111,12 @@ fn with_token<'input, R: LexRules<u32>>(
     }
 }
 
-// Parses the input by this lexer of its text, and prints what comes of it. Returns whether there is a tree, and no error.
-fn parse_by<'a, 'input, L: NonStreamingLexer<'input, TokenTypes>, O: Write, E: Write>(
-    alloc: Global,
-    repairs: &mut Repairs<'a>,
-    plan: &Plan<'a>,
-    input: Input<'_>,
-    lexer: &L,
-    out: &mut O,
-    err: &mut E,
-) -> Result<bool, Fault> {
-    let (tree, errors) = parse_lexemes(alloc, repairs, plan, lexer, out, err)?;
-    print_result(alloc, plan, input, lexer, tree.as_ref(), &errors, out, err)
-}
-
 // Parses the lexemes without repairs; if that finds an error, again with repairs, if any are asked for.
-fn parse_lexemes<'a, 'input, L: NonStreamingLexer<'input, TokenTypes>, O: Write, E: Write>(
+fn parse_lexemes<'a, O: Write, E: Write>(
     alloc: Global,
     repairs: &mut Repairs<'a>,
     plan: &Plan<'a>,
-    lexer: &L,
+    lexer: &ListLexer<'_>,
     out: &mut O,
     err: &mut E,
 ) -> Result<Parsed, Fault> {
@@ -94,6 +124,8 @@ fn parse_lexemes<'a, 'input, L: NonStreamingLexer<'input, TokenTypes>, O: Write,
     let Repairs {
         searches,
         completer,
+        names: _,
+        wording: _,
     } = repairs;
     match searches {
         Some(searches) if lacks_repair(&errors) => {
@@ -105,12 +137,12 @@ fn parse_lexemes<'a, 'input, L: NonStreamingLexer<'input, TokenTypes>, O: Write,
 
 // Parses the lexemes with the searches, after a parse without repairs that had these errors. If an error is left without a repair, parses them
 // again with a completion, if there is one.
-fn search_repairs<'a, 'input, L: NonStreamingLexer<'input, TokenTypes>, O: Write, E: Write>(
+fn search_repairs<'a, O: Write, E: Write>(
     alloc: Global,
     searches: &Searches,
     completer: &mut Completer<'a>,
     plan: &Plan<'a>,
-    lexer: &L,
+    lexer: &ListLexer<'_>,
     errors: &[TextError],
     out: &mut O,
     err: &mut E,
@@ -142,140 +174,54 @@ fn lacks_repair(errors: &[TextError]) -> bool {
 }
 
 // Parses the lexemes with this recoverer.
-fn parse_with<
-    'input,
-    R: Recoverer<u32, Token<u32>> + Drop,
-    L: NonStreamingLexer<'input, TokenTypes>,
->(alloc: Global, plan: &Plan<'_>, recoverer: R, lexer: &L) -> Result<Parsed, Fault> {
+fn parse_with<R: Recoverer<u32, Token<u32>> + Drop>(
+    alloc: Global,
+    plan: &Plan<'_>,
+    recoverer: R,
+    lexer: &ListLexer<'_>,
+) -> Result<Parsed, Fault> {
     let parser = RTParserBuilder::new(plan.data()).recoverer(recoverer);
     let parser = with_shifts(parser, plan.shifts)?;
     Ok(parser.parse_generictree(alloc, lexer)?)
-}
-
-// Writes messages of the errors, and prints the tree. Returns whether there is a tree, and no error.
-fn print_result<'input, L: NonStreamingLexer<'input, TokenTypes>, O: Write, E: Write>(
-    alloc: Global,
-    plan: &Plan<'_>,
-    input: Input<'_>,
-    lexer: &L,
-    tree: Option<&Tree>,
-    errors: &[TextError],
-    out: &mut O,
-    err: &mut E,
-) -> Result<bool, Fault> {
-    if !errors.is_empty() {
-        write_errors(alloc, plan, input, lexer, errors, out, err)?;
-    }
-    match tree {
-        Some(tree) => {
-            print_tree(alloc, plan, input, tree, out)?;
-            Ok(errors.is_empty())
-        }
-        None => Ok(false),
-    }
-}
-
-// Writes messages of the errors.
-fn write_errors<'input, L: NonStreamingLexer<'input, TokenTypes>, O: Write, E: Write>(
-    alloc: Global,
-    plan: &Plan<'_>,
-    input: Input<'_>,
-    lexer: &L,
-    errors: &[TextError],
-    out: &mut O,
-    err: &mut E,
-) -> Result<(), Fault> {
-    let expected = expected_tokens(alloc, plan, lexer, errors)?;
-    let text = errors_text(alloc, plan, input, &expected, errors)?;
-    write_messages(out, err, text.as_str())
 }
 
 // The messages of the errors of an input.
 fn errors_text(
     alloc: Global,
     plan: &Plan<'_>,
+    wording: &Wording<u32>,
     input: Input<'_>,
-    expected: &[TIdx<u32>],
+    lexer: &ListLexer<'_>,
     errors: &[TextError],
-) -> Result<String, AllocError> {
-    let reporter = Reporter::new(alloc, input.text, input.path, plan.look)?;
+) -> Result<String, Fault> {
+    let answers = lexer.iter(alloc)?;
+    let mut reports = TextReports::new(alloc, plan.data(), wording, input.text, &answers)?;
+    let form = plan.grammar.asked.form;
+    let printer = Printer::new(alloc, input.text, input.path, form, plan.look)?;
     let mut text = String::new(alloc);
-    for (place, error) in errors.iter().enumerate() {
-        let tokens = tokens_of(plan.data(), plan.has_merged_states, expected, place, error);
-        let named = tokens_but(alloc, tokens, plan.table.hidden)?;
-        let subject = Subject {
-            grm: plan.data().grm(),
-            input: input.text,
-            expected: &named,
-            unmatched: plan.unmatched(),
-        };
-        push_error(&mut text, alloc, plan.recovery, &reporter, &subject, error)?;
+    for error in errors {
+        let report = report_of(alloc, plan.recovery, input, &mut reports, error)?;
+        printer.push(&mut text, alloc, &report)?;
     }
     Ok(text)
 }
 
-// The tokens but for that one, if there is one.
-fn tokens_but(
-    alloc: Global,
-    tokens: &[TIdx<u32>],
-    hidden: Option<TIdx<u32>>,
-) -> Result<Vec<TIdx<u32>>, AllocError> {
-    let mut others = Vec::with_capacity(alloc, tokens.len())?;
-    for token in tokens {
-        if Some(*token) != hidden {
-            others.push(*token)?;
-        }
-    }
-    Ok(others)
-}
-
-// The tokens that can be fed at the first error, if it is one of the parse.
-fn expected_tokens<'input, L: NonStreamingLexer<'input, TokenTypes>>(
-    alloc: Global,
-    plan: &Plan<'_>,
-    lexer: &L,
-    errors: &[TextError],
-) -> Result<Vec<TIdx<u32>>, Fault> {
-    match errors.first() {
-        Some(LexParseError::ParseError(_)) => {
-            let parser = RTParserBuilder::<u32, TokenTypes, _>::new(plan.data());
-            Ok(parser.expected(alloc, lexer)?.tokens)
-        }
-        _ => Ok(Vec::new(alloc)),
-    }
-}
-
-// What may come at an error: at the first one these tokens, and at a later one those at which its state has an action. In a merged state
-// these needn't be those that may come, so none are named then.
-fn tokens_of<'a>(
-    data: &'a ParserData<u32>,
-    has_merged_states: bool,
-    first: &'a [TIdx<u32>],
-    place: usize,
-    error: &TextError,
-) -> &'a [TIdx<u32>] {
-    match error {
-        _ if place == 0 => first,
-        LexParseError::ParseError(failure) if !has_merged_states => failure.expected(data),
-        LexParseError::ParseError(_) | LexParseError::LexError(_) => &[],
-    }
-}
-
-// Adds the message of an error.
-fn push_error(
-    text: &mut String,
+// The report of an error.
+fn report_of(
     alloc: Global,
     recovery: Recovery,
-    reporter: &Reporter<'_>,
-    subject: &Subject<'_>,
+    input: Input<'_>,
+    reports: &mut TextReports<'_, u32>,
     error: &TextError,
-) -> Result<(), AllocError> {
+) -> Result<Report, AllocError> {
     match error {
-        LexParseError::LexError(error) => {
-            push_lexing_error(text, alloc, reporter, subject.input, error)
-        }
-        LexParseError::ParseError(failure) => {
-            push_parse_error(text, alloc, reporter, subject, recovery, failure)
+        LexParseError::LexError(error) => report_of_lexing(alloc, input.text, error),
+        LexParseError::ParseError(error) => {
+            let report = reports.report(alloc, error)?;
+            match error.repairs().is_empty() {
+                true => with_no_repairs(alloc, recovery, report),
+                false => Ok(report),
+            }
         }
     }
 }

@@ -41,14 +41,14 @@ pub(crate) struct Plan<'a> {
     pub(crate) grammar: GrammarFile<'a>,
     pub(crate) table: &'a GrammarTable,
     pub(crate) rules: &'a LexerRules,
+    /// The text of the lexer's rules.
+    pub(crate) lexer: &'a str,
     /// How many lexemes have to follow a repair, if it is said.
     pub(crate) shifts: Option<usize>,
     pub(crate) recovery: Recovery,
     pub(crate) format: Format,
     /// Whether errors alone are printed.
     pub(crate) is_quiet: bool,
-    /// Whether the states of the table are merged.
-    pub(crate) has_merged_states: bool,
     /// Whether trees are headed by the path of their input.
     pub(crate) shows_paths: bool,
     pub(crate) look: Look,

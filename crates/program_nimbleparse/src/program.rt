@@ -8,15 +8,18 @@ use crate::fault_line::FaultLine;
 use crate::grammar::{GrammarFile, GrammarTable, make_table};
 use crate::inputs::{STANDARD_INPUT, file_text, input_text};
 use crate::look::look_at;
+use crate::messages::read_names;
 use crate::options::{GrammarOptions, Options, Request, request_of};
 use crate::parse::{Input, Repairs, parse};
 use crate::plan::{Plan, Recovery};
+use crate::printer::Printer;
 use crate::recoverers::Searches;
 use crate::rules::{LexerRules, lexer_rules};
 use crate::show::{with_label_text, write_messages};
 use crate::sizes::{push_sizes, push_table};
 use lrpar_grammar::grammar::YaccGrammar;
-use lrpar_report::{Level, Look, Report, Reporter, token_warnings};
+use lrpar_names::Names;
+use lrpar_report::{Level, Look, Report, token_warnings};
 use lrpar_table::check::ParserData;
 use lrpar_table_options::Minimiser;
 use program_files::fault::{Fault, Misuse};
@@ -174,11 +177,16 @@ fn run_files<R: Files, I: Read + Drop, O: Write, E: Write>(
 ) -> Result<Status, Fault> {
     let grammar = file_text(rt, alloc, options.grammar)?;
     let lexer = file_text(rt, alloc, options.lexer)?;
+    let messages = match options.messages {
+        Some(path) => Some(file_text(rt, alloc, path)?),
+        None => None,
+    };
     let work = Work {
         options,
         terminal,
         grammar: grammar.as_str(),
         lexer: lexer.as_str(),
+        messages: messages.as_ref().map(|text| text.as_str()),
     };
     run_work(rt, alloc, work, input, out, err)
 }
@@ -190,6 +198,7 @@ struct Work<'a> {
     terminal: Terminal,
     grammar: &'a str,
     lexer: &'a str,
+    messages: Option<&'a str>,
 }
 
 impl<'a> Work<'a> {
@@ -203,17 +212,28 @@ impl<'a> Work<'a> {
         }
     }
 
+    // What messages about a text need.
+    fn printer(
+        self,
+        alloc: Global,
+        text: &'a str,
+        path: &'a str,
+    ) -> Result<Printer<'a>, AllocError> {
+        let form = self.options.asked.form;
+        Printer::new(alloc, text, path, form, self.terminal.look)
+    }
+
     // How inputs are parsed and trees are printed.
     fn plan(self, table: &'a GrammarTable, rules: &'a LexerRules) -> Plan<'a> {
         Plan {
             grammar: self.grammar_file(),
             table,
             rules,
+            lexer: self.lexer,
             shifts: self.options.shifts,
             recovery: self.options.recovery,
             format: self.options.format,
             is_quiet: self.options.asked.is_quiet,
-            has_merged_states: self.options.asked.minimiser == Minimiser::Pager,
             shows_paths: self.options.inputs.len() > 1,
             look: self.terminal.look,
         }
@@ -231,8 +251,9 @@ fn run_work<R: Files, I: Read + Drop, O: Write, E: Write>(
 ) -> Result<Status, Fault> {
     let table = make_table(alloc, work.grammar_file(), out, err)?;
     let rules = rules_of_lexer(alloc, work, table.file_grm())?;
+    let names = names_of_messages(alloc, work, table.data.grm())?;
     warn(alloc, work, &table, &rules, out, err)?;
-    parse_inputs(rt, alloc, work, &table, &rules, input, out, err)
+    parse_inputs(rt, alloc, work, &table, &rules, names, input, out, err)
 }
 
 // The rules of the lexer.
@@ -242,8 +263,23 @@ fn rules_of_lexer(
     grm: &YaccGrammar<u32>,
 ) -> Result<LexerRules, Fault> {
     let path = work.options.lexer;
-    let reporter = Reporter::new(alloc, work.lexer, path, work.terminal.look)?;
-    lexer_rules(alloc, &reporter, grm, work.lexer)
+    let printer = work.printer(alloc, work.lexer, path)?;
+    lexer_rules(alloc, &printer, grm, work.lexer)
+}
+
+// The names of the messages file, if there is one.
+fn names_of_messages(
+    alloc: Global,
+    work: Work<'_>,
+    grm: &YaccGrammar<u32>,
+) -> Result<Option<Names>, Fault> {
+    match (work.options.messages, work.messages) {
+        (Some(path), Some(text)) => {
+            let printer = work.printer(alloc, text, path)?;
+            Ok(Some(read_names(alloc, &printer, grm, text)?))
+        }
+        (_, None) | (None, _) => Ok(None),
+    }
 }
 
 // Warns of tokens that the lexer never gives, and notes how large the grammar and its table are, unless the program is to be quiet.
@@ -269,13 +305,13 @@ fn warnings(
     table: &GrammarTable,
     rules: &LexerRules,
 ) -> Result<String, AllocError> {
-    let reporter = work.grammar_file().reporter(alloc)?;
+    let printer = work.grammar_file().printer(alloc)?;
     let mut text = String::new(alloc);
-    push_token_warnings(&mut text, alloc, &reporter, table.file_grm(), rules)?;
-    push_sizes_note(&mut text, alloc, &reporter, table)?;
+    push_token_warnings(&mut text, alloc, &printer, table.file_grm(), rules)?;
+    push_sizes_note(&mut text, alloc, &printer, table)?;
     let asked = work.options.asked;
     if asked.is_verbose {
-        push_table_note(&mut text, alloc, &reporter, &table.data, asked.minimiser)?;
+        push_table_note(&mut text, alloc, &printer, &table.data, asked.minimiser)?;
     }
     Ok(text)
 }
@@ -284,13 +320,13 @@ fn warnings(
 fn push_token_warnings(
     out: &mut String,
     alloc: Global,
-    reporter: &Reporter<'_>,
+    printer: &Printer<'_>,
     grm: &YaccGrammar<u32>,
     rules: &LexerRules,
 ) -> Result<(), AllocError> {
     for report in token_warnings(alloc, grm, rules.rules())? {
         let report = with_label_text(report, "no line of LEXER names this token")?;
-        reporter.push(out, alloc, &report)?;
+        printer.push(out, alloc, &report)?;
     }
     Ok(())
 }
@@ -299,25 +335,25 @@ fn push_token_warnings(
 fn push_sizes_note(
     out: &mut String,
     alloc: Global,
-    reporter: &Reporter<'_>,
+    printer: &Printer<'_>,
     table: &GrammarTable,
 ) -> Result<(), AllocError> {
     let mut text = String::new(alloc);
     push_sizes(&mut text, table)?;
-    reporter.push(out, alloc, &Report::new(alloc, Level::Note, text.as_str())?)
+    printer.push(out, alloc, &Report::new(alloc, Level::Note, text.as_str())?)
 }
 
 // Adds a note of more about the table.
 fn push_table_note(
     out: &mut String,
     alloc: Global,
-    reporter: &Reporter<'_>,
+    printer: &Printer<'_>,
     data: &ParserData<u32>,
     minimiser: Minimiser,
 ) -> Result<(), AllocError> {
     let mut text = String::new(alloc);
     push_table(&mut text, data, minimiser)?;
-    reporter.push(out, alloc, &Report::new(alloc, Level::Note, text.as_str())?)
+    printer.push(out, alloc, &Report::new(alloc, Level::Note, text.as_str())?)
 }
 
 // Parses the inputs, prints what comes of them, and returns how that ends. It's a success if each has a tree, and no error.
@@ -327,12 +363,13 @@ fn parse_inputs<R: Files, I: Read + Drop, O: Write, E: Write>(
     work: Work<'_>,
     table: &GrammarTable,
     rules: &LexerRules,
+    names: Option<Names>,
     input: I,
     out: &mut O,
     err: &mut E,
 ) -> Result<Status, Fault> {
     let plan = work.plan(table, rules);
-    let mut repairs = repairs_of(alloc, &plan)?;
+    let mut repairs = repairs_of(alloc, &plan, names)?;
     let mut stdin = Some(input);
     let mut are_clean = true;
     for path in &work.options.inputs {
@@ -347,8 +384,12 @@ fn parse_inputs<R: Files, I: Read + Drop, O: Write, E: Write>(
     Ok(Status::of(are_clean))
 }
 
-// What repairs the errors of inputs.
-fn repairs_of<'a>(alloc: Global, plan: &Plan<'a>) -> Result<Repairs<'a>, Fault> {
+// What repairs the errors of inputs, and what their messages call tokens and rules.
+fn repairs_of<'a>(
+    alloc: Global,
+    plan: &Plan<'a>,
+    names: Option<Names>,
+) -> Result<Repairs<'a>, Fault> {
     if plan.shifts == Some(0) {
         return Err(Fault::ZeroShifts);
     }
@@ -362,6 +403,8 @@ fn repairs_of<'a>(alloc: Global, plan: &Plan<'a>) -> Result<Repairs<'a>, Fault> 
     Ok(Repairs {
         searches,
         completer,
+        names,
+        wording: None,
     })
 }
 

@@ -1,9 +1,10 @@
 //! The rules of the lexer, or why there are none.
+use crate::printer::Printer;
 use crate::show::fault_of_report;
 use lrpar_grammar::grammar::YaccGrammar;
 use lrpar_lexer::{LexRule, rules_of};
 use lrpar_lexer_lrlex::{LrlexRules, rules_of_lrlex};
-use lrpar_report::{Reporter, lrlex_report, rules_report};
+use lrpar_report::{lrlex_report, rules_report};
 use program_files::fault::Fault;
 use std::alloc::Global;
 
@@ -38,14 +39,14 @@ impl LexerRules {
 /// The rules of a lexer's text. One with a line `%%` is a `.l` file of lrlex: no rule of the other form is such a line.
 pub fn lexer_rules(
     alloc: Global,
-    reporter: &Reporter<'_>,
+    printer: &Printer<'_>,
     grm: &YaccGrammar<u32>,
     text: &str,
 ) -> Result<LexerRules, Fault> {
     if has_rules_sign(text) {
-        state_rules(alloc, reporter, grm, text)
+        state_rules(alloc, printer, grm, text)
     } else {
-        line_rules(alloc, reporter, grm, text)
+        line_rules(alloc, printer, grm, text)
     }
 }
 
@@ -58,7 +59,7 @@ fn has_rules_sign(text: &str) -> bool {
 // The rules of a text with a rule on each line.
 fn line_rules(
     alloc: Global,
-    reporter: &Reporter<'_>,
+    printer: &Printer<'_>,
     grm: &YaccGrammar<u32>,
     text: &str,
 ) -> Result<LexerRules, Fault> {
@@ -66,7 +67,7 @@ fn line_rules(
         Ok(rules) => Ok(LexerRules::Lines(rules)),
         Err(fault) => {
             let report = rules_report(alloc, grm, text, &fault);
-            Err(fault_of_report(alloc, reporter, report))
+            Err(fault_of_report(alloc, printer, report))
         }
     }
 }
@@ -74,7 +75,7 @@ fn line_rules(
 // The rules of a `.l` file.
 fn state_rules(
     alloc: Global,
-    reporter: &Reporter<'_>,
+    printer: &Printer<'_>,
     grm: &YaccGrammar<u32>,
     text: &str,
 ) -> Result<LexerRules, Fault> {
@@ -82,7 +83,7 @@ fn state_rules(
         Ok(rules) => Ok(LexerRules::States(rules)),
         Err(fault) => {
             let report = lrlex_report(alloc, grm, text, &fault);
-            Err(fault_of_report(alloc, reporter, report))
+            Err(fault_of_report(alloc, printer, report))
         }
     }
 }

@@ -1,5 +1,6 @@
 //! Reports on standard error.
-use lrpar_report::{Report, Reporter};
+use crate::printer::Printer;
+use lrpar_report::Report;
 use program_files::fault::Fault;
 use std::alloc::{AllocError, Global};
 use std::io::Write;
@@ -20,10 +21,10 @@ pub fn write_messages<O: Write, E: Write>(
 /// The fault that shows this report about a text.
 pub(crate) fn fault_of_report(
     alloc: Global,
-    reporter: &Reporter<'_>,
+    printer: &Printer<'_>,
     report: Result<Report, AllocError>,
 ) -> Fault {
-    match shown(alloc, reporter, report) {
+    match shown(alloc, printer, report) {
         Ok(text) => Fault::of_message(text),
         Err(_) => Fault::Memory,
     }
@@ -32,12 +33,12 @@ pub(crate) fn fault_of_report(
 // The text of a report.
 fn shown(
     alloc: Global,
-    reporter: &Reporter<'_>,
+    printer: &Printer<'_>,
     report: Result<Report, AllocError>,
 ) -> Result<String, AllocError> {
     let report = report?;
     let mut text = String::new(alloc);
-    reporter.push(&mut text, alloc, &report)?;
+    printer.push(&mut text, alloc, &report)?;
     Ok(text)
 }
 
@@ -45,11 +46,11 @@ fn shown(
 pub fn push_reports(
     out: &mut String,
     alloc: Global,
-    reporter: &Reporter<'_>,
+    printer: &Printer<'_>,
     reports: &[Report],
 ) -> Result<(), AllocError> {
     for report in reports {
-        reporter.push(out, alloc, report)?;
+        printer.push(out, alloc, report)?;
     }
     Ok(())
 }

@@ -4,6 +4,7 @@ ghost use Rattle.lrpar_grammar_bison_rules.specs.Rules.{AreOfDefinedRules, HaveO
 use crate::declared::Declared;
 use crate::header::{Named, named_kind};
 use crate::kind::{GrammarKind, kind_by_look, looks_like_bison};
+use crate::printer::Printer;
 use crate::show::fault_of_report;
 use lrpar_grammar::grammar::{GrammarFault, YaccGrammar};
 use lrpar_grammar::span::Span;
@@ -12,7 +13,7 @@ use lrpar_grammar_bison_parts::grammar::BisonGrammar;
 use lrpar_grammar_bison_rules::rules::FileRules;
 use lrpar_grammar_yacc::file::{YaccFile, YaccFileFault};
 use lrpar_grammar_yacc::parts::YaccKind;
-use lrpar_report::{Report, Reporter, grammar_report, push_quoted, yacc_report};
+use lrpar_report::{Report, grammar_report, push_quoted, yacc_report};
 use lrpar_report_bison::bison_report;
 use program_files::fault::Fault;
 use std::alloc::{AllocError, Global};
@@ -28,18 +29,18 @@ pub(crate) struct Source<'a> {
 /// if it can be read as one; otherwise it is of the kind that it looks like.
 pub(crate) fn source_of<'a>(
     alloc: Global,
-    reporter: &Reporter<'_>,
+    printer: &Printer<'_>,
     text: &'a str,
     kind: Option<GrammarKind>,
 ) -> Result<Source<'a>, Fault> {
     match kind {
-        Some(kind) => by_kind(alloc, reporter, text, kind),
+        Some(kind) => by_kind(alloc, printer, text, kind),
         None => match named_kind(alloc, text)? {
-            Named::Kind(kind) => by_kind(alloc, reporter, text, kind),
-            Named::Nothing => by_look(alloc, reporter, text),
+            Named::Kind(kind) => by_kind(alloc, printer, text, kind),
+            Named::Nothing => by_look(alloc, printer, text),
             Named::Unknown(span) => {
                 let report = unknown_kind(alloc, text, span);
-                Err(fault_of_report(alloc, reporter, report))
+                Err(fault_of_report(alloc, printer, report))
             }
         },
     }
@@ -48,30 +49,30 @@ pub(crate) fn source_of<'a>(
 // The grammar of a file of this kind.
 fn by_kind<'a>(
     alloc: Global,
-    reporter: &Reporter<'_>,
+    printer: &Printer<'_>,
     text: &'a str,
     kind: GrammarKind,
 ) -> Result<Source<'a>, Fault> {
     match kind {
-        GrammarKind::Yacc(kind) => by_yacc(alloc, reporter, text, kind),
-        GrammarKind::Bison => by_bison(alloc, reporter, text),
+        GrammarKind::Yacc(kind) => by_yacc(alloc, printer, text, kind),
+        GrammarKind::Bison => by_bison(alloc, printer, text),
         GrammarKind::Profile => match YaccGrammar::new_with_storaget(alloc, text) {
             Ok(grammar) => Ok(plain(alloc, grammar)),
-            Err(fault) => Err(refused(alloc, reporter, text, &fault)),
+            Err(fault) => Err(refused(alloc, printer, text, &fault)),
         },
     }
 }
 
 // The grammar of a file of the kind that it looks like.
-fn by_look<'a>(alloc: Global, reporter: &Reporter<'_>, text: &'a str) -> Result<Source<'a>, Fault> {
+fn by_look<'a>(alloc: Global, printer: &Printer<'_>, text: &'a str) -> Result<Source<'a>, Fault> {
     match YaccGrammar::new_with_storaget(alloc, text) {
         Ok(grammar) => Ok(plain(alloc, grammar)),
         Err(GrammarFault::Memory) => Err(Fault::Memory),
         Err(fault) => match kind_by_look(text) {
-            Some(kind) => by_yacc_or_bison(alloc, reporter, text, kind),
+            Some(kind) => by_yacc_or_bison(alloc, printer, text, kind),
             None => {
-                let otherwise = refused(alloc, reporter, text, &fault);
-                by_bison_or(alloc, reporter, text, otherwise)
+                let otherwise = refused(alloc, printer, text, &fault);
+                by_bison_or(alloc, printer, text, otherwise)
             }
         },
     }
@@ -81,7 +82,7 @@ fn by_look<'a>(alloc: Global, reporter: &Reporter<'_>, text: &'a str) -> Result<
 // such a file is one of bison only if it looks like that.
 fn by_yacc_or_bison<'a>(
     alloc: Global,
-    reporter: &Reporter<'_>,
+    printer: &Printer<'_>,
     text: &'a str,
     kind: YaccKind,
 ) -> Result<Source<'a>, Fault> {
@@ -89,15 +90,11 @@ fn by_yacc_or_bison<'a>(
         Ok(file) => of_yacc(alloc, file),
         Err(fault) => {
             let is_name = matches!(fault, YaccFileFault::UnknownToken(_));
-            let otherwise = fault_of_report(
-                alloc,
-                reporter,
-                yacc_report(alloc, kind, text, &fault),
-            );
+            let otherwise = fault_of_report(alloc, printer, yacc_report(alloc, kind, text, &fault));
             if is_name && !looks_like_bison(text) {
                 Err(otherwise)
             } else {
-                by_bison_or(alloc, reporter, text, otherwise)
+                by_bison_or(alloc, printer, text, otherwise)
             }
         }
     }
@@ -106,11 +103,11 @@ fn by_yacc_or_bison<'a>(
 // The grammar of a file of bison; or this fault, if it is no such file and doesn't look like one.
 fn by_bison_or<'a>(
     alloc: Global,
-    reporter: &Reporter<'_>,
+    printer: &Printer<'_>,
     text: &'a str,
     otherwise: Fault,
 ) -> Result<Source<'a>, Fault> {
-    match by_bison(alloc, reporter, text) {
+    match by_bison(alloc, printer, text) {
         Err(fault) if !looks_like_bison(text) => {
             drop(fault);
             Err(otherwise)
@@ -128,14 +125,14 @@ fn plain<'a>(alloc: Global, grammar: YaccGrammar<u32>) -> Source<'a> {
 }
 
 // The fault of a grammar text.
-fn refused(alloc: Global, reporter: &Reporter<'_>, text: &str, fault: &GrammarFault) -> Fault {
-    fault_of_report(alloc, reporter, grammar_report(alloc, text, fault))
+fn refused(alloc: Global, printer: &Printer<'_>, text: &str, fault: &GrammarFault) -> Fault {
+    fault_of_report(alloc, printer, grammar_report(alloc, text, fault))
 }
 
 // The grammar of a `.y` file of lrpar, of this kind.
 fn by_yacc<'a>(
     alloc: Global,
-    reporter: &Reporter<'_>,
+    printer: &Printer<'_>,
     text: &'a str,
     kind: YaccKind,
 ) -> Result<Source<'a>, Fault> {
@@ -143,7 +140,7 @@ fn by_yacc<'a>(
         Ok(file) => of_yacc(alloc, file),
         Err(fault) => {
             let report = yacc_report(alloc, kind, text, &fault);
-            Err(fault_of_report(alloc, reporter, report))
+            Err(fault_of_report(alloc, printer, report))
         }
     }
 }
@@ -156,21 +153,17 @@ fn of_yacc<'a>(alloc: Global, file: YaccFile<'a, u32>) -> Result<Source<'a>, Fau
 }
 
 // The grammar of a `.y` file of bison.
-fn by_bison<'a>(
-    alloc: Global,
-    reporter: &Reporter<'_>,
-    text: &'a str,
-) -> Result<Source<'a>, Fault> {
+fn by_bison<'a>(alloc: Global, printer: &Printer<'_>, text: &'a str) -> Result<Source<'a>, Fault> {
     match FileRules::read(alloc, text) {
-        Ok(rules) => by_rules(alloc, reporter, text, &rules),
-        Err(fault) => Err(refused_by_bison(alloc, reporter, text, &BisonFault::from(fault))),
+        Ok(rules) => by_rules(alloc, printer, text, &rules),
+        Err(fault) => Err(refused_by_bison(alloc, printer, text, &BisonFault::from(fault))),
     }
 }
 
 // The grammar that the declarations and rules of a file of bison make.
 fn by_rules<'a>(
     alloc: Global,
-    reporter: &Reporter<'_>,
+    printer: &Printer<'_>,
     text: &str,
     rules: &FileRules<'a>,
 ) -> Result<Source<'a>, Fault>
@@ -181,28 +174,23 @@ fn by_rules<'a>(
         Ok(BisonGrammar { parts, precedences }) => {
             let grammar = match YaccGrammar::from_parts(alloc, parts) {
                 Ok(grammar) => grammar,
-                Err(fault) => return Err(refused(alloc, reporter, text, &fault)),
+                Err(fault) => return Err(refused(alloc, printer, text, &fault)),
             };
             match Declared::of_rules(alloc, &grammar, rules, precedences)? {
                 Ok(declared) => Ok(Source { grammar, declared }),
                 Err(word) => {
                     let report = no_number(alloc, word.span());
-                    Err(fault_of_report(alloc, reporter, report))
+                    Err(fault_of_report(alloc, printer, report))
                 }
             }
         }
-        Err(fault) => Err(refused_by_bison(alloc, reporter, text, &fault)),
+        Err(fault) => Err(refused_by_bison(alloc, printer, text, &fault)),
     }
 }
 
 // The fault of a `.y` file of bison.
-fn refused_by_bison(
-    alloc: Global,
-    reporter: &Reporter<'_>,
-    text: &str,
-    fault: &BisonFault,
-) -> Fault {
-    fault_of_report(alloc, reporter, bison_report(alloc, text, fault))
+fn refused_by_bison(alloc: Global, printer: &Printer<'_>, text: &str, fault: &BisonFault) -> Fault {
+    fault_of_report(alloc, printer, bison_report(alloc, text, fault))
 }
 
 // The report of a number of conflicts that is none.

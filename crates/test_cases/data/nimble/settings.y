@@ -1,0 +1,3 @@
+%% File: | File Setting;
+Setting: 'NAME' '=' Number ';';
+Number: 'DIGITS' | Number '+' 'DIGITS';
