@@ -251,11 +251,14 @@ refuse_each_call_of_nimbleparse 2 '' "nimbleparse: unexpected argument '--minimi
 " --minimize pager
 refuse_each_call_of_nimbleparse 1 '' "$work/text:1:3: error: unexpected 'n', expected '+' or ')'
 1| (nn
-     ^
-repairs that were found, of which the first is taken:
-   1: Insert ), Insert +
-   2: Insert ), Delete n
-   3: Insert +, Shift n, Insert )
+   - ^
+   |
+   this isn't closed
+help: replace 'n' by ')'
+1| (n)
+     ~
+help: or insert '+'
+help: or delete 'n'
 " -q "$work/brackets.lex" "$work/brackets.y" "$work/text"
 refuse_each_call_of_nimbleparse 0 'E[ "(" E[ N "n" ] ")" ]
 ' "$work/brackets.y: note: rules 2, productions 4, tokens 5, states 14, least cap 1

@@ -1,10 +1,11 @@
-"""Compares the first repair that `nimbleparse` prints for each mistake of mistakes.json with the fix that a person wanted before looking.
+"""Compares the first fix that `nimbleparse` offers for each mistake of mistakes.json with the one that a person wanted before looking.
 
-    mistakes.py --nimbleparse NIMBLEPARSE GRAMMARS [LANGUAGE ..]
+    mistakes.py --nimbleparse NIMBLEPARSE [-v] GRAMMARS [LANGUAGE ..]
 
-GRAMMARS is a folder with json, ansic and lua as NAME.lex and NAME.y. Prints for each language how many mistakes it has, at how many of them the
-first error is where a parser that reads from left to right can notice it, and for how many the first repair, and one of the first three, is
-wanted. Blanks don't count. Mistakes with two fixes are left out of the last two numbers.
+GRAMMARS is a folder with json, ansic and lua as NAME.lex and NAME.y. Prints for each language how many mistakes it has; for how many the first
+message is at the token where a parser that reads from left to right can notice it, at the place that was wanted, at that of another tool, or in
+the gap before one of these; and for how many the first fix, and one of the first three, is wanted. Blanks don't count. Mistakes with two fixes
+are left out of the last two numbers. With -v it prints the others, too.
 """
 import argparse
 import json
@@ -20,9 +21,6 @@ SETTINGS = (
     "[a-z_]+ 'NAME'\n[0-9]+ 'DIGITS'\n= '='\n\\+ '+'\n; ';'\n[ \\t\\r\\n]+ ;\n",
 )
 NAMES = {"json": "json", "c": "ansic", "lua": "lua", "settings": "settings"}
-ERROR = re.compile(r":(\d+):(\d+): error: ")
-REPAIR = re.compile(r"^\s+\d+: (.*)$", re.M)
-STEP = re.compile(r"(Insert|Delete|Shift) (.*?)(?=, (?:Insert|Delete|Shift) |$)")
 META = re.compile(r"(?<!\\)[\[\](){}*+?.|^$]")
 
 
@@ -61,22 +59,14 @@ def byte_of(text, line, column):
     return sum(len(it) + 1 for it in text.split("\n")[: line - 1]) + column - 1
 
 
-def mended(lexer, text, byte, repair):
-    """the text after the steps of a repair, as they are printed, from the lexeme at this byte on"""
-    lexemes, edits = lexer.lexemes(text), []
-    place = next((at for at, it in enumerate(lexemes) if it[0] >= byte), len(lexemes))
-    gap = lexemes[place - 1][1] if place else 0
-    for kind, what in STEP.findall(repair):
-        if kind == "Insert":
-            edits.append((gap, gap, f" {lexer.texts.get(what, what)} "))
-            continue
-        end = lexemes[place][0] + len(what.replace("\\n", "\n")) if place < len(lexemes) else len(text)
-        while place < len(lexemes) and lexemes[place][0] < end:
-            if kind == "Delete":
-                edits.append((lexemes[place][0], lexemes[place][1], ""))
-            gap = lexemes[place][1]
-            place += 1
-    for start, end, new in sorted(edits, reverse=True, key=lambda it: it[:2]):
+def mended(lexer, mistake, error, fix):
+    """the text after the edits of a fix; one without edits that only inserts puts in what stands for its token"""
+    text = mistake["text"]
+    edits = [(it["start"], it["end"], it["text"]) for it in fix["edits"]]
+    if not edits:
+        at = error["labels"][0]["start"]
+        edits = [(at, at, f" {mistake.get('placeholder', '')} ")]
+    for start, end, new in reversed(edits):
         text = text[:start] + new + text[end:]
     return text
 
@@ -94,39 +84,49 @@ def is_wanted(lexer, mistake, text):
 
 
 def first_error(words, text, folder):
-    """the line and the column of the first error, and its repairs"""
+    """the first error that nimbleparse reports"""
     path = os.path.join(folder, "text")
     with open(path, "w", encoding="utf-8") as out:
         out.write(text)
     said = subprocess.run([*words, path], capture_output=True, text=True, check=False).stderr
-    errors = list(ERROR.finditer(said))
-    if not errors:
-        return None
-    block = said[errors[0].end() : errors[1].start() if len(errors) > 1 else len(said)]
-    return int(errors[0][1]), int(errors[0][2]), REPAIR.findall(block)
+    return next((it for it in map(json.loads, said.splitlines()) if it["severity"] == "error"), None)
 
 
-def count(mistakes, lexer, words, folder):
-    """how many mistakes there are, are found where they can be, have the wanted repair first, and have it among those that are shown"""
+def is_placed(lexer, mistake, error):
+    """whether the error is at a token, or in the gap before one, that was written down"""
+    text, label = mistake["text"], error["labels"][0]
+    places = [*mistake.get("wanted_tokens", [mistake["wanted_token"]]), mistake["wanted_place"], mistake["tool_place"], mistake.get("tool2_place")]
+    starts = [byte_of(text, *map(int, it.split(":"))) for it in places if it]
+    lexemes = lexer.lexemes(text)
+    here = next((it[0] for it in lexemes if it[0] >= label["start"]), len(text))
+    return any(here == next((it[0] for it in lexemes if it[0] >= start), len(text)) for start in starts)
+
+
+def count(mistakes, lexer, words, folder, is_verbose):
+    """how many mistakes there are, are found where they can be, have the wanted fix first, and have it among those that are shown"""
     counts = [0, 0, 0, 0]
     for mistake in mistakes:
         counts[0] += 1
-        found = first_error(words, mistake["text"], folder)
-        if found is None:
+        error = first_error(words, mistake["text"], folder)
+        if error is None:
             continue
-        line, column, repairs = found
-        counts[1] += f"{line}:{column}" == mistake.get("wanted_tokens", [mistake["wanted_token"]])[0]
-        if "wanted_fixes" not in mistake:
-            byte = byte_of(mistake["text"], line, column)
-            wanted = [is_wanted(lexer, mistake, mended(lexer, mistake["text"], byte, it)) for it in repairs]
-            counts[2] += wanted[:1] == [True]
-            counts[3] += any(wanted)
+        placed = is_placed(lexer, mistake, error)
+        counts[1] += placed
+        if "wanted_fixes" in mistake:
+            continue
+        wanted = [is_wanted(lexer, mistake, mended(lexer, mistake, error, it)) for it in error["fixes"]]
+        counts[2] += wanted[:1] == [True]
+        counts[3] += any(wanted)
+        if is_verbose and not (placed and wanted[:1] == [True]):
+            said = [it["message"] for it in error["fixes"]]
+            print(f"{mistake['name']}: {'' if placed else 'elsewhere; '}{error['message']}; {said}, wanted {mistake['wanted_fix']}")
     return counts
 
 
 def main():
     parser = argparse.ArgumentParser(description=__doc__.split("\n", 1)[0])
     parser.add_argument("--nimbleparse", required=True)
+    parser.add_argument("-v", action="store_true")
     parser.add_argument("grammars")
     parser.add_argument("languages", nargs="*", default=list(NAMES))
     given = parser.parse_args()
@@ -137,10 +137,10 @@ def main():
                 out.write(text)
         for language in given.languages:
             base = os.path.join(folder if language == "settings" else given.grammars, NAMES[language])
-            words = [given.nimbleparse, "-q", base + ".lex", base + ".y"]
+            words = [given.nimbleparse, "-q", "--messages-format", "json", base + ".lex", base + ".y"]
             of_language = [it for it in mistakes if it["language"] == language]
-            counts = count(of_language, Lexer(base + ".lex"), words, folder)
-            print(f"{language}: {counts[0]} mistakes, {counts[1]} found where they can be; wanted first {counts[2]}, shown {counts[3]}", flush=True)
+            counts = count(of_language, Lexer(base + ".lex"), words, folder, given.v)
+            print(f"{language}: {counts[0]} mistakes, {counts[1]} at a known place; the wanted fix first {counts[2]}, shown {counts[3]}", flush=True)
 
 
 if __name__ == "__main__":

@@ -1,5 +1,7 @@
 """Completed: over a grammar whose table is complete and whose rules derive texts, `nimbleparse -r complete` has a tree for each list of
 lexemes, and each error lists a repair."""
+import re
+
 import answers
 from case import expect
 from grammars import any_grammar, heights, ladder_grammar, leading_grammar, layered_grammar, random_grammar
@@ -8,9 +10,9 @@ from texts import any_tokens, language_of, text_by
 KINDS = (leading_grammar, leading_grammar, ladder_grammar, layered_grammar, random_grammar)
 LIMITS = ("0", "1", "10", "100", None)
 SHIFTS = ("1", "2", "9", "1000", None, None, None)
-# What stands before the first repair of an error, and in place of repairs.
-LISTED = "repairs that were found, of which the first is taken:"
-UNREPAIRED = "no repair"
+# What stands before the first fix of an error, and in place of fixes.
+FIXED = re.compile(r"^help: (?!or )", re.M)
+UNREPAIRED = "note: no repair"
 # What says why there is no completion.
 REFUSED = "note: an error may have no repair: "
 
@@ -66,4 +68,4 @@ def see_repaired(grammar, text, out, err):
     rest = iter(text.slice(at) for at in range(len(text.tokens)))
     expect(all(slice in rest for slice in kept), "lexemes of the text, in order", (kept, text.text))
     found = err.count("error: ")
-    expect(err.count(LISTED) == found and UNREPAIRED not in err.replace(LISTED, ""), f"a repair of each of {found} errors", err)
+    expect(len(FIXED.findall(err)) == found and UNREPAIRED not in err, f"a fix of each of {found} errors", err)
