@@ -24,7 +24,6 @@ use std::alloc::{AllocError, Global};
 use std::io::Write;
 
 /// What repairs the errors of inputs, and what their messages call tokens and rules.
-#[derive(Drop)]
 pub(crate) struct Repairs<'a> {
     /// The searches, if any are asked for.
     pub(crate) searches: Option<Searches>,
@@ -33,6 +32,22 @@ pub(crate) struct Repairs<'a> {
     pub(crate) names: Option<Names>,
     /// The words of messages, once there is an error.
     pub(crate) wording: Option<Wording<u32>>,
+}
+
+// Hand-written, so that code that drops one needs the proof of one call only.
+impl<'a> Drop for Repairs<'a> {
+    fn drop(self) {
+        let Repairs {
+            searches,
+            completer,
+            names,
+            wording,
+        } = self;
+        drop(searches);
+        drop(completer);
+        drop(names);
+        drop(wording);
+    }
 }
 
 impl<'a> Repairs<'a> {
@@ -75,14 +90,40 @@ pub(crate) fn parse<'a, O: Write, E: Write>(
     let lexer = lex(alloc, plan, input.text)?;
     let (tree, errors) = parse_lexemes(alloc, repairs, plan, &lexer, out, err)?;
     if !errors.is_empty() {
-        let wording = repairs.make_wording(alloc, plan)?;
-        let text = errors_text(alloc, plan, wording, input, &lexer, &errors)?;
-        write_messages(out, err, text.as_str())?;
+        write_errors(alloc, repairs, plan, input, &lexer, &errors, out, err)?;
     }
+    let has_tree = print_if_any(alloc, plan, input, tree.as_ref(), out)?;
+    Ok(has_tree && errors.is_empty())
+}
+
+// Writes messages of the errors.
+fn write_errors<'a, O: Write, E: Write>(
+    alloc: Global,
+    repairs: &mut Repairs<'a>,
+    plan: &Plan<'a>,
+    input: Input<'_>,
+    lexer: &ListLexer<'_>,
+    errors: &[TextError],
+    out: &mut O,
+    err: &mut E,
+) -> Result<(), Fault> {
+    let wording = repairs.make_wording(alloc, plan)?;
+    let text = errors_text(alloc, plan, wording, input, lexer, errors)?;
+    write_messages(out, err, text.as_str())
+}
+
+// Prints the tree, if there is one, and returns whether there is.
+fn print_if_any<O: Write>(
+    alloc: Global,
+    plan: &Plan<'_>,
+    input: Input<'_>,
+    tree: Option<&Tree>,
+    out: &mut O,
+) -> Result<bool, Fault> {
     match tree {
         Some(tree) => {
-            print_tree(alloc, plan, input, &tree, out)?;
-            Ok(errors.is_empty())
+            print_tree(alloc, plan, input, tree, out)?;
+            Ok(true)
         }
         None => Ok(false),
     }
