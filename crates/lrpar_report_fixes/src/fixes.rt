@@ -1,6 +1,6 @@
 //! Fixes by repair sequences.
 use crate::changes::Change;
-use crate::spacing::needs_blank;
+use crate::spacing::{join_words, needs_blank};
 use crate::subject::Subject;
 use crate::words::push_words;
 use lrpar_grammar::span::StorageIndex;
@@ -8,8 +8,8 @@ use lrpar_report::{Fix, part_of};
 use std::alloc::{AllocError, Global};
 
 /// The fix that makes these changes: `insert ';'`, `delete 'x'`, `replace 'esle' by 'else'`. What comes in place of lexemes that go is part of one
-/// edit. A token is inserted right after the lexeme before it, with a blank where its text and what is beside it would be one word. If a
-/// token that comes has no text of its own, such as a name, the fix says what to do, and has no edits.
+/// edit. A token is inserted right after the lexeme before it. Where two words would become one, or signs would look like one, a blank comes
+/// between them. If a token that comes has no text of its own, such as a name, the fix says what to do, and has no edits.
 pub(crate) fn fix_of<StorageT: StorageIndex>(
     alloc: Global,
     subject: Subject<'_, StorageT>,
@@ -65,10 +65,19 @@ fn with_edit<StorageT: StorageIndex>(
         text.push_str(word)?;
         last = word.chars().next_back();
     }
-    if !change.tokens.is_empty() {
-        push_blank(&mut text, last, rest.chars().next())?;
+    let next = rest.chars().next();
+    if !change.tokens.is_empty() || are_joined(last, next) {
+        push_blank(&mut text, last, next)?;
     }
     fix.edit(span, text.as_str())
+}
+
+// Whether two words become one, if nothing comes between these characters.
+fn are_joined(before: Option<char>, after: Option<char>) -> bool {
+    match (before, after) {
+        (Some(before), Some(after)) => join_words(before, after),
+        (None, _) | (_, None) => false,
+    }
 }
 
 // Adds a blank, if one comes between these characters.

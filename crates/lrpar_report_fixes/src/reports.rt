@@ -44,25 +44,28 @@ pub(crate) fn report_with_fixes<LexemeT: Lexeme<StorageT>, StorageT: StorageInde
     with_fixes(alloc, subject, &ways, report)
 }
 
-/// The report of an error at a place, at which these may come, with its first repairs as fixes.
+/// The report of an error at a place with its first repairs as fixes, without what may come.
 pub(crate) fn report_with_repairs<LexemeT: Lexeme<StorageT>, StorageT: StorageIndex>(
     alloc: Global,
     subject: Subject<'_, StorageT>,
-    choices: &Choices<StorageT>,
     place: usize,
     error: &ParseError<LexemeT, StorageT>,
 ) -> Result<Report, AllocError>
     ensures level { IfOk result (λ report. report.level ≡ Error) }
 {
+    let unknown = Choices {
+        rules: Vec::new(alloc),
+        tokens: Vec::new(alloc),
+    };
     let lexeme = error.lexeme();
     let found = Found::new(subject, place, TIdx(lexeme.tok_id()), lexeme.span());
     let ways = repairing_ways(alloc, subject, place, error.repairs())?;
     match ways.first() {
         Some(first) => {
-            let report = titled(alloc, subject, choices, found, first)?;
+            let report = titled(alloc, subject, &unknown, found, first)?;
             with_fixes(alloc, subject, &ways, report)
         }
-        None => unexpected(alloc, subject, choices, found),
+        None => unexpected(alloc, subject, &unknown, found),
     }
 }
 
@@ -140,7 +143,7 @@ fn unexpected<StorageT: StorageIndex>(
     ensures level { IfOk result (λ report. report.level ≡ Error) }
 {
     let (front, label) = match found.is_unmatched {
-        true => ("unknown text ", "no rule of the lexer matches here"),
+        true => ("unknown text ", "the lexer gives no token here"),
         false => ("unexpected ", ""),
     };
     let mut message = String::from_str(alloc, front)?;

@@ -1,8 +1,13 @@
 //! Blanks between tokens that are inserted and the text around them.
 
-/// Whether a blank comes between a character and the one after it.
+/// Whether both characters are in one word, if nothing comes between them.
+pub(crate) fn join_words(before: char, after: char) -> bool {
+    is_in_word(before) && is_in_word(after)
+}
+
+/// Whether a blank comes between a character and the one after it, if one of both is inserted.
 pub(crate) fn needs_blank(before: char, after: char) -> bool {
-    if is_in_word(before) && is_in_word(after) {
+    if join_words(before, after) {
         return true;
     }
     if before.is_whitespace() || after.is_whitespace() {

@@ -7,8 +7,8 @@ use crate::lexemes::TextLexemes;
 use crate::reports::{report_with_fixes, report_with_repairs};
 use crate::subject::Subject;
 use crate::wording::Wording;
-use lrpar_grammar::span::{RIdx, StorageIndex, TIdx};
-use lrpar_names::{Choices, candidate_rules};
+use lrpar_grammar::span::{StorageIndex, TIdx};
+use lrpar_names::Choices;
 use lrpar_parse_errors::errors::ParseError;
 use lrpar_parse_lexemes::lex_api::Lexeme;
 use lrpar_report::Report;
@@ -84,17 +84,17 @@ impl<'a, StorageT: StorageIndex> TextReports<'a, StorageT> {
         })
     }
 
-    /// The report of the next error, with at most three fixes. What is expected are the tokens that can be fed at the error, as few names say
-    /// them: a rule with a name for people stands for all tokens that it can begin with, where an item goes on with it. If the error lists repairs, the fixes are the
-    /// likeliest changes of one lexeme, the error's or one of the two before it, after which the parse goes on, and then the first repairs. If
-    /// the first fix only inserts, the report points right after the lexeme before, and says `expected A or B before 'LEXEME'`; else it points
+    /// The report of the next error, with at most three fixes. It says which tokens are expected: those that can be fed at the error. Where an
+    /// item goes on with a rule that has a name for people, that name replaces all tokens with which the rule can begin.
+    ///
+    /// If the error lists repairs, the fixes are the likeliest changes of one lexeme, the error's or one of the two before it, after which the
+    /// parse goes on, and then the first repairs. If the first fix only inserts, the report points right after the lexeme before, and says `expected A or B before 'LEXEME'`; else it points
     /// to the error's lexeme, and says `unexpected 'LEXEME', expected A or B`. A lexeme that no rule of the lexer takes is
     /// `unknown text 'LEXEME'`, and the end of the text is `end of input`. If the first fix closes a bracket, a second label shows where that
     /// was opened.
     ///
     /// The errors have to come in the order of the parse, each once: a report looks at the lexemes as they are after the first repairs of the
-    /// errors before. After 25 errors a report offers repairs alone, and names the tokens at which the error's state has an action; before
-    /// that it takes the time of [`lrpar_parse_suggestions::suggestions`] and time linear in the number of lexemes. `Err`: out of
+    /// errors before. After 25 errors a report offers repairs alone, and doesn't say what is expected; before that it takes the time of [`lrpar_parse_suggestions::suggestions`] and time linear in the number of lexemes. `Err`: out of
     /// memory; reports of later errors may then be of less use.
     pub fn report<LexemeT: Lexeme<StorageT>>(
         &mut self,
@@ -107,8 +107,7 @@ impl<'a, StorageT: StorageIndex> TextReports<'a, StorageT> {
         let is_close = self.count < MOST_CLOSE_LOOKS;
         self.count = self.count.saturating_add(1);
         if !is_close {
-            let choices = self.choices_of_state(alloc, error)?;
-            return report_with_repairs(alloc, self.subject(), &choices, place, error);
+            return report_with_repairs(alloc, self.subject(), place, error);
         }
         let choices = self.choices_at(alloc, place)?;
         let report = report_with_fixes(alloc, self.subject(), &choices, place, error)?;
@@ -139,39 +138,18 @@ impl<'a, StorageT: StorageIndex> TextReports<'a, StorageT> {
         }
     }
 
-    // Few names for the tokens at which the state of an error has an action.
-    fn choices_of_state<LexemeT: Lexeme<StorageT>>(
-        &self,
-        alloc: Global,
-        error: &ParseError<LexemeT, StorageT>,
-    ) -> Result<Choices<StorageT>, AllocError> {
-        let expected = Vec::from_slice(alloc, error.expected(self.data))?;
-        let rules = candidate_rules(alloc, self.data.grm(), self.data.sgraph(), error.stidx())?;
-        self.choices_but_hidden(alloc, &rules, expected)
-    }
-
     // Few names for what may come at a place.
     fn choices_at(&self, alloc: Global, place: usize) -> Result<Choices<StorageT>, AllocError> {
         let tokens = self.lexemes.tokens();
         let stack = stack_after(alloc, self.data, tokens.get(..place).unwrap_or(tokens))?;
         let expected = self.data.expected(alloc, &stack)?;
         let rules = rules_at(alloc, self.data, &stack, &expected)?;
-        self.choices_but_hidden(alloc, &rules, expected)
-    }
-
-    // Few names for the tokens but the hidden one, where items go on with these rules.
-    fn choices_but_hidden(
-        &self,
-        alloc: Global,
-        rules: &[RIdx<StorageT>],
-        expected: Vec<TIdx<StorageT>>,
-    ) -> Result<Choices<StorageT>, AllocError> {
         let mut named = Vec::with_capacity(alloc, expected.len())?;
         for token in &expected {
             if !self.wording.is_hidden(*token) {
                 named.push(*token)?;
             }
         }
-        self.wording.choices(alloc, rules, &named)
+        self.wording.choices(alloc, &rules, &named)
     }
 }
