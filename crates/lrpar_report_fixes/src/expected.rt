@@ -2,14 +2,34 @@
 ghost use Rattle.std.specs.Prelude.{IfOk};
 ghost use Rattle.lrpar_table_check.specs.CheckedStacks.{AreExpectedOn, FormStack, HasStack};
 
+use crate::wording::Wording;
 use lrpar_grammar::span::{RIdx, StIdx, StorageIndex, TIdx};
-use lrpar_names::candidate_rules;
+use lrpar_names::{Choices, candidate_rules};
 use lrpar_table::check::ParserData;
 use lrpar_table_stacks::overlay::Overlay;
 use std::alloc::{AllocError, Global};
 
-/// The stack of a parse after these tokens, as far as they can be fed.
-pub(crate) fn stack_after<StorageT: StorageIndex>(
+/// Few names for what may come after these tokens, as far as they can be fed.
+pub(crate) fn choices_after<StorageT: StorageIndex>(
+    alloc: Global,
+    data: &ParserData<StorageT>,
+    wording: &Wording<StorageT>,
+    before: &[TIdx<StorageT>],
+) -> Result<Choices<StorageT>, AllocError> {
+    let stack = stack_after(alloc, data, before)?;
+    let expected = data.expected(alloc, &stack)?;
+    let rules = rules_at(alloc, data, &stack, &expected)?;
+    let mut named = Vec::with_capacity(alloc, expected.len())?;
+    for token in &expected {
+        if !wording.is_hidden(*token) {
+            named.push(*token)?;
+        }
+    }
+    wording.choices(alloc, &rules, &named)
+}
+
+// The stack of a parse after these tokens, as far as they can be fed.
+fn stack_after<StorageT: StorageIndex>(
     alloc: Global,
     data: &ParserData<StorageT>,
     tokens: &[TIdx<StorageT>],
@@ -53,8 +73,8 @@ fn feed<StorageT: StorageIndex>(
     data.feed(stack, token)
 }
 
-/// The rules with which items go on where one of the tokens comes at the stack: in the state that takes it, after all reductions.
-pub(crate) fn rules_at<StorageT: StorageIndex>(
+// The rules with which items go on where one of the tokens comes at the stack: in the state that takes it, after all reductions.
+fn rules_at<StorageT: StorageIndex>(
     alloc: Global,
     data: &ParserData<StorageT>,
     stack: &[StIdx<StorageT>],

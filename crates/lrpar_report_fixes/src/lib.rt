@@ -3,6 +3,7 @@
 
 mod changes;
 mod expected;
+mod filling;
 mod fixes;
 mod lexemes;
 mod openers;

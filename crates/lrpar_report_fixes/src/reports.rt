@@ -3,13 +3,14 @@ ghost use Rattle.std.specs.Prelude.{◌≡◌, IfOk};
 ghost use Rattle.lrpar_report_lines.specs.declared.levels.Level.TheVariants.{Error};
 
 use crate::changes::Change;
+use crate::filling::push_filled;
 use crate::fixes::fix_of;
 use crate::openers::closed_bracket;
 use crate::scene::Scene;
 use crate::subject::Subject;
 use crate::ways::{repairing_ways, ways_of};
 use crate::words::{push_shortened, push_tokens, text_at};
-use lrpar_grammar::span::{Span, StorageIndex, TIdx};
+use lrpar_grammar::span::{Span, StIdx, StorageIndex, TIdx};
 use lrpar_names::{Choices, push_choices};
 use lrpar_parse_errors::errors::ParseError;
 use lrpar_parse_lexemes::lex_api::Lexeme;
@@ -37,9 +38,11 @@ pub(crate) fn report_with_fixes<LexemeT: Lexeme<StorageT>, StorageT: StorageInde
     let scene = Scene::new(alloc, subject, place)?;
     let ways = ways_of(alloc, &scene, error.repairs())?;
     let Some(first) = ways.first() else {
-        return unexpected(alloc, subject, choices, found);
+        let report = unexpected(alloc, subject, choices, found)?;
+        return with_message(alloc, subject, choices, found, error.stidx(), report);
     };
     let report = titled(alloc, subject, choices, found, first)?;
+    let report = with_message(alloc, subject, choices, found, error.stidx(), report)?;
     let report = with_opener(&scene, first, report)?;
     with_fixes(alloc, subject, &ways, report)
 }
@@ -131,6 +134,60 @@ fn titled<StorageT: StorageIndex>(
         }
         _ => unexpected(alloc, subject, choices, found),
     }
+}
+
+// The report with the message that the catalogue has for an error in this state, if it has one, in place of its own. A text that no rule of
+// the lexer takes keeps its own.
+fn with_message<StorageT: StorageIndex>(
+    alloc: Global,
+    subject: Subject<'_, StorageT>,
+    choices: &Choices<StorageT>,
+    found: Found,
+    state: StIdx<StorageT>,
+    report: Report,
+) -> Result<Report, AllocError>
+    ensures level { IfOk result (λ new. new.level ≡ report.level) }
+{
+    let Some(messages) = &subject.wording.messages else {
+        return Ok(report);
+    };
+    match messages.of(subject.data.sgraph(), state) {
+        Some(text) if !found.is_unmatched => {
+            let mut report = report;
+            report.message = filled(alloc, subject, choices, found, text)?;
+            Ok(report)
+        }
+        Some(_) | None => Ok(report),
+    }
+}
+
+// The text of a message with the lexeme in place of `{found}`, what is expected in place of `{expected}`, and the lexeme before in place of
+// `{before}`.
+fn filled<StorageT: StorageIndex>(
+    alloc: Global,
+    subject: Subject<'_, StorageT>,
+    choices: &Choices<StorageT>,
+    found: Found,
+    text: &str,
+) -> Result<String, AllocError> {
+    let mut lexeme = String::new(alloc);
+    found.push(&mut lexeme, subject.text)?;
+    let mut expected = String::new(alloc);
+    push_choices(&mut expected, subject.grm(), &subject.wording.names, choices)?;
+    let mut before = String::new(alloc);
+    match found.place.checked_sub(1) {
+        Some(place) => push_shortened(&mut before, text_at(subject.text, subject.span_at(place)))?,
+        None => before.push_str("the start of the input")?,
+    }
+    let expected = expected.as_str();
+    let values = [
+        ("found}", lexeme.as_str()),
+        ("expected}", expected.strip_prefix("expected ").unwrap_or(expected)),
+        ("before}", before.as_str()),
+    ];
+    let mut out = String::new(alloc);
+    push_filled(&mut out, &values, text)?;
+    Ok(out)
 }
 
 // The report of a lexeme that can't be where it is.

@@ -2,7 +2,7 @@
 ghost use Rattle.std.specs.Prelude.{◌≡◌, IfOk};
 ghost use Rattle.lrpar_report_lines.specs.declared.levels.Level.TheVariants.{Error};
 
-use crate::expected::{rules_at, stack_after};
+use crate::expected::choices_after;
 use crate::lexemes::TextLexemes;
 use crate::reports::{report_with_fixes, report_with_repairs};
 use crate::subject::Subject;
@@ -141,15 +141,7 @@ impl<'a, StorageT: StorageIndex> TextReports<'a, StorageT> {
     // Few names for what may come at a place.
     fn choices_at(&self, alloc: Global, place: usize) -> Result<Choices<StorageT>, AllocError> {
         let tokens = self.lexemes.tokens();
-        let stack = stack_after(alloc, self.data, tokens.get(..place).unwrap_or(tokens))?;
-        let expected = self.data.expected(alloc, &stack)?;
-        let rules = rules_at(alloc, self.data, &stack, &expected)?;
-        let mut named = Vec::with_capacity(alloc, expected.len())?;
-        for token in &expected {
-            if !self.wording.is_hidden(*token) {
-                named.push(*token)?;
-            }
-        }
-        self.wording.choices(alloc, &rules, &named)
+        let before = tokens.get(..place).unwrap_or(tokens);
+        choices_after(alloc, self.data, self.wording, before)
     }
 }

@@ -1,9 +1,12 @@
 //! What reports call tokens and rules.
+use crate::expected::choices_after;
 use crate::token_texts::TokenTexts;
 use lrpar_grammar::grammar::YaccGrammar;
 use lrpar_grammar::span::{RIdx, StorageIndex, TIdx};
-use lrpar_names::{Choices, FirstTokens, Names};
+use lrpar_messages::Messages;
+use lrpar_names::{Choices, FirstTokens, Names, push_choices};
 use lrpar_report::push_quoted;
+use lrpar_table::check::ParserData;
 use std::alloc::{AllocError, Global};
 
 /// What reports of parse errors call the tokens and rules of a grammar, and which tokens their fixes insert.
@@ -14,6 +17,7 @@ pub struct Wording<StorageT: StorageIndex> {
     pub(crate) unmatched: Option<TIdx<StorageT>>,
     hidden: Option<TIdx<StorageT>>,
     avoided: Vec<TIdx<StorageT>>,
+    pub(crate) messages: Option<Messages<StorageT>>,
 }
 
 // Hand-written, so that code that drops words needs the proof of one call only.
@@ -26,11 +30,13 @@ impl<StorageT: StorageIndex> Drop for Wording<StorageT> {
             unmatched: _,
             hidden: _,
             avoided,
+            messages,
         } = self;
         drop(names);
         drop(texts);
         drop(first);
         drop(avoided);
+        drop(messages);
     }
 }
 
@@ -52,6 +58,7 @@ impl<StorageT: StorageIndex> Wording<StorageT> {
             unmatched: None,
             hidden: None,
             avoided: Vec::new(alloc),
+            messages: None,
         })
     }
 
@@ -71,6 +78,40 @@ impl<StorageT: StorageIndex> Wording<StorageT> {
     pub fn avoided(mut self, tokens: Vec<TIdx<StorageT>>) -> Self {
         self.avoided = tokens;
         self
+    }
+
+    /// The words with messages for the errors of a language, in place of those that say what is expected.
+    pub fn messages(mut self, messages: Messages<StorageT>) -> Self {
+        self.messages = Some(messages);
+        self
+    }
+
+    /// Adds what may come after these tokens by the table, as far as they can be fed: `expected A, B or C`. Takes the time of a run over the
+    /// tokens. After an `Err`, which is out of memory, a part may have been added.
+    pub fn push_expected(
+        &self,
+        out: &mut String,
+        alloc: Global,
+        data: &ParserData<StorageT>,
+        before: &[TIdx<StorageT>],
+    ) -> Result<(), AllocError> {
+        let choices = choices_after(alloc, data, self, before)?;
+        push_choices(out, data.grm(), &self.names, &choices)
+    }
+
+    /// Adds the tokens: `expected A, B or C`. After an `Err`, which is out of memory, a part may have been added.
+    pub fn push_tokens(
+        &self,
+        out: &mut String,
+        alloc: Global,
+        grm: &YaccGrammar<StorageT>,
+        tokens: &[TIdx<StorageT>],
+    ) -> Result<(), AllocError> {
+        let choices = Choices {
+            rules: Vec::new(alloc),
+            tokens: Vec::from_slice(alloc, tokens)?,
+        };
+        push_choices(out, grm, &self.names, &choices)
     }
 
     /// Few names for what is expected, where an item goes on with one of these rules.

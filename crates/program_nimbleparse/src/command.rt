@@ -35,6 +35,10 @@ pub(crate) const MESSAGES: &str = "messages";
 
 pub(crate) const MESSAGES_FORMAT: &str = "messages-format";
 
+pub(crate) const LIST_ERRORS: &str = "list-errors";
+
+pub(crate) const CHECK_ERRORS: &str = "check-errors";
+
 pub(crate) const LEXER: &str = "lexer";
 
 pub(crate) const GRAMMAR: &str = "grammar";
@@ -42,12 +46,14 @@ pub(crate) const GRAMMAR: &str = "grammar";
 pub(crate) const INPUT: &str = "input";
 
 /// The options about lexers and inputs, each with the word that it is given by.
-pub(crate) const INPUT_OPTIONS: [(&str, &str); 5] = [
+pub(crate) const INPUT_OPTIONS: [(&str, &str); 7] = [
     (REPAIRS, "-r"),
     (LIMIT, "--limit"),
     (SHIFTS, "--shifts"),
     (FORMAT, "--format"),
     (MESSAGES, "--messages"),
+    (LIST_ERRORS, "--list-errors"),
+    (CHECK_ERRORS, "--check-errors"),
 ];
 
 const ABOUT: &str =
@@ -411,7 +417,7 @@ fn add_message_options<'a>(
             Arg::new(alloc, MESSAGES)
                 .long("messages")
                 .value_name("FILE")
-                .help("Name tokens and rules in messages as this file does"),
+                .help("Name tokens and rules in messages as this file does, and take its messages"),
         )?
         .arg(
             Arg::new(alloc, MESSAGES_FORMAT)
@@ -420,5 +426,17 @@ fn add_message_options<'a>(
                 .value_parser(values.forms.as_slice())
                 .default_value("text")
                 .help("Write messages in this form"),
+        )?
+        .arg(
+            Arg::new(alloc, LIST_ERRORS)
+                .long("list-errors")
+                .help("Print the errors that a text can have, each with room for a message")
+                .action(ArgAction::SetTrue),
+        )?
+        .arg(
+            Arg::new(alloc, CHECK_ERRORS)
+                .long("check-errors")
+                .value_name("FILE")
+                .help("Say which errors have no message in this file, and what is wrong with it"),
         )
 }

@@ -1,6 +1,7 @@
 //! `nimbleparse` over words, files and streams: grammars, lexers, trees, and messages of each.
 #![tactic(auto)]
 
+mod catalogue;
 mod command;
 mod completer;
 mod conflicts;

@@ -1,7 +1,7 @@
 //! What the words after the program's name ask for.
 use crate::command::{
     FORMAT, FORMATS, FORMS, GRAMMAR, INPUT, INPUT_OPTIONS, KIND, KINDS, LEXER, LIMIT, MAX_STATES,
-    MESSAGES, MESSAGES_FORMAT, MINIMISER, MINIMISERS, PossibleValues, QUIET, REPAIRS, SEARCHES,
+    CHECK_ERRORS, LIST_ERRORS, MESSAGES, MESSAGES_FORMAT, MINIMISER, MINIMISERS, PossibleValues, QUIET, REPAIRS, SEARCHES,
     SHIFTS, STATES, Search, VERBOSE, command_line, meaning_of,
 };
 use crate::grammar::Asked;
@@ -16,6 +16,9 @@ use std::alloc::{AllocError, Global};
 
 /// What is wrong with words without a path.
 const NO_PATH: &str = "the following required arguments were not provided: <GRAMMAR>";
+
+/// What is wrong with inputs where none is parsed.
+const NO_INPUT: &str = "no input is read with --list-errors and --check-errors";
 
 /// What the words ask for.
 #[derive(Drop)]
@@ -35,6 +38,17 @@ pub(crate) struct GrammarOptions<'a> {
     pub(crate) asked: Asked,
 }
 
+/// What is to be done with a lexer and a grammar.
+#[derive(Clone, Copy, Debug, PartialEq, Eq)]
+pub(crate) enum Task {
+    /// Parse inputs.
+    Parse,
+    /// Print the errors that a text can have.
+    ListErrors,
+    /// Check that a messages file has a message for each of them.
+    CheckErrors,
+}
+
 /// How inputs are to be parsed.
 #[derive(Drop)]
 pub(crate) struct Options<'a> {
@@ -47,6 +61,7 @@ pub(crate) struct Options<'a> {
     /// The rules of the lexer.
     pub(crate) lexer: &'a str,
     pub(crate) grammar: &'a str,
+    pub(crate) task: Task,
     /// The messages file.
     pub(crate) messages: Option<&'a str>,
     /// The inputs, `-` being standard input. There is at least one.
@@ -110,16 +125,35 @@ fn options_of<'a>(
 ) -> Result<Options<'a>, Fault> {
     let recovery = recovery_of(matches)?;
     let inputs = inputs_of(alloc, matches)?;
+    let task = task_of(matches);
+    if task != Task::Parse && is_given(matches, INPUT) {
+        return Err(Fault::Words(String::from_str(alloc, NO_INPUT)?));
+    }
     Ok(Options {
-        asked: asked_of(matches, false),
+        asked: asked_of(matches, task != Task::Parse),
         recovery,
         shifts: matches.get_one::<usize>(SHIFTS),
         format: meaning_of(matches, FORMAT, &FORMATS).unwrap_or(Format::Brackets),
         lexer,
         grammar,
-        messages: matches.get_str(MESSAGES),
+        task,
+        messages: match matches.get_str(CHECK_ERRORS) {
+            Some(path) => Some(path),
+            None => matches.get_str(MESSAGES),
+        },
         inputs,
     })
+}
+
+// What is to be done.
+fn task_of(matches: &ArgMatches<'_>) -> Task {
+    if matches.get_str(CHECK_ERRORS).is_some() {
+        Task::CheckErrors
+    } else if matches.get_flag(LIST_ERRORS) {
+        Task::ListErrors
+    } else {
+        Task::Parse
+    }
 }
 
 // What is asked of a grammar that is only looked at, or not.

@@ -1,6 +1,7 @@
 //! The parse of one input, and what is printed of it.
 use crate::completer::Completer;
 use crate::errors::{report_of_lexing, with_no_repairs};
+use crate::messages::FileMessages;
 use crate::plan::{Format, Plan, Recovery};
 use crate::printer::Printer;
 use crate::recoverers::{Completing, Searches, Searching};
@@ -10,7 +11,6 @@ use crate::wording::wording_of;
 use lrpar_grammar::span::TIdx;
 use lrpar_lexer::{LexRules, ListLexer, RuleLexer, TextLexer, Token, TokenTypes};
 use lrpar_lexer_lrlex::StateLexer;
-use lrpar_names::Names;
 use lrpar_parse::RTParserBuilder;
 use lrpar_parse_errors::errors::LexParseError;
 use lrpar_parse_lexemes::lex_api::Lexer;
@@ -28,8 +28,8 @@ pub(crate) struct Repairs<'a> {
     /// The searches, if any are asked for.
     pub(crate) searches: Option<Searches>,
     pub(crate) completer: Completer<'a>,
-    /// The names of a messages file, until there is an error.
-    pub(crate) names: Option<Names>,
+    /// What a messages file says, until there is an error.
+    pub(crate) messages: Option<FileMessages>,
     /// The words of messages, once there is an error.
     pub(crate) wording: Option<Wording<u32>>,
 }
@@ -40,12 +40,12 @@ impl<'a> Drop for Repairs<'a> {
         let Repairs {
             searches,
             completer,
-            names,
+            messages,
             wording,
         } = self;
         drop(searches);
         drop(completer);
-        drop(names);
+        drop(messages);
         drop(wording);
     }
 }
@@ -58,11 +58,8 @@ impl<'a> Repairs<'a> {
         plan: &Plan<'_>,
     ) -> Result<&Wording<u32>, AllocError> {
         if self.wording.is_none() {
-            let names = match self.names.take() {
-                Some(names) => names,
-                None => Names::new(alloc, plan.data().grm())?,
-            };
-            self.wording = Some(wording_of(alloc, plan, names)?);
+            let messages = self.messages.take();
+            self.wording = Some(wording_of(alloc, plan, messages)?);
         }
         match &self.wording {
             Some(wording) => Ok(wording),
@@ -165,7 +162,7 @@ fn parse_lexemes<'a, O: Write, E: Write>(
     let Repairs {
         searches,
         completer,
-        names: _,
+        messages: _,
         wording: _,
     } = repairs;
     match searches {

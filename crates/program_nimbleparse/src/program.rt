@@ -3,13 +3,14 @@
 ghost use Rattle.std.specs.Prelude.{◌≤◌};
 
 use crate::command::PossibleValues;
+use crate::catalogue::{Catalogue, check_errors, list_errors};
 use crate::completer::Completer;
 use crate::fault_line::FaultLine;
 use crate::grammar::{GrammarFile, GrammarTable, make_table};
 use crate::inputs::{STANDARD_INPUT, file_text, input_text};
 use crate::look::look_at;
-use crate::messages::read_names;
-use crate::options::{GrammarOptions, Options, Request, request_of};
+use crate::messages::{FileMessages, read_messages, read_names};
+use crate::options::{GrammarOptions, Options, Request, Task, request_of};
 use crate::parse::{Input, Repairs, parse};
 use crate::plan::{Plan, Recovery};
 use crate::printer::Printer;
@@ -18,7 +19,6 @@ use crate::rules::{LexerRules, lexer_rules};
 use crate::show::{with_label_text, write_messages};
 use crate::sizes::{push_sizes, push_table};
 use lrpar_grammar::grammar::YaccGrammar;
-use lrpar_names::Names;
 use lrpar_report::{Level, Look, Report, token_warnings};
 use lrpar_table::check::ParserData;
 use lrpar_table_options::Minimiser;
@@ -251,9 +251,21 @@ fn run_work<R: Files, I: Read + Drop, O: Write, E: Write>(
 ) -> Result<Status, Fault> {
     let table = make_table(alloc, work.grammar_file(), out, err)?;
     let rules = rules_of_lexer(alloc, work, table.file_grm())?;
-    let names = names_of_messages(alloc, work, table.data.grm())?;
-    warn(alloc, work, &table, &rules, out, err)?;
-    parse_inputs(rt, alloc, work, &table, &rules, names, input, out, err)
+    let messages = file_messages(alloc, work, &table.data)?;
+    let catalogue = match (work.options.messages, work.messages) {
+        (Some(path), Some(text)) => Some(Catalogue { path, text }),
+        (_, None) | (None, _) => None,
+    };
+    match (work.options.task, catalogue) {
+        (Task::ListErrors, _) => list_errors(alloc, &work.plan(&table, &rules), messages, out),
+        (Task::CheckErrors, Some(catalogue)) => {
+            check_errors(alloc, &work.plan(&table, &rules), catalogue, out, err)
+        }
+        _ => {
+            warn(alloc, work, &table, &rules, out, err)?;
+            parse_inputs(rt, alloc, work, &table, &rules, messages, input, out, err)
+        }
+    }
 }
 
 // The rules of the lexer.
@@ -267,19 +279,21 @@ fn rules_of_lexer(
     lexer_rules(alloc, &printer, grm, work.lexer)
 }
 
-// The names of the messages file, if there is one.
-fn names_of_messages(
+// What the messages file says, if there is one. If it is to be checked, these are its names alone.
+fn file_messages(
     alloc: Global,
     work: Work<'_>,
-    grm: &YaccGrammar<u32>,
-) -> Result<Option<Names>, Fault> {
-    match (work.options.messages, work.messages) {
-        (Some(path), Some(text)) => {
-            let printer = work.printer(alloc, text, path)?;
-            Ok(Some(read_names(alloc, &printer, grm, text)?))
-        }
-        (_, None) | (None, _) => Ok(None),
+    data: &ParserData<u32>,
+) -> Result<Option<FileMessages>, Fault> {
+    let (Some(path), Some(text)) = (work.options.messages, work.messages) else {
+        return Ok(None);
+    };
+    let printer = work.printer(alloc, text, path)?;
+    if work.options.task == Task::CheckErrors {
+        drop(read_names(alloc, &printer, data.grm(), text)?);
+        return Ok(None);
     }
+    Ok(Some(read_messages(alloc, &printer, data, text)?))
 }
 
 // Warns of tokens that the lexer never gives, and notes how large the grammar and its table are, unless the program is to be quiet.
@@ -363,13 +377,13 @@ fn parse_inputs<R: Files, I: Read + Drop, O: Write, E: Write>(
     work: Work<'_>,
     table: &GrammarTable,
     rules: &LexerRules,
-    names: Option<Names>,
+    messages: Option<FileMessages>,
     input: I,
     out: &mut O,
     err: &mut E,
 ) -> Result<Status, Fault> {
     let plan = work.plan(table, rules);
-    let mut repairs = repairs_of(alloc, &plan, names)?;
+    let mut repairs = repairs_of(alloc, &plan, messages)?;
     let mut stdin = Some(input);
     let mut are_clean = true;
     for path in &work.options.inputs {
@@ -388,7 +402,7 @@ fn parse_inputs<R: Files, I: Read + Drop, O: Write, E: Write>(
 fn repairs_of<'a>(
     alloc: Global,
     plan: &Plan<'a>,
-    names: Option<Names>,
+    messages: Option<FileMessages>,
 ) -> Result<Repairs<'a>, Fault> {
     if plan.shifts == Some(0) {
         return Err(Fault::ZeroShifts);
@@ -403,7 +417,7 @@ fn repairs_of<'a>(
     Ok(Repairs {
         searches,
         completer,
-        names,
+        messages,
         wording: None,
     })
 }

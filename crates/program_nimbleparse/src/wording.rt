@@ -1,23 +1,35 @@
 //! What messages call tokens and rules.
+use crate::messages::FileMessages;
 use crate::plan::Plan;
 use crate::rules::LexerRules;
 use lrpar_names::Names;
 use lrpar_report_fixes::{Wording, read_token_texts};
 use std::alloc::{AllocError, Global};
 
-/// What messages call tokens and rules, by these names and by the rules of the lexer.
+/// What messages call tokens and rules, by a messages file and by the rules of the lexer, and its messages.
 pub(crate) fn wording_of(
     alloc: Global,
     plan: &Plan<'_>,
-    names: Names,
+    file: Option<FileMessages>,
 ) -> Result<Wording<u32>, AllocError> {
     let grm = plan.data().grm();
+    let (names, messages) = match file {
+        Some(file) => {
+            let (names, messages) = file.into_parts();
+            (names, Some(messages))
+        }
+        None => (Names::new(alloc, grm)?, None),
+    };
     let texts = match plan.rules {
         LexerRules::Lines(rules) => read_token_texts(alloc, grm, rules.as_slice(), plan.lexer)?,
         LexerRules::States(rules) => read_token_texts(alloc, grm, rules, plan.lexer)?,
     };
     let avoided = Vec::from_slice(alloc, &plan.table.avoided)?;
     let wording = Wording::new(alloc, grm, names, texts)?.avoided(avoided);
+    let wording = match messages {
+        Some(messages) => wording.messages(messages),
+        None => wording,
+    };
     let wording = match plan.table.hidden {
         Some(token) => wording.hidden(token),
         None => wording,

@@ -1,0 +1,89 @@
+//! The reader of a catalogue.
+ghost use Rattle.std.specs.Prelude.{◌≡◌, IfOk, None};
+ghost use Rattle.lrpar_messages.specs.Messages.{AreApart, HasNoMessage, messages_of};
+use crate::entry::state_of;
+use crate::fault::{MessageFault, MessageFaultKind};
+use crate::groups::have_same_kernel;
+use crate::lines::{Lines, entries_of};
+use crate::messages::Message;
+use lrpar_grammar::span::{Span, StIdx, StorageIndex};
+use lrpar_table_check::check::ParserData;
+use lrpar_table_rows::table::StateGraph;
+use std::alloc::{AllocError, Global};
+
+/// The messages of the entries without a fault. Adds the faults of the others.
+pub(crate) fn read_all<StorageT: StorageIndex>(
+    alloc: Global,
+    data: &ParserData<StorageT>,
+    text: &str,
+    faults: &mut Vec<MessageFault>,
+) -> Result<Vec<Message<StorageT>>, AllocError>
+    ensures { IfOk result (λ messages. AreApart data.now.graph (messages_of StorageT.index messages.items)) }
+{
+    let mut strays = Vec::new(alloc);
+    let entries = entries_of(alloc, text, &mut strays)?;
+    for span in &strays {
+        push_fault(faults, MessageFaultKind::Stray, *span)?;
+    }
+    let mut messages = Vec::new(alloc);
+    for entry in &entries {
+        match message_of(alloc, data, &messages, entry)? {
+            Ok(message) => messages.push(message)?,
+            Err((kind, span)) => push_fault(faults, kind, span)?,
+        }
+    }
+    Ok(messages)
+}
+
+// Adds a fault.
+fn push_fault(
+    faults: &mut Vec<MessageFault>,
+    kind: MessageFaultKind,
+    span: Span,
+) -> Result<(), AllocError> {
+    faults.push(MessageFault::At { kind, span })?;
+    Ok(())
+}
+
+// The message of an entry, after these messages, or what is wrong with the entry, and where.
+fn message_of<StorageT: StorageIndex>(
+    alloc: Global,
+    data: &ParserData<StorageT>,
+    messages: &[Message<StorageT>],
+    entry: &Lines<'_>,
+) -> Result<Result<Message<StorageT>, (MessageFaultKind, Span)>, AllocError>
+    ensures new { IfOk result (λ made. IfOk made (λ message. HasNoMessage data.now.graph (messages_of StorageT.index messages.now) (StorageT.index message.state.0))) }
+{
+    let state = match state_of(alloc, data, entry.head)? {
+        Ok(state) => state,
+        Err(fault) => return Ok(Err(fault)),
+    };
+    let line = entry.head.span;
+    if let Some(first) = line_of(data.sgraph(), messages, state) {
+        return Ok(Err((MessageFaultKind::Repeated { first }, line)));
+    }
+    if entry.message.is_empty() {
+        return Ok(Err((MessageFaultKind::NoMessage, line)));
+    }
+    Ok(Ok(Message {
+        state,
+        text: String::from_str(alloc, entry.message.as_str())?,
+        line,
+    }))
+}
+
+// The line of the message for a state with the same kernel cores, if there is one.
+fn line_of<StorageT: StorageIndex>(
+    sgraph: &StateGraph<StorageT>,
+    messages: &[Message<StorageT>],
+    state: StIdx<StorageT>,
+) -> Option<Span>
+    ensures none { result ≡ None → HasNoMessage sgraph.now (messages_of StorageT.index messages.now) (StorageT.index state.0) }
+{
+    for message in messages {
+        if have_same_kernel(sgraph, message.state, state) {
+            return Some(message.line);
+        }
+    }
+    None
+}

@@ -1,0 +1,13 @@
+use Rattle.std.proofs.Common.{◌≡◌, ◌<◌, ℕ, IsTrue}
+use Rattle.std.specs.Bool.{OnFalse, OnTrue}
+use Rattle.lrpar_table_first.specs.FirstRows.{total_missing}
+use Rattle.lrpar_table_stops.specs.Met.{AreRight, ReducesAt, is_met}
+use Rattle.lrpar_table_stops.proofs.met.add_reductions_over.Given as goal
+
+-- either fewer tokens are missing, or all is as before and nothing is missing so far
+abbrev pub invariant-loop-number : goal.invariant-loop-number
+invariant-loop-number g l =
+    let index = g.StorageT.StorageIndex.index in
+    AreRight l.grm l.stable l.sets
+    × OnTrue l.grown (total_missing l.sets < total_missing l.fn.sets)
+    × OnFalse l.grown ((l.sets ≡ l.fn.sets) × ((n : ℕ) → n < l.number → ReducesAt l.stable l.sets (index l.prod.0) (index l.from.0) n → IsTrue (is_met l.sets (index l.next.0) n)))
