@@ -1,6 +1,5 @@
 -- Messages for the states in which a run can stop, one for all states with the same kernel cores.
-use Rattle.std.specs.Prelude.{◌≡◌, ◌≢◌, ◌<◌, ℕ, Contains, List, MatchOption, Option, Some, map, slice_get, string_bytes}
-use Rattle.std.specs.Option.{option_map}
+use Rattle.std.specs.Prelude.{◌≡◌, ◌<◌, ℕ, Contains, List, MatchOption, Option, get_or, length, map, string_bytes}
 use Rattle.lrpar_table_rows.specs.Graph.{Graph}
 use Rattle.lrpar_messages.specs.Groups.{HaveSameKernel}
 use Rattle.lrpar_messages.specs.declared.messages.Message.{Message}
@@ -33,4 +32,4 @@ FindsMessage bytes graph messages s found = MatchOption found (HasNoMessage grap
 -- no two messages are for states with the same kernel cores
 abbrev pub AreApart : Graph → List MessageOf → Type 0
 AreApart graph messages =
-    (i j : ℕ) (a b : MessageOf) → i ≢ j → slice_get messages i ≡ Some a → slice_get messages j ≡ Some b → ¬ (HaveSameKernel graph a.state b.state)
+    (i j : ℕ) (d : MessageOf) → i < j → j < length messages → ¬ (HaveSameKernel graph (get_or messages i d).state (get_or messages j d).state)

@@ -1,6 +1,6 @@
 //! The state of an entry of a catalogue.
 use crate::fault::MessageFaultKind;
-use crate::lines::{Piece, Word, words_of};
+use crate::lines::{Word, words_of};
 use crate::sentences::{stack_after, stop_at};
 use lrpar_grammar::grammar::YaccGrammar;
 use lrpar_grammar::span::{RIdx, Span, StIdx, StorageIndex, Symbol, TIdx};
@@ -8,52 +8,79 @@ use lrpar_table_check::check::ParserData;
 use lrpar_table_rows::table::{Action, StateTable};
 use std::alloc::{AllocError, Global};
 
-/// A state, or what is wrong and where.
-type Found<StorageT> = Result<StIdx<StorageT>, (MessageFaultKind, Span)>;
+/// The word before symbols that lead to a state.
+const AFTER: &str = "%after";
+
+/// What is wrong with a line, and which bytes of it.
+#[derive(Clone, Copy)]
+pub(crate) struct LineFault {
+    pub(crate) kind: MessageFaultKind,
+    pub(crate) from: usize,
+    pub(crate) to: usize,
+}
+
+impl LineFault {
+    // What is wrong with a word.
+    fn at(kind: MessageFaultKind, word: Word) -> LineFault {
+        LineFault {
+            kind,
+            from: word.from,
+            to: word.to,
+        }
+    }
+
+    /// The place of the fault in the text, for the line at this place.
+    pub(crate) fn span(self, line: Span) -> Span {
+        let start = line.start().saturating_add(self.from);
+        let end = line.start().saturating_add(self.to);
+        Span::new(start, end.max(start))
+    }
+}
 
 /// The state in which a run stops that the line shows: by tokens, the last of which is an error, or after `%after` by symbols that lead to the
 /// state from the start.
 pub(crate) fn state_of<StorageT: StorageIndex>(
     alloc: Global,
     data: &ParserData<StorageT>,
-    head: Piece<'_>,
-) -> Result<Found<StorageT>, AllocError> {
-    let words = match words_of(alloc, head)? {
-        Ok(words) => words,
-        Err(fault) => return Ok(Err(fault)),
-    };
+    line: &str,
+) -> Result<Result<StIdx<StorageT>, LineFault>, AllocError> {
+    let (words, unended) = words_of(alloc, line)?;
+    if let Some(word) = unended {
+        return Ok(Err(LineFault::at(MessageFaultKind::OpenQuote, word)));
+    }
     match words.split_first() {
-        Some((first, symbols)) if is_after(*first) => Ok(state_after(data, symbols)),
-        _ => state_of_sentence(alloc, data, head, &words),
+        Some((first, symbols)) if is_after(line, *first) => Ok(state_after(data, line, symbols)),
+        _ => state_of_sentence(alloc, data, line, &words),
     }
 }
 
-/// Whether the line shows its state by symbols that lead there.
-pub(crate) fn is_path(head: &str) -> bool {
-    head.starts_with(AFTER)
+// The name of a word.
+fn name_of(line: &str, word: Word) -> &str {
+    match line.get(word.from..word.to) {
+        Some(name) => name,
+        None => line,
+    }
 }
 
-/// The word before symbols that lead to a state.
-const AFTER: &str = "%after";
-
 // Whether the word is `%after`.
-fn is_after(word: Word<'_>) -> bool {
-    !word.is_quoted && word.name == AFTER
+fn is_after(line: &str, word: Word) -> bool {
+    !word.is_quoted && name_of(line, word) == AFTER
 }
 
 // The state to which the symbols lead from the start.
 fn state_after<StorageT: StorageIndex>(
     data: &ParserData<StorageT>,
-    symbols: &[Word<'_>],
-) -> Found<StorageT> {
+    line: &str,
+    symbols: &[Word],
+) -> Result<StIdx<StorageT>, LineFault> {
     let mut state = data.stable().start_state();
     for word in symbols {
-        let Some(symbol) = symbol_named(data.grm(), *word) else {
-            return Err((MessageFaultKind::Unknown, word.span));
+        let Some(symbol) = symbol_named(data.grm(), line, *word) else {
+            return Err(LineFault::at(MessageFaultKind::Unknown, *word));
         };
         match next_by(data.stable(), state, symbol) {
             Some(next) => state = next,
-            None => return Err((MessageFaultKind::NoPath, word.span)),
+            None => return Err(LineFault::at(MessageFaultKind::NoPath, *word)),
         }
     }
     Ok(state)
@@ -63,30 +90,31 @@ fn state_after<StorageT: StorageIndex>(
 fn state_of_sentence<StorageT: StorageIndex>(
     alloc: Global,
     data: &ParserData<StorageT>,
-    head: Piece<'_>,
-    words: &[Word<'_>],
-) -> Result<Found<StorageT>, AllocError> {
+    line: &str,
+    words: &[Word],
+) -> Result<Result<StIdx<StorageT>, LineFault>, AllocError> {
     let mut tokens = Vec::new(alloc);
     for word in words {
-        let Some(token) = token_named(data.grm(), *word) else {
-            return Ok(Err((MessageFaultKind::Unknown, word.span)));
-        };
-        tokens.push(token)?;
+        match token_named(data.grm(), line, *word) {
+            Some(token) => tokens.push(token)?,
+            None => return Ok(Err(LineFault::at(MessageFaultKind::Unknown, *word))),
+        }
     }
     let (Some((last, before)), Some(end)) = (tokens.split_last(), words.last()) else {
-        return Ok(Err((MessageFaultKind::NoTokens, head.span)));
+        return Ok(Err(LineFault {
+            kind: MessageFaultKind::NoTokens,
+            from: 0,
+            to: line.len(),
+        }));
     };
     let Some(stack) = stack_after(alloc, data, before)? else {
         let place = first_error(alloc, data, before)?;
-        let span = match words.get(place) {
-            Some(word) => word.span,
-            None => head.span,
-        };
-        return Ok(Err((MessageFaultKind::EarlyError, span)));
+        let word = words.get(place).unwrap_or(end);
+        return Ok(Err(LineFault::at(MessageFaultKind::EarlyError, *word)));
     };
     Ok(match stop_at(alloc, data, &stack, *last)? {
         Some(state) => Ok(state),
-        None => Err((MessageFaultKind::NoError, end.span)),
+        None => Err(LineFault::at(MessageFaultKind::NoError, *end)),
     })
 }
 
@@ -97,7 +125,8 @@ fn first_error<StorageT: StorageIndex>(
     tokens: &[TIdx<StorageT>],
 ) -> Result<usize, AllocError> {
     for place in 0..tokens.len() {
-        if stack_after(alloc, data, &tokens[..place + 1])?.is_none() {
+        let front = tokens.get(..place.saturating_add(1)).unwrap_or(tokens);
+        if stack_after(alloc, data, front)?.is_none() {
             return Ok(place);
         }
     }
@@ -107,28 +136,42 @@ fn first_error<StorageT: StorageIndex>(
 // The token that a word names: without quotes `$` is the end token.
 fn token_named<StorageT: StorageIndex>(
     grm: &YaccGrammar<StorageT>,
-    word: Word<'_>,
+    line: &str,
+    word: Word,
 ) -> Option<TIdx<StorageT>> {
-    if !word.is_quoted && word.name == "$" {
+    let name = name_of(line, word);
+    if !word.is_quoted && name == "$" {
         return Some(grm.eof_token_idx());
     }
-    grm.token_idx(word.name)
+    grm.token_idx(name)
 }
 
-// The symbol that a word names: a rule, if there is no quote and one has this name, or else a token.
+// The symbol that a word names: a rule, if it isn't in quotes and one has this name, or else a token.
 fn symbol_named<StorageT: StorageIndex>(
     grm: &YaccGrammar<StorageT>,
-    word: Word<'_>,
+    line: &str,
+    word: Word,
 ) -> Option<Symbol<StorageT>> {
     if !word.is_quoted {
-        for number in 0..grm.rules_len() {
-            let rule = RIdx(StorageT::from_index(number).unwrap());
-            if grm.rule_name_str(rule) == word.name {
-                return Some(Symbol::Rule(rule));
-            }
+        if let Some(rule) = rule_named(grm, name_of(line, word)) {
+            return Some(Symbol::Rule(rule));
         }
     }
-    Some(Symbol::Token(token_named(grm, word)?))
+    Some(Symbol::Token(token_named(grm, line, word)?))
+}
+
+// The first rule with this name.
+fn rule_named<StorageT: StorageIndex>(
+    grm: &YaccGrammar<StorageT>,
+    name: &str,
+) -> Option<RIdx<StorageT>> {
+    for number in 0..grm.rules_len() {
+        let rule = RIdx(StorageT::from_index(number).unwrap());
+        if grm.rule_name_str(rule) == name {
+            return Some(rule);
+        }
+    }
+    None
 }
 
 // The state to which this one goes by the symbol, if it does.

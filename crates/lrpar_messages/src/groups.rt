@@ -1,6 +1,7 @@
 //! The states in which a run can stop, in groups of states with the same kernel cores.
 ghost use Rattle.std.specs.Prelude.{◌↔◌, IfOk, IsTrue};
-ghost use Rattle.lrpar_messages.specs.Groups.{AreFirsts, HasKernelOf, HaveSameKernel, IsInGroup};
+ghost use Rattle.std.specs.Bool.{OnFalse, OnTrue};
+ghost use Rattle.lrpar_messages.specs.Groups.{AreFirsts, HasKernelOf, HaveSameKernel, IsFirst, IsInGroup, IsNoFirst, numbers_of};
 
 use lrpar_grammar::span::{StIdx, StorageIndex};
 use lrpar_table_check::check::ParserData;
@@ -28,16 +29,29 @@ pub fn error_groups<StorageT: StorageIndex>(
     data: &ParserData<StorageT>,
     stops: &ErrorStates,
 ) -> Result<Vec<StIdx<StorageT>>, AllocError>
-    ensures { IfOk result (λ firsts. AreFirsts StorageT.index data.now.graph stops.now firsts.items) }
+    ensures { IfOk result (λ firsts. AreFirsts data.now.graph stops.now (numbers_of StorageT.index firsts.items)) }
 {
     let mut firsts = Vec::new(alloc);
     for number in 0..data.sgraph().states_len() {
         let state = StIdx(StorageT::from_index(number).unwrap());
-        if stops.contains(state) && !is_in_group(data.sgraph(), &firsts, state) {
+        if is_first(data.sgraph(), stops, &firsts, state) {
             firsts.push(state)?;
         }
     }
     Ok(firsts)
+}
+
+// Whether a run can stop in the state, and none of these states has the same kernel cores.
+fn is_first<StorageT: StorageIndex>(
+    sgraph: &StateGraph<StorageT>,
+    stops: &ErrorStates,
+    firsts: &[StIdx<StorageT>],
+    state: StIdx<StorageT>,
+) -> bool
+    ensures first { OnTrue result (IsFirst sgraph.now stops.now (numbers_of StorageT.index firsts.now) (StorageT.index state.0)) }
+    ensures other { OnFalse result (IsNoFirst sgraph.now stops.now (numbers_of StorageT.index firsts.now) (StorageT.index state.0)) }
+{
+    stops.contains(state) && !is_in_group(sgraph, firsts, state)
 }
 
 // Whether one of these states has the same kernel cores.
@@ -46,7 +60,7 @@ fn is_in_group<StorageT: StorageIndex>(
     firsts: &[StIdx<StorageT>],
     state: StIdx<StorageT>,
 ) -> bool
-    ensures { IsTrue result ↔ IsInGroup StorageT.index sgraph.now firsts.now (StorageT.index state.0) }
+    ensures { IsTrue result ↔ IsInGroup sgraph.now (numbers_of StorageT.index firsts.now) (StorageT.index state.0) }
 {
     for first in firsts {
         if have_same_kernel(sgraph, *first, state) {

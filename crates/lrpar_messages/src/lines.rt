@@ -1,23 +1,17 @@
 //! The lines of a catalogue.
-use crate::fault::MessageFaultKind;
 use lrpar_grammar_places::span::Span;
 use std::alloc::{AllocError, Global};
 
-/// A part of a text, with its place.
-#[derive(Clone, Copy)]
-pub(crate) struct Piece<'t> {
-    pub(crate) text: &'t str,
-    pub(crate) span: Span,
-}
-
-/// The lines of an entry of a catalogue: how a run stops, and the message.
+/// The lines of an entry of a catalogue: the one that shows how a run stops, and the message.
 #[derive(Drop)]
 pub(crate) struct Lines<'t> {
-    pub(crate) head: Piece<'t>,
+    pub(crate) head: &'t str,
+    /// The place of the first line.
+    pub(crate) span: Span,
     pub(crate) message: String,
 }
 
-/// The entries of the catalogue in a text: what comes after its first line `%%`. Adds the lines of messages that belong to none to `strays`.
+/// The entries of the catalogue in a text: what comes after its first line `%%`. Adds the places of messages that belong to none to `strays`.
 ///
 /// A line that begins with a blank belongs to the message of the entry above it; the lines of a message are joined by a space. Empty lines say
 /// nothing, nor do those that begin with `//`.
@@ -30,15 +24,19 @@ pub(crate) fn entries_of<'t>(
     let mut is_begun = false;
     let mut start = 0usize;
     for line in text.split('\n') {
-        let piece = trimmed(line, start);
+        let after = line.trim_start();
+        let core = after.trim_end();
+        let first = start.saturating_add(line.len().saturating_sub(after.len()));
+        let span = Span::new(first, first.saturating_add(core.len()));
         if !is_begun {
-            is_begun = piece.text == "%%";
-        } else if !piece.text.is_empty() && !piece.text.starts_with("//") {
-            if line.starts_with(' ') || line.starts_with('\t') {
-                push_message(&mut entries, piece, strays)?;
+            is_begun = core == "%%";
+        } else if !core.is_empty() && !core.starts_with("//") {
+            if after.len() < line.len() {
+                push_message(&mut entries, core, span, strays)?;
             } else {
                 entries.push(Lines {
-                    head: piece,
+                    head: core,
+                    span,
                     message: String::new(alloc),
                 })?;
             }
@@ -51,7 +49,8 @@ pub(crate) fn entries_of<'t>(
 // Adds a line to the message of the last entry.
 fn push_message<'t>(
     entries: &mut Vec<Lines<'t>>,
-    line: Piece<'t>,
+    line: &str,
+    span: Span,
     strays: &mut Vec<Span>,
 ) -> Result<(), AllocError> {
     match entries.last_mut() {
@@ -59,87 +58,70 @@ fn push_message<'t>(
             if !entry.message.is_empty() {
                 entry.message.push(' ')?;
             }
-            entry.message.push_str(line.text)
+            entry.message.push_str(line)
         }
         None => {
-            strays.push(line.span)?;
+            strays.push(span)?;
             Ok(())
         }
     }
 }
 
-// A line without the blanks at its ends, which starts at this byte of a text.
-fn trimmed<'t>(line: &'t str, start: usize) -> Piece<'t> {
-    let after = line.trim_start();
-    let text = after.trim_end();
-    let start = start.saturating_add(line.len().saturating_sub(after.len()));
-    Piece {
-        text,
-        span: Span::new(start, start.saturating_add(text.len())),
-    }
-}
-
-/// A word of a line: a name, whether it is in quotes, and its place without them.
+/// A word of a line: its name, from this byte of the line to that one, and whether that is in quotes.
 #[derive(Clone, Copy)]
-pub(crate) struct Word<'t> {
-    pub(crate) name: &'t str,
+pub(crate) struct Word {
+    pub(crate) from: usize,
+    pub(crate) to: usize,
     pub(crate) is_quoted: bool,
-    pub(crate) span: Span,
 }
 
-/// The words of a line: in quotes, single or double, or between blanks. If a quote doesn't end, that is a fault, with its place.
-pub(crate) fn words_of<'t>(
+/// The words of a line: in quotes, single or double, or between blanks. A quote that doesn't end is the last word: it goes on to the end of the
+/// line, and is the second result.
+pub(crate) fn words_of(
     alloc: Global,
-    line: Piece<'t>,
-) -> Result<Result<Vec<Word<'t>>, (MessageFaultKind, Span)>, AllocError> {
+    line: &str,
+) -> Result<(Vec<Word>, Option<Word>), AllocError> {
     let mut words = Vec::new(alloc);
-    // The word that is open: its quote, if it has one, and where its name starts.
+    // The word that is open, and the character that ends it: its quote, or a blank.
     let mut open = None;
-    for (at, c) in line.text.char_indices() {
+    let mut end = ' ';
+    for (at, c) in line.char_indices() {
         match open {
-            Some((Some(quote), from)) if c == quote => {
-                words.push(word_at(line, true, from, at))?;
-                open = None;
-            }
-            Some((Some(_), _)) => {}
-            Some((None, from)) => {
-                if is_blank(c) {
-                    words.push(word_at(line, false, from, at))?;
+            Some(from) => {
+                if c == end || (end == ' ' && is_blank(c)) {
+                    words.push(Word {
+                        from,
+                        to: at,
+                        is_quoted: end != ' ',
+                    })?;
                     open = None;
                 }
             }
             None => {
                 if c == '\'' || c == '"' {
-                    open = Some((Some(c), at.saturating_add(1)));
+                    open = Some(at.saturating_add(1));
+                    end = c;
                 } else if !is_blank(c) {
-                    open = Some((None, at));
+                    open = Some(at);
+                    end = ' ';
                 }
             }
         }
     }
-    match open {
-        Some((Some(_), from)) => {
-            let quote = word_at(line, true, from.saturating_sub(1), line.text.len());
-            return Ok(Err((MessageFaultKind::OpenQuote, quote.span)));
-        }
-        Some((None, from)) => words.push(word_at(line, false, from, line.text.len()))?,
-        None => {}
-    }
-    Ok(Ok(words))
+    let Some(from) = open else {
+        return Ok((words, None));
+    };
+    let word = Word {
+        from,
+        to: line.len(),
+        is_quoted: end != ' ',
+    };
+    words.push(word)?;
+    let unended = if word.is_quoted { Some(word) } else { None };
+    Ok((words, unended))
 }
 
 // Whether the character is a blank between words.
 fn is_blank(c: char) -> bool {
     c == ' ' || c == '\t' || c == '\r'
-}
-
-// The word from this byte of a line to that one.
-fn word_at<'t>(line: Piece<'t>, is_quoted: bool, from: usize, to: usize) -> Word<'t> {
-    let name = line.text.get(from..to).unwrap_or("");
-    let start = line.span.start().saturating_add(from);
-    Word {
-        name,
-        is_quoted,
-        span: Span::new(start, start.saturating_add(name.len())),
-    }
 }

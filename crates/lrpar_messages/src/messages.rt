@@ -1,6 +1,6 @@
 //! The messages of a catalogue.
-ghost use Rattle.std.specs.Prelude.{IfOk};
-ghost use Rattle.lrpar_messages.specs.Messages.{AreApart, FindsMessage};
+ghost use Rattle.std.specs.Prelude.{IfOk, string_bytes};
+ghost use Rattle.lrpar_messages.specs.Messages.{AreApart, FindsMessage, messages_of};
 use crate::fault::{MessageFault, MessageFaultKind};
 use crate::groups::have_same_kernel;
 use crate::reading::read_all;
@@ -111,11 +111,25 @@ impl<StorageT: StorageIndex> Messages<StorageT> {
     pub fn of(&self, sgraph: &StateGraph<StorageT>, state: StIdx<StorageT>) -> Option<&str>
         ensures { FindsMessage (λ text. text.now) sgraph.now self.now (StorageT.index state.0) result }
     {
-        for message in &self.messages {
-            if have_same_kernel(sgraph, message.state, state) {
-                return Some(message.text.as_str());
-            }
+        match find_message(sgraph, &self.messages, state) {
+            Some(message) => Some(message.text.as_str()),
+            None => None,
         }
-        None
     }
+}
+
+/// The first message for the state, if there is one.
+pub(crate) fn find_message<'m, StorageT: StorageIndex>(
+    sgraph: &StateGraph<StorageT>,
+    messages: &'m [Message<StorageT>],
+    state: StIdx<StorageT>,
+) -> Option<&'m Message<StorageT>>
+    ensures { FindsMessage (λ message. string_bytes message.now.text) sgraph.now (messages_of StorageT.index messages.now) (StorageT.index state.0) result }
+{
+    for message in messages {
+        if have_same_kernel(sgraph, message.state, state) {
+            return Some(message);
+        }
+    }
+    None
 }

@@ -1,4 +1,8 @@
 //! Short ways from the start of a table to its states.
+ghost use Rattle.std.specs.Prelude.{◌<◌};
+ghost use Rattle.lrpar_table_rows.specs.Table.{states_len};
+ghost use Rattle.lrpar_table_sentences.specs.Choices.{AreShortest};
+
 use lrpar_grammar::grammar::YaccGrammar;
 use lrpar_grammar::span::{StIdx, StorageIndex, Symbol, TIdx};
 use lrpar_table_check::check::ParserData;
@@ -175,13 +179,15 @@ pub(crate) fn tokens_of<StorageT: StorageIndex>(
     data: &ParserData<StorageT>,
     shortest: &Shortest<StorageT>,
     symbols: &[Symbol<StorageT>],
-) -> Result<Option<Vec<TIdx<StorageT>>>, AllocError> {
+) -> Result<Option<Vec<TIdx<StorageT>>>, AllocError>
+    requires { AreShortest data.now.grammar usize.MAX shortest.now }
+{
     let mut moves = Vec::new(alloc);
     for symbol in symbols {
-        if shortest.len_of(*symbol).is_none() {
-            return Ok(None);
+        match shortest.len_of(*symbol) {
+            Some(_) => shortest.push_moves(alloc, &mut moves, data.grm(), *symbol)?,
+            None => return Ok(None),
         }
-        shortest.push_moves(alloc, &mut moves, data.grm(), *symbol)?;
     }
     let mut tokens = Vec::new(alloc);
     for step in &moves {

@@ -1,14 +1,12 @@
 //! The reader of a catalogue.
-ghost use Rattle.std.specs.Prelude.{◌≡◌, IfOk, None};
+ghost use Rattle.std.specs.Prelude.{IfOk};
 ghost use Rattle.lrpar_messages.specs.Messages.{AreApart, HasNoMessage, messages_of};
 use crate::entry::state_of;
 use crate::fault::{MessageFault, MessageFaultKind};
-use crate::groups::have_same_kernel;
 use crate::lines::{Lines, entries_of};
-use crate::messages::Message;
-use lrpar_grammar::span::{Span, StIdx, StorageIndex};
+use crate::messages::{Message, find_message};
+use lrpar_grammar::span::{Span, StorageIndex};
 use lrpar_table_check::check::ParserData;
-use lrpar_table_rows::table::StateGraph;
 use std::alloc::{AllocError, Global};
 
 /// The messages of the entries without a fault. Adds the faults of the others.
@@ -54,13 +52,17 @@ fn message_of<StorageT: StorageIndex>(
 ) -> Result<Result<Message<StorageT>, (MessageFaultKind, Span)>, AllocError>
     ensures new { IfOk result (λ made. IfOk made (λ message. HasNoMessage data.now.graph (messages_of StorageT.index messages.now) (StorageT.index message.state.0))) }
 {
+    let line = entry.span;
     let state = match state_of(alloc, data, entry.head)? {
         Ok(state) => state,
-        Err(fault) => return Ok(Err(fault)),
+        Err(fault) => return Ok(Err((fault.kind, fault.span(line)))),
     };
-    let line = entry.head.span;
-    if let Some(first) = line_of(data.sgraph(), messages, state) {
-        return Ok(Err((MessageFaultKind::Repeated { first }, line)));
+    match find_message(data.sgraph(), messages, state) {
+        Some(other) => {
+            let first = other.line;
+            return Ok(Err((MessageFaultKind::Repeated { first }, line)));
+        }
+        None => {}
     }
     if entry.message.is_empty() {
         return Ok(Err((MessageFaultKind::NoMessage, line)));
@@ -70,20 +72,4 @@ fn message_of<StorageT: StorageIndex>(
         text: String::from_str(alloc, entry.message.as_str())?,
         line,
     }))
-}
-
-// The line of the message for a state with the same kernel cores, if there is one.
-fn line_of<StorageT: StorageIndex>(
-    sgraph: &StateGraph<StorageT>,
-    messages: &[Message<StorageT>],
-    state: StIdx<StorageT>,
-) -> Option<Span>
-    ensures none { result ≡ None → HasNoMessage sgraph.now (messages_of StorageT.index messages.now) (StorageT.index state.0) }
-{
-    for message in messages {
-        if have_same_kernel(sgraph, message.state, state) {
-            return Some(message.line);
-        }
-    }
-    None
 }

@@ -73,8 +73,9 @@ pub fn error_examples<StorageT: StorageIndex>(
         }
     }
     for place in 0..examples.len() {
-        let example = &mut examples[place];
-        example.elsewhere = tokens_elsewhere(alloc, data, example.state, &example.expected)?;
+        if let Some(example) = examples.get_mut(place) {
+            example.elsewhere = tokens_elsewhere(alloc, data, example.state, &example.expected)?;
+        }
     }
     Ok(examples)
 }
@@ -177,14 +178,41 @@ pub(crate) fn stack_after<StorageT: StorageIndex>(
 ) -> Result<Option<Vec<StIdx<StorageT>>>, AllocError>
     ensures { IfOk result (λ stack. IfSome stack (HasStack StorageT.index data.now)) }
 {
-    let mut stack = Vec::new(alloc);
-    stack.push(data.stable().start_state())?;
-    for token in tokens {
-        if usize::from(*token) >= data.stable().tokens_len() || !data.feed(&mut stack, *token)? {
+    let mut stack = start_stack(alloc, data)?;
+    'feeding: for token in tokens {
+        if !feed(data, &mut stack, *token)? {
             return Ok(None);
         }
     }
     Ok(Some(stack))
+}
+
+// The stack before any token.
+fn start_stack<StorageT: StorageIndex>(
+    alloc: Global,
+    data: &ParserData<StorageT>,
+) -> Result<Vec<StIdx<StorageT>>, AllocError>
+    ensures { IfOk result (HasStack StorageT.index data.now) }
+{
+    let start = data.stable().start_state();
+    let mut stack = Vec::new(alloc);
+    stack.push(start)?;
+    Ok(stack)
+}
+
+// Feeds a token, and returns whether it could be fed.
+fn feed<StorageT: StorageIndex>(
+    data: &ParserData<StorageT>,
+    stack: &mut Vec<StIdx<StorageT>>,
+    token: TIdx<StorageT>,
+) -> Result<bool, AllocError>
+    requires { HasStack StorageT.index data.now stack.old }
+    ensures { HasStack StorageT.index data.now stack.new }
+{
+    if usize::from(token) >= data.stable().tokens_len() {
+        return Ok(false);
+    }
+    data.feed(stack, token)
 }
 
 /// The state in which a run with this stack stops at the token, if it does.
@@ -247,9 +275,11 @@ fn push_token<StorageT: StorageIndex>(
     grm: &YaccGrammar<StorageT>,
     token: TIdx<StorageT>,
 ) -> Result<(), AllocError> {
-    let name = match grm.token_name(token) {
-        Some(name) if usize::from(token) < grm.tokens_len() => name,
-        _ => return out.push('$'),
+    if usize::from(token) >= grm.tokens_len() {
+        return out.push('$');
+    }
+    let Some(name) = grm.token_name(token) else {
+        return out.push('$');
     };
     let quote = if name.contains('\'') { '"' } else { '\'' };
     out.push(quote)?;
