@@ -4,8 +4,8 @@
 #   new-language.sh FOLDER NAME       makes FOLDER, which mustn't exist or must be empty, with the library and the crate NAME
 #   new-language.sh --update FOLDER   replaces the library in such a repository by this version, and leaves your crates as they are
 #
-# The library is each crate that `lrpar`, `lrpar_lexer` and `lrpar_report` need, with what was proved of it here, if it was. The crate NAME
-# is a small language of settings to start from. Ends with 0, or with 1 and a line that says why not.
+# The library is each crate that those need which a user names (DOORS), with what was proved of it here, if it was. The crate NAME is a
+# small language of settings to start from. Ends with 0, or with 1 and a line that says why not.
 set -u
 
 here=$(cd -P "$(dirname "$(readlink -f "${BASH_SOURCE[0]}")")" && pwd) || exit 1
@@ -16,7 +16,7 @@ readonly root
 . "$here/crates.sh"
 
 # What users name of the library.
-readonly DOORS=(lrpar lrpar_lexer lrpar_report)
+readonly DOORS=(lrpar lrpar_grammar_unmatched lrpar_lexer lrpar_names lrpar_report lrpar_report_fixes)
 # The crate that a new one is a copy of.
 readonly TEMPLATE=example_project
 # The lines of crates.txt between which the library is.

@@ -23,11 +23,13 @@ ALSO_NAMED = {
     "lrpar_grammar_unmatched",
     "lrpar_lexer",
     "lrpar_lexer_lrlex",
+    "lrpar_names",
     "lrpar_parse_precedences",
     "lrpar_parse_prefixes",
     "lrpar_parse_trees",
     "lrpar_report",
     "lrpar_report_bison",
+    "lrpar_report_fixes",
     "lrpar_table_sentences",
 }
 

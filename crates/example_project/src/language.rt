@@ -1,10 +1,14 @@
-//! The language: its grammar and its lexer.
+//! The language: its grammar, its lexer, and what reports call its tokens.
 use crate::values::PRODS;
 use lrpar::ParserData;
 use lrpar::build::{Unbuilt, parser_data};
 use lrpar::grammar::{GrammarFault, Spelled, SpelledFault, YaccGrammar};
 use lrpar::parser::ParseFault;
-use lrpar_lexer::{LexRule, RulesFault, rules_of};
+use lrpar::span::TIdx;
+use lrpar_grammar_unmatched::{UnmatchedFault, with_unmatched};
+use lrpar_lexer::{LexRule, RuleLexer, RulesFault, rules_of};
+use lrpar_names::{Names, NamesFault};
+use lrpar_report_fixes::{Wording, read_token_texts};
 use std::alloc::{AllocError, Global};
 use std::io;
 use thiserror::Error;
@@ -21,6 +25,11 @@ const LEXER: &str = r"
     ; ';'
     [ \t\r\n]+ ;";
 
+// What reports call tokens, and rules if you name some. A token without a name here is called by its text, such as `;`.
+const NAMES: &str = "
+    NAME: a name
+    DIGITS: a number";
+
 /// Why a text has no settings.
 #[derive(Debug, Drop, Error)]
 pub(crate) enum Failed {
@@ -28,8 +37,12 @@ pub(crate) enum Failed {
     Streams(#[from] io::Error),
     #[error("grammar: {0}")]
     Grammar(#[from] GrammarFault),
+    #[error("token of unmatched text: {0}")]
+    Unmatched(#[from] UnmatchedFault),
     #[error("lexer: {0}")]
     Lexer(#[from] RulesFault),
+    #[error("names: {0}")]
+    Names(#[from] NamesFault),
     #[error("productions: {0}")]
     Productions(#[from] SpelledFault),
     #[error("table: {0}")]
@@ -44,23 +57,52 @@ pub(crate) enum Failed {
     Memory(#[from(alloc)] AllocError),
 }
 
-/// The table of the grammar, the rules of the lexer, and the productions by their places in `PRODS`.
+/// The table of the grammar, the rules of the lexer, the productions by their places in `PRODS`, and the words of reports.
 #[derive(Drop)]
 pub(crate) struct Language {
     pub(crate) data: ParserData<u32>,
-    pub(crate) rules: Vec<LexRule>,
+    rules: Vec<LexRule>,
+    // The token of text that no rule matches.
+    unmatched: TIdx<u32>,
     pub(crate) spelled: Spelled<u32>,
+    pub(crate) wording: Wording<u32>,
+}
+
+impl Language {
+    /// The lexer of a text.
+    pub(crate) fn lexer<'rules, 'text>(
+        &'rules self,
+        alloc: Global,
+        text: &'text str,
+    ) -> Result<RuleLexer<'rules, 'text>, AllocError> {
+        Ok(RuleLexer::new(alloc, &self.rules, text)?.with_unmatched(self.unmatched))
+    }
 }
 
 /// Makes the language. `Err` if the texts above don't fit one another, or `PRODS`.
 pub(crate) fn new_language(alloc: Global) -> Result<Language, Failed> {
     let grm = YaccGrammar::<u32>::new_with_storaget(alloc, GRAMMAR)?;
+    let (grm, unmatched) = with_unmatched(alloc, &grm, "unmatched text")?;
+    let rules = rules_of(alloc, &grm, LEXER)?;
+    let spelled = grm.prods_spelled(alloc, &PRODS)?;
+    let wording = wording_of(alloc, &grm, &rules)?.unmatched(unmatched);
     let data = parser_data(alloc, grm, 10_000, 1_000)?;
-    let rules = rules_of(alloc, data.grm(), LEXER)?;
-    let spelled = data.grm().prods_spelled(alloc, &PRODS)?;
     Ok(Language {
         data,
         rules,
+        unmatched,
         spelled,
+        wording,
     })
+}
+
+// The words of reports.
+fn wording_of(
+    alloc: Global,
+    grm: &YaccGrammar<u32>,
+    rules: &[LexRule],
+) -> Result<Wording<u32>, Failed> {
+    let names = Names::read(alloc, grm, NAMES)?;
+    let texts = read_token_texts(alloc, grm, rules, LEXER)?;
+    Ok(Wording::new(alloc, grm, names, texts)?)
 }

@@ -9,9 +9,10 @@ mod values;
 use crate::language::{Failed, Language, new_language};
 use crate::values::{Setting, Settings, Value};
 use lrpar::repair::CpctPlus;
-use lrpar::{LexParseError, RTParserBuilder};
-use lrpar_lexer::{RuleLexer, TokenTypes};
-use lrpar_report::{Look, Reporter, error_report};
+use lrpar::{LexParseError, Lexer, RTParserBuilder};
+use lrpar_lexer::TokenTypes;
+use lrpar_report::{Look, Reporter, lexing_report};
+use lrpar_report_fixes::TextReports;
 use std::alloc::{AllocError, Global};
 use std::io;
 
@@ -45,9 +46,17 @@ fn push_errors(
     text: &str,
     errors: &[LexParseError<u32, TokenTypes>],
 ) -> Result<(), AllocError> {
+    if errors.is_empty() {
+        return Ok(());
+    }
     let reporter = Reporter::new(alloc, text, "input", Look::Plain)?;
+    let answers = language.lexer(alloc, text)?.iter(alloc)?;
+    let mut reports = TextReports::new(alloc, &language.data, &language.wording, text, &answers)?;
     for error in errors {
-        let report = error_report(alloc, &language.data, text, error)?;
+        let report = match error {
+            LexParseError::LexError(error) => lexing_report(alloc, text, error)?,
+            LexParseError::ParseError(error) => reports.report(alloc, error)?,
+        };
         reporter.push(out, alloc, &report)?;
     }
     Ok(())
@@ -59,7 +68,7 @@ fn parse<'text>(
     language: &Language,
     text: &'text str,
 ) -> Result<Parsed<'text>, Failed> {
-    let lexer = RuleLexer::new(alloc, &language.rules, text)?;
+    let lexer = language.lexer(alloc, text)?;
     let parser = RTParserBuilder::new(&language.data).recoverer(CpctPlus::new(10_000));
     let values = Settings {
         spelled: &language.spelled,

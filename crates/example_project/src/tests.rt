@@ -5,7 +5,7 @@ use std::alloc::Global;
 use std::process::Abort;
 use std::test::Fail;
 
-const SHOWN: [(&str, &str); 3] = [
+const SHOWN: [(&str, &str); 5] = [
     ("", ""),
     (
         "width = 80;\nheight = 20 + 4;",
@@ -13,7 +13,15 @@ const SHOWN: [(&str, &str); 3] = [
     ),
     (
         "width 80;",
-        "input:1:7: error: unexpected '80', expected '='\n1| width 80;\n         ^^\nnote: repair 1: Insert =\nwidth is 80\n",
+        "input:1:6: error: expected '=' before '80'\n1| width 80;\n        ^\nhelp: insert '='\n1| width = 80;\n        ++\nwidth is 80\n",
+    ),
+    (
+        "width = ;",
+        "input:1:8: error: expected a number before ';'\n1| width = ;\n          ^\nhelp: insert a number\nwidth is 0\n",
+    ),
+    (
+        "width = 8 & 4;",
+        "input:1:11: error: unknown text '&', expected ';' or '+'\n1| width = 8 & 4;\n             ^ the lexer gives no token here\nhelp: replace '&' by '+'\n1| width = 8 + 4;\n             ~\nhelp: or delete '& 4'\nwidth is 12\n",
     ),
 ];
 

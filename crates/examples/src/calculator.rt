@@ -1,7 +1,7 @@
-//! A calculator: for each line of a text its errors with their repairs, and then its value, or that it has none.
+//! A calculator: for each line of a text its errors with fixes, and then its value, or that it has none.
 ghost use Rattle.std.specs.Prelude.{◌↔◌, IfOk, IsTrue};
 
-use crate::language::{Failed, Language, language_of, push_errors};
+use crate::language::{Failed, Language, language_of};
 use lrpar::parser::AStackType::ActionType;
 use lrpar::parser::{AStackType, Actions};
 use lrpar::repair::CpctPlus;
@@ -86,7 +86,7 @@ pub(crate) fn run(alloc: Global, text: &str) -> Result<String, Failed> {
 // Adds the errors of a line, and its value.
 fn push_line(out: &mut String, alloc: Global, sums: &Language, line: &str) -> Result<(), Failed> {
     let (value, errors) = parse(alloc, sums, line)?;
-    push_errors(out, alloc, sums, "line", line, &errors)?;
+    sums.push_errors(out, alloc, "line", line, &errors)?;
     Ok(push_value(out, line, value)?)
 }
 
@@ -100,7 +100,7 @@ fn push_value(out: &mut String, line: &str, value: Option<u64>) -> Result<(), Al
 
 // The value of a line, if it has one, and its errors.
 fn parse(alloc: Global, sums: &Language, line: &str) -> Result<Parsed, Failed> {
-    let lexer = RuleLexer::new(alloc, &sums.rules, line)?;
+    let lexer = sums.lexer(alloc, line)?;
     let parser = RTParserBuilder::new(&sums.data).recoverer(CpctPlus::new(10_000));
     let (value, errors) = parser.parse_actions(alloc, &lexer, &Calculation { line }, &())?;
     Ok((value.unwrap_or(None), errors))

@@ -2,7 +2,6 @@
 use crate::language::{Failed, Language, language_of};
 use lrpar::span::TIdx;
 use lrpar::{Lexeme, Lexer, RTParserBuilder};
-use lrpar_lexer::RuleLexer;
 use std::alloc::{AllocError, Global};
 
 const GRAMMAR: &str = "%% Sum: Sum '+' Term | Term; Term: '(' Sum ')' | 'INT';";
@@ -28,7 +27,7 @@ pub(crate) fn run(alloc: Global, text: &str) -> Result<String, Failed> {
 // come in place of the lexeme at the error.
 fn push_line(out: &mut String, alloc: Global, sums: &Language, line: &str) -> Result<(), Failed> {
     push_next(out, alloc, sums, "")?;
-    let lexer = RuleLexer::new(alloc, &sums.rules, line)?;
+    let lexer = sums.lexer(alloc, line)?;
     for lexeme in lexer.iter(alloc)? {
         if let Ok(lexeme) = lexeme {
             let front = line.get(..lexeme.span().end()).unwrap_or("");
@@ -40,7 +39,7 @@ fn push_line(out: &mut String, alloc: Global, sums: &Language, line: &str) -> Re
 
 // Adds a text, and the tokens that may come after it.
 fn push_next(out: &mut String, alloc: Global, sums: &Language, text: &str) -> Result<(), Failed> {
-    let lexer = RuleLexer::new(alloc, &sums.rules, text)?;
+    let lexer = sums.lexer(alloc, text)?;
     let expected = RTParserBuilder::new(&sums.data).expected(alloc, &lexer)?;
     Ok(push_tokens(out, sums, text, &expected.tokens)?)
 }

@@ -1,5 +1,5 @@
 //! A formatter of settings: one a line, with one space at each side of `=`; or the errors of the text, if it has any.
-use crate::language::{Failed, Language, language_of, push_errors};
+use crate::language::{Failed, Language, language_of};
 use lrpar::{Lexeme, Lexer, RTParserBuilder};
 use lrpar_lexer::RuleLexer;
 use std::alloc::Global;
@@ -30,12 +30,12 @@ fn push_formatted(
     settings: &Language,
     text: &str,
 ) -> Result<(), Failed> {
-    let lexer = RuleLexer::new(alloc, &settings.rules, text)?;
+    let lexer = settings.lexer(alloc, text)?;
     let errors = RTParserBuilder::new(&settings.data).parse_noaction(alloc, &lexer)?;
     if errors.is_empty() {
         push_settings(out, alloc, &lexer, text)
     } else {
-        Ok(push_errors(out, alloc, settings, "input", text, &errors)?)
+        Ok(settings.push_errors(out, alloc, "input", text, &errors)?)
     }
 }
 

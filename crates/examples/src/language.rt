@@ -2,9 +2,13 @@
 use lrpar::build::{Unbuilt, parser_data};
 use lrpar::grammar::{GrammarFault, SpelledFault, YaccGrammar};
 use lrpar::parser::ParseFault;
-use lrpar::{LexParseError, ParserData};
-use lrpar_lexer::{LexRule, RulesFault, TokenTypes, rules_of};
-use lrpar_report::{Look, Reporter, error_report};
+use lrpar::span::TIdx;
+use lrpar::{LexParseError, Lexer, ParserData};
+use lrpar_grammar_unmatched::{UnmatchedFault, with_unmatched};
+use lrpar_lexer::{LexRule, RuleLexer, RulesFault, TokenTypes, rules_of};
+use lrpar_names::Names;
+use lrpar_report::{Look, Reporter, lexing_report};
+use lrpar_report_fixes::{TextReports, Wording, read_token_texts};
 use std::alloc::{AllocError, Global};
 use std::io;
 use thiserror::Error;
@@ -16,6 +20,8 @@ pub(crate) enum Failed {
     Streams(#[from] io::Error),
     #[error("grammar: {0}")]
     Grammar(#[from] GrammarFault),
+    #[error("token of unmatched text: {0}")]
+    Unmatched(#[from] UnmatchedFault),
     #[error("lexer: {0}")]
     Lexer(#[from] RulesFault),
     #[error("table: {0}")]
@@ -30,34 +36,74 @@ pub(crate) enum Failed {
     Memory(#[from(alloc)] AllocError),
 }
 
-/// A language: the table of its grammar, and the rules of its lexer.
+/// A language: the table of its grammar, the rules of its lexer, and what reports call its tokens.
 #[derive(Drop)]
 pub(crate) struct Language {
     pub(crate) data: ParserData<u32>,
-    pub(crate) rules: Vec<LexRule>,
+    rules: Vec<LexRule>,
+    // The token of text that no rule matches.
+    unmatched: TIdx<u32>,
+    wording: Wording<u32>,
+}
+
+impl Language {
+    /// The lexer of a text.
+    pub(crate) fn lexer<'rules, 'input>(
+        &'rules self,
+        alloc: Global,
+        input: &'input str,
+    ) -> Result<RuleLexer<'rules, 'input>, AllocError> {
+        Ok(RuleLexer::new(alloc, &self.rules, input)?.with_unmatched(self.unmatched))
+    }
+
+    /// Adds the report of each error of a parse of the text, which is named so.
+    pub(crate) fn push_errors(
+        &self,
+        out: &mut String,
+        alloc: Global,
+        name: &str,
+        text: &str,
+        errors: &[LexParseError<u32, TokenTypes>],
+    ) -> Result<(), AllocError> {
+        if errors.is_empty() {
+            return Ok(());
+        }
+        let reporter = Reporter::new(alloc, text, name, Look::Plain)?;
+        let answers = self.lexer(alloc, text)?.iter(alloc)?;
+        let mut reports = TextReports::new(alloc, &self.data, &self.wording, text, &answers)?;
+        for error in errors {
+            let report = match error {
+                LexParseError::LexError(error) => lexing_report(alloc, text, error)?,
+                LexParseError::ParseError(error) => reports.report(alloc, error)?,
+            };
+            reporter.push(out, alloc, &report)?;
+        }
+        Ok(())
+    }
 }
 
 /// The language of these texts.
 pub(crate) fn language_of(alloc: Global, grammar: &str, lexer: &str) -> Result<Language, Failed> {
     let grm = YaccGrammar::<u32>::new_with_storaget(alloc, grammar)?;
+    let (grm, unmatched) = with_unmatched(alloc, &grm, "unmatched text")?;
+    let rules = rules_of(alloc, &grm, lexer)?;
+    let wording = wording_of(alloc, &grm, &rules, lexer)?.unmatched(unmatched);
     let data = parser_data(alloc, grm, 10_000, 1_000)?;
-    let rules = rules_of(alloc, data.grm(), lexer)?;
-    Ok(Language { data, rules })
+    Ok(Language {
+        data,
+        rules,
+        unmatched,
+        wording,
+    })
 }
 
-/// Adds the report of each error of a parse of the text, which is named so.
-pub(crate) fn push_errors(
-    out: &mut String,
+// What reports call the tokens: the text of each that always has the same one by the rules of the lexer, and else its name.
+fn wording_of(
     alloc: Global,
-    language: &Language,
-    name: &str,
-    text: &str,
-    errors: &[LexParseError<u32, TokenTypes>],
-) -> Result<(), AllocError> {
-    let reporter = Reporter::new(alloc, text, name, Look::Plain)?;
-    for error in errors {
-        let report = error_report(alloc, &language.data, text, error)?;
-        reporter.push(out, alloc, &report)?;
-    }
-    Ok(())
+    grm: &YaccGrammar<u32>,
+    rules: &[LexRule],
+    lexer: &str,
+) -> Result<Wording<u32>, AllocError> {
+    let texts = read_token_texts(alloc, grm, rules, lexer)?;
+    Wording::new(alloc, grm, Names::new(alloc, grm)?, texts)
 }

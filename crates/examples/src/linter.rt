@@ -1,5 +1,5 @@
-//! A linter of JSON: reports of the errors of a text, with repairs, and of keys that are twice in an object; and how deep the text nests.
-use crate::language::{Failed, Language, language_of, push_errors};
+//! A linter of JSON: reports of the errors of a text, with fixes, and of keys that are twice in an object; and how deep the text nests.
+use crate::language::{Failed, Language, language_of};
 use lrpar::repair::CpctPlus;
 use lrpar::span::TextRange;
 use lrpar::{Lexeme, Lexer, RTParserBuilder};
@@ -8,7 +8,7 @@ use lrpar_report::{Look, Report, Reporter};
 use std::alloc::{AllocError, Global};
 use std::collections::BTreeMap;
 
-const GRAMMAR: &str = "%% Value: Object | Array | 'STRING' | 'NUMBER' | 'WORD';
+const GRAMMAR: &str = "%% Value: Object | Array | 'STRING' | 'NUMBER' | 'true' | 'false' | 'null';
     Object: '{' '}' | '{' Members '}';
     Members: Member | Members ',' Member;
     Member: 'STRING' ':' Value;
@@ -18,7 +18,9 @@ const GRAMMAR: &str = "%% Value: Object | Array | 'STRING' | 'NUMBER' | 'WORD';
 const LEXER: &str = r#"
     "([^"\\]|\\.)*" 'STRING'
     -?[0-9]+(\.[0-9]+)?([eE][-+]?[0-9]+)? 'NUMBER'
-    true|false|null 'WORD'
+    true 'true'
+    false 'false'
+    null 'null'
     \{ '{'
     \} '}'
     \[ '['
@@ -42,11 +44,11 @@ fn push_reports(
     json: &Language,
     text: &str,
 ) -> Result<(), Failed> {
-    let lexer = RuleLexer::new(alloc, &json.rules, text)?;
+    let lexer = json.lexer(alloc, text)?;
     let errors = RTParserBuilder::new(&json.data)
         .recoverer(CpctPlus::new(10_000))
         .parse_noaction(alloc, &lexer)?;
-    push_errors(out, alloc, json, "input", text, &errors)?;
+    json.push_errors(out, alloc, "input", text, &errors)?;
     Ok(push_lints(out, alloc, &lexer, text)?)
 }
 

@@ -1,17 +1,17 @@
-//! A linter of queries: the errors of a file, with repairs, and what may be wrong with its statements.
+//! A linter of queries: the errors of a file, with fixes, and what may be wrong with its statements.
 mod language;
 mod lints;
 mod tree;
 mod values;
 
-use crate::language::{Failed, Language, language_of, push_errors};
+use crate::language::{Failed, Language, language_of};
 use crate::queries::language::{GRAMMAR, LEXER};
 use crate::queries::lints::lints;
 use crate::queries::tree::Query;
 use crate::queries::values::{EXPR_PRODS, QUERY_PRODS, Queries, Value};
 use lrpar::repair::CpctPlus;
 use lrpar::{LexParseError, RTParserBuilder};
-use lrpar_lexer::{RuleLexer, TokenTypes};
+use lrpar_lexer::TokenTypes;
 use lrpar_report::{Look, Reporter};
 use std::alloc::{AllocError, Global};
 
@@ -34,7 +34,7 @@ fn push_reports(
     text: &str,
 ) -> Result<(), Failed> {
     let (file, errors) = parse(alloc, queries, text)?;
-    push_errors(out, alloc, queries, "input", text, &errors)?;
+    queries.push_errors(out, alloc, "input", text, &errors)?;
     if let Some(Value::File(queries)) = &file {
         push_lints(out, alloc, text, queries)?;
     }
@@ -47,9 +47,8 @@ fn parse<'text>(
     queries: &Language,
     text: &'text str,
 ) -> Result<Parsed<'text>, Failed> {
+    let lexer = queries.lexer(alloc, text)?;
     let grm = queries.data.grm();
-    let unmatched = grm.token_idx("UNMATCHED").ok_or(Failed::Symbols)?;
-    let lexer = RuleLexer::new(alloc, &queries.rules, text)?.with_unmatched(unmatched);
     let spelled = grm.prods_spelled_in_parts(alloc, &[&QUERY_PRODS, &EXPR_PRODS])?;
     let parser = RTParserBuilder::new(&queries.data).recoverer(CpctPlus::new(10_000));
     let values = Queries { spelled: &spelled };

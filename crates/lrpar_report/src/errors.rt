@@ -5,7 +5,6 @@ ghost use Rattle.lrpar_report_lines.specs.Labels.{HasOneLabel};
 ghost use Rattle.lrpar_report_lines.specs.declared.levels.Level.TheVariants.{Error};
 
 use crate::choices::{push_choices, push_quoted};
-use crate::repairs::with_repairs;
 use lrpar_grammar::grammar::YaccGrammar;
 use lrpar_grammar::span::{Span, StorageIndex, TIdx};
 use lrpar_parse_errors::errors::{LexParseError, ParseError};
@@ -18,7 +17,7 @@ use std::alloc::{AllocError, Global};
 const MOST_CHARACTERS: usize = 40;
 
 /// The report of an error of a parse: that of [`lexing_report`] or of [`parse_report`]. `data` should be the table of the parse, and
-/// `text` its input; else the report means nothing.
+/// `text` its input; else the report means nothing. `TextReports` of `lrpar_report_fixes` makes reports that offer fixes.
 ///
 /// Takes time linear in the report, and in the part of the text that the error names. `Err`: out of memory.
 pub fn error_report<StorageT: StorageIndex, LexerTypesT: LexerTypes<StorageT = StorageT>>(
@@ -76,8 +75,9 @@ fn push_character(out: &mut String, text: &str) -> Result<(), AllocError> {
     write!(out, " (U+{number:04X})")
 }
 
-/// The report of a parse error: that of [`unexpected_report`], with the tokens at which the state of the error has an action, and the
-/// first three repair sequences as notes. `data` should be the table of the parse, and `text` its input; else the report means nothing.
+/// The report of a parse error: that of [`unexpected_report`], with the tokens at which the state of the error has an action. `data`
+/// should be the table of the parse, and `text` its input; else the report means nothing. It says nothing of repairs: `TextReports` of
+/// `lrpar_report_fixes` makes reports that offer fixes.
 ///
 /// Takes time linear in the report, and in the part of the text that the error names. `Err`: out of memory.
 pub fn parse_report<LexemeT: Lexeme<StorageT>, StorageT: StorageIndex>(
@@ -90,8 +90,7 @@ pub fn parse_report<LexemeT: Lexeme<StorageT>, StorageT: StorageIndex>(
     ensures span { IfOk result (HasOneLabel (LexemeT.parts (error.now).lexeme).span) }
 {
     let expected = error.expected(data);
-    let report = unexpected_report(alloc, data.grm(), text, error.lexeme(), expected)?;
-    with_repairs(report, alloc, data.grm(), text, error.repairs())
+    unexpected_report(alloc, data.grm(), text, error.lexeme(), expected)
 }
 
 /// The report of a lexeme of a text that can't be where it is, and of the tokens that can: `unexpected 'LEXEME', expected A, B or C`. The
@@ -153,8 +152,8 @@ fn push_shortened(out: &mut String, text: &str) -> Result<(), AllocError> {
     }
 }
 
-/// The part of the text at a span whose ends may be anywhere.
-pub(crate) fn part_text(text: &str, span: Span) -> &str {
+// The part of the text at a span whose ends may be anywhere.
+fn part_text(text: &str, span: Span) -> &str {
     let part = part_of(text, span);
     text.get(part.start()..part.end()).unwrap_or("")
 }

@@ -13,7 +13,6 @@ mod loops;
 mod lrlex;
 mod near;
 mod placed;
-mod repairs;
 mod shape;
 mod tables;
 mod warnings;
@@ -31,7 +30,6 @@ pub use lrpar_report_lines::{
 };
 pub use near::nearest;
 pub use placed::{placed_error, placed_grammar_fault, placed_rules_fault};
-pub use repairs::push_repairs;
 pub use tables::{build_report, chain_report};
 pub use warnings::{rule_warnings, rule_warnings_but, token_warnings};
 pub use yacc::yacc_report;

@@ -2,8 +2,8 @@
 #![tactic(auto)]
 
 mod lists;
-mod members;
 mod parts;
 mod reporting;
+mod writer;
 
 pub use reporting::JsonReporter;

@@ -1,10 +1,8 @@
 //! Reports as JSON.
 ghost use Rattle.std.specs.Prelude.{◌≡◌, IfOk, OnErr, OnOk, string_bytes};
 ghost use Rattle.lrpar_grammar_places.specs.Strings.{Appends};
-ghost use Rattle.lrpar_report_json.specs.Writers.{Puts};
 
-use crate::lists::{write_fixes, write_labels, write_notes};
-use crate::members::write_text;
+use crate::writer::ReportWriter;
 use json::Writer;
 use lrpar_report_columns::Lines;
 use lrpar_report_lines::Report;
@@ -27,7 +25,7 @@ impl<'a> Model for JsonReporter<'a> {
 }
 
 impl<'a> JsonReporter<'a> {
-    ghost use Rattle.lrpar_report_json.specs.Tokens.{json_line, list_members, report_object, title_members};
+    ghost use Rattle.lrpar_report_json.specs.Tokens.{json_line};
 
     /// The reporter of a text and its path. Takes time linear in the text, and memory for each of its lines. `Err`: out of memory.
     pub fn new(alloc: Global, text: &'a str, path: &'a str) -> Result<Self, AllocError>
@@ -57,40 +55,48 @@ impl<'a> JsonReporter<'a> {
         ensures line { OnOk result (Appends out.old out.new (json_line self.now report.now)) }
         ensures unchanged { OnErr result (string_bytes out.new ≡ string_bytes out.old) }
     {
-        let mut writer = Writer::new(Vec::new(alloc));
-        self.write_report(&mut writer, report)?;
-        let Ok(mut line) = String::from_utf8(writer.into_inner()) else {
+        let mut writer = ReportWriter {
+            json: Writer::new(Vec::new(alloc)),
+            lines: &self.lines,
+        };
+        writer.write_report(self.path, report)?;
+        let Ok(mut line) = String::from_utf8(writer.json.into_inner()) else {
             unreachable!()
         };
         line.push('\n')?;
         out.push_str(line.as_str())
     }
+}
 
-    // Writes the report.
-    fn write_report(&self, writer: &mut Writer, report: &Report) -> Result<(), AllocError>
-        ensures { Puts result writer.old writer.new (report_object self.now report.now) }
+impl ReportWriter<'_> {
+    ghost use Rattle.lrpar_report_json.specs.Tokens.{lists_of, report_object, title_of};
+    ghost use Rattle.lrpar_report_json.specs.Writers.{Adds, Puts};
+
+    // Writes the report about the text at this path.
+    fn write_report(&mut self, path: &str, report: &Report) -> Result<(), AllocError>
+        ensures { Puts result self.old self.new (report_object path.now report.now) }
     {
-        writer.begin_object()?;
-        self.write_title(writer, report)?;
-        self.write_lists(writer, report)?;
-        writer.end_object()
+        self.json.begin_object()?;
+        self.write_title(path, report)?;
+        self.write_lists(report)?;
+        self.json.end_object()
     }
 
     // Writes the path, what the report is, and what is wrong.
-    fn write_title(&self, writer: &mut Writer, report: &Report) -> Result<(), AllocError>
-        ensures { Puts result writer.old writer.new (title_members self.now report.now) }
+    fn write_title(&mut self, path: &str, report: &Report) -> Result<(), AllocError>
+        ensures { Adds result self.old self.new (title_of path.now report.now) }
     {
-        write_text(writer, "path", self.path)?;
-        write_text(writer, "severity", report.level.word())?;
-        write_text(writer, "message", report.message.as_str())
+        self.write_text("path", path)?;
+        self.write_text("severity", report.level.word())?;
+        self.write_text("message", report.message.as_str())
     }
 
     // Writes the labels, the notes and the fixes.
-    fn write_lists(&self, writer: &mut Writer, report: &Report) -> Result<(), AllocError>
-        ensures { Puts result writer.old writer.new (list_members self.now.text report.now) }
+    fn write_lists(&mut self, report: &Report) -> Result<(), AllocError>
+        ensures { Puts result self.old self.new (lists_of report.now) }
     {
-        write_labels(writer, &self.lines, &report.labels)?;
-        write_notes(writer, &report.notes)?;
-        write_fixes(writer, &self.lines, &report.fixes)
+        self.write_labels(&report.labels)?;
+        self.write_notes(&report.notes)?;
+        self.write_fixes(&report.fixes)
     }
 }

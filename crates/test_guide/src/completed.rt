@@ -4,31 +4,28 @@ use lrpar::repair::Completion;
 use lrpar::{ParserData, RTParserBuilder};
 use lrpar_lexer::{LexRule, RuleLexer};
 use std::alloc::Global;
+use std::io::Write;
 use std::process::Abort;
 use std::test::Fail as Failed;
 
-/// The errors of a text with their repairs, and its tree, which there is whatever is wrong with the text.
-fn completed<'a>(
+/// Writes the errors of a text with their repairs, and its tree, which there is whatever is wrong with the text.
+fn complete<W: Write>(
     alloc: Global,
-    data: &'a ParserData<u32>,
-    rules: &'a [LexRule],
-    input: &'a str,
-) -> Result<String, Failed> {
+    data: &ParserData<u32>,
+    rules: &[LexRule],
+    input: &str,
+    out: &mut W,
+) -> Result<(), Failed> {
     let parser = RTParserBuilder::new(data).recoverer(Completion::new(alloc, data)?);
     let lexer = RuleLexer::new(alloc, rules, input)?;
     let (tree, errors) = parser.parse_generictree(alloc, &lexer)?;
-    let mut text = String::new(alloc);
-    let grm = data.grm();
     for error in &errors {
-        text.push_str(&error.message(alloc, grm, &lexer)?)?;
-        text.push('\n')?;
+        writeln!(out, "{}", error.message(alloc, data.grm(), &lexer)?)?;
     }
     if let Some(tree) = &tree {
-        if tree.fits(grm, input) {
-            text.push_str(&tree.pp(alloc, grm, input)?)?;
-        }
+        tree.write(alloc, data.grm(), input, out)?;
     }
-    Ok(text)
+    Ok(())
 }
 
 // Texts, and what is shown of each: a value and a sign are missing; a value and all that comes after it; and there is nothing to go on with.
@@ -55,8 +52,9 @@ pub(crate) fn are_completed(
     rules: &[LexRule],
 ) -> Result<(), Failed> {
     for (input, expected) in COMPLETED {
-        let found = completed(alloc, data, rules, input)?;
-        same(rt, &input, &found.as_str(), &expected);
+        let mut found = Vec::new(alloc);
+        complete(alloc, data, rules, input, &mut found)?;
+        same(rt, &input, &found.as_slice(), &expected.as_bytes());
     }
     Ok(())
 }

@@ -5,6 +5,7 @@ use lrpar::parser::ParseFault;
 use lrpar::{ParserData, RTParserBuilder};
 use lrpar_lexer::{LexRule, RuleLexer, RulesFault, rules_of};
 use std::alloc::{AllocError, Global};
+use std::io::{self, Write};
 use thiserror::Error;
 
 const GRAMMAR: &str =
@@ -25,6 +26,8 @@ pub(crate) enum Failed {
     Parse(#[from] ParseFault),
     #[error("out of memory")]
     Memory(#[from] AllocError),
+    #[error("output: {0}")]
+    Output(#[from] io::Error),
 }
 
 /// The table of settings, and the rules of their lexer.
@@ -34,25 +37,21 @@ pub(crate) fn language(alloc: Global) -> Result<(ParserData<u32>, Vec<LexRule>),
     Ok((parser_data(alloc, grm, 10_000, 1_000)?, rules))
 }
 
-/// The errors of a file of settings, and its tree.
-pub(crate) fn report<'a>(
+/// Writes the errors of a file of settings, and its tree.
+pub(crate) fn report<W: Write>(
     alloc: Global,
-    data: &'a ParserData<u32>,
-    rules: &'a [LexRule],
-    input: &'a str,
-) -> Result<String, Failed> {
+    data: &ParserData<u32>,
+    rules: &[LexRule],
+    input: &str,
+    out: &mut W,
+) -> Result<(), Failed> {
     let lexer = RuleLexer::new(alloc, rules, input)?;
     let (tree, errors) = RTParserBuilder::new(data).parse_generictree(alloc, &lexer)?;
-    let mut text = String::new(alloc);
-    let grm = data.grm();
     for error in &errors {
-        text.push_str(&error.message(alloc, grm, &lexer)?)?;
-        text.push('\n')?;
+        writeln!(out, "{}", error.message(alloc, data.grm(), &lexer)?)?;
     }
     if let Some(tree) = &tree {
-        if tree.fits(grm, input) {
-            text.push_str(&tree.pp(alloc, grm, input)?)?;
-        }
+        tree.write(alloc, data.grm(), input, out)?;
     }
-    Ok(text)
+    Ok(())
 }

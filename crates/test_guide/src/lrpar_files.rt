@@ -6,6 +6,7 @@ use lrpar::yacc::{YaccFile, YaccKind};
 use lrpar::{ParserData, RTParserBuilder};
 use lrpar_lexer_lrlex::{StateLexer, rules_of_lrlex};
 use std::alloc::Global;
+use std::io::Write;
 use std::test::Fail as Failed;
 
 /// A grammar with actions and precedences.
@@ -46,24 +47,21 @@ fn table_of(alloc: Global, text: &str) -> Result<ParserData<u32>, Failed> {
     Ok(options.build(alloc, grammar)?)
 }
 
-// The tree of an input by the rules of a `.l` file, if there is one.
-fn shown(
+// Writes the tree of an input by the rules of a `.l` file, if there is one.
+fn show<W: Write>(
     alloc: Global,
     data: &ParserData<u32>,
     rules: &str,
     input: &str,
-) -> Result<String, Failed> {
-    let grm = data.grm();
-    let rules = rules_of_lrlex(alloc, grm, rules)?;
+    out: &mut W,
+) -> Result<(), Failed> {
+    let rules = rules_of_lrlex(alloc, data.grm(), rules)?;
     let lexer = StateLexer::new(alloc, &rules, input)?;
     let (tree, _) = RTParserBuilder::new(data).parse_generictree(alloc, &lexer)?;
-    let mut text = String::new(alloc);
     if let Some(tree) = &tree {
-        if tree.fits(grm, input) {
-            text.push_str(&tree.pp(alloc, grm, input)?)?;
-        }
+        tree.write(alloc, data.grm(), input, out)?;
     }
-    Ok(text)
+    Ok(())
 }
 
 /// The tree of `1 - 2 - 3 * 4`.
@@ -86,7 +84,8 @@ const TREE: &str = "Expr
 #[test]
 fn tree_by_precedences(rt: HostRuntime) -> Result<(), Failed> {
     let data = table_of(rt.alloc(), GRAMMAR)?;
-    let tree = shown(rt.alloc(), &data, RULES, "1 - 2 /* * */ - 3 * 4")?;
-    same(&rt, &"a tree", &tree.as_str(), &TREE);
+    let mut tree = Vec::new(rt.alloc());
+    show(rt.alloc(), &data, RULES, "1 - 2 /* * */ - 3 * 4", &mut tree)?;
+    same(&rt, &"a tree", &tree.as_slice(), &TREE.as_bytes());
     Ok(())
 }
