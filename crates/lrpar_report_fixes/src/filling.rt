@@ -1,11 +1,13 @@
-//! Texts with names in braces, which values replace.
+//! Messages that name the lexeme of an error, what is expected, and the lexeme before.
 use std::alloc::AllocError;
 
-/// Adds a text with the values in place of their names, each of which comes after an opening brace.
+/// Adds a text with these in place of `{found}`, `{expected}` and `{before}`.
 pub(crate) fn push_filled(
     out: &mut String,
-    values: &[(&str, &str)],
     text: &str,
+    found: &str,
+    expected: &str,
+    before: &str,
 ) -> Result<(), AllocError> {
     let mut is_first = true;
     for piece in text.split('{') {
@@ -13,7 +15,7 @@ pub(crate) fn push_filled(
             out.push_str(piece)?;
             is_first = false;
         } else {
-            push_piece(out, values, piece)?;
+            push_piece(out, piece, found, expected, before)?;
         }
     }
     Ok(())
@@ -22,14 +24,22 @@ pub(crate) fn push_filled(
 // Adds a piece of a text that comes after an opening brace.
 fn push_piece(
     out: &mut String,
-    values: &[(&str, &str)],
     piece: &str,
+    found: &str,
+    expected: &str,
+    before: &str,
 ) -> Result<(), AllocError> {
-    for value in values {
-        if let Some(rest) = piece.strip_prefix(value.0) {
-            out.push_str(value.1)?;
-            return out.push_str(rest);
-        }
+    if let Some(rest) = piece.strip_prefix("found}") {
+        out.push_str(found)?;
+        return out.push_str(rest);
+    }
+    if let Some(rest) = piece.strip_prefix("expected}") {
+        out.push_str(expected)?;
+        return out.push_str(rest);
+    }
+    if let Some(rest) = piece.strip_prefix("before}") {
+        out.push_str(before)?;
+        return out.push_str(rest);
     }
     out.push('{')?;
     out.push_str(piece)

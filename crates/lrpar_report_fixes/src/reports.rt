@@ -37,14 +37,20 @@ pub(crate) fn report_with_fixes<LexemeT: Lexeme<StorageT>, StorageT: StorageInde
     let found = Found::new(subject, place, TIdx(lexeme.tok_id()), lexeme.span());
     let scene = Scene::new(alloc, subject, place)?;
     let ways = ways_of(alloc, &scene, error.repairs())?;
-    let Some(first) = ways.first() else {
-        let report = unexpected(alloc, subject, choices, found)?;
-        return with_message(alloc, subject, choices, found, error.stidx(), report);
+    let report = match ways.first() {
+        Some(first) => titled(alloc, subject, choices, found, first)?,
+        None => unexpected(alloc, subject, choices, found)?,
     };
-    let report = titled(alloc, subject, choices, found, first)?;
-    let report = with_message(alloc, subject, choices, found, error.stidx(), report)?;
-    let report = with_opener(&scene, first, report)?;
-    with_fixes(alloc, subject, &ways, report)
+    let state = error.stidx();
+    let found = Found::new(subject, place, TIdx(lexeme.tok_id()), lexeme.span());
+    let report = with_message(alloc, subject, choices, found, state, report)?;
+    match ways.first() {
+        Some(first) => {
+            let report = with_opener(&scene, first, report)?;
+            with_fixes(alloc, subject, &ways, report)
+        }
+        None => Ok(report),
+    }
 }
 
 /// The report of an error at a place with its first repairs as fixes, without what may come.
@@ -170,24 +176,31 @@ fn filled<StorageT: StorageIndex>(
     found: Found,
     text: &str,
 ) -> Result<String, AllocError> {
+    let place = found.place;
     let mut lexeme = String::new(alloc);
     found.push(&mut lexeme, subject.text)?;
     let mut expected = String::new(alloc);
     push_choices(&mut expected, subject.grm(), &subject.wording.names, choices)?;
     let mut before = String::new(alloc);
-    match found.place.checked_sub(1) {
-        Some(place) => push_shortened(&mut before, text_at(subject.text, subject.span_at(place)))?,
-        None => before.push_str("the start of the input")?,
-    }
+    push_before(&mut before, subject, place)?;
     let expected = expected.as_str();
-    let values = [
-        ("found}", lexeme.as_str()),
-        ("expected}", expected.strip_prefix("expected ").unwrap_or(expected)),
-        ("before}", before.as_str()),
-    ];
+    let expected = expected.strip_prefix("expected ").unwrap_or(expected);
     let mut out = String::new(alloc);
-    push_filled(&mut out, &values, text)?;
+    push_filled(&mut out, text, lexeme.as_str(), expected, before.as_str())?;
     Ok(out)
+}
+
+// Adds the lexeme before this place.
+fn push_before<StorageT: StorageIndex>(
+    out: &mut String,
+    subject: Subject<'_, StorageT>,
+    place: usize,
+) -> Result<(), AllocError> {
+    if place == 0 {
+        return out.push_str("the start of the input");
+    }
+    let span = subject.span_at(place.saturating_sub(1));
+    push_shortened(out, text_at(subject.text, span))
 }
 
 // The report of a lexeme that can't be where it is.
