@@ -23,6 +23,7 @@ ALSO_NAMED = {
     "lrpar_grammar_unmatched",
     "lrpar_lexer",
     "lrpar_lexer_lrlex",
+    "lrpar_messages",
     "lrpar_names",
     "lrpar_parse_precedences",
     "lrpar_parse_prefixes",
@@ -31,6 +32,7 @@ ALSO_NAMED = {
     "lrpar_report_bison",
     "lrpar_report_fixes",
     "lrpar_table_sentences",
+    "lrpar_table_stops",
 }
 
 

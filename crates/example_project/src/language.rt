@@ -7,6 +7,7 @@ use lrpar::parser::ParseFault;
 use lrpar::span::TIdx;
 use lrpar_grammar_unmatched::{UnmatchedFault, with_unmatched};
 use lrpar_lexer::{LexRule, RuleLexer, RulesFault, rules_of};
+use lrpar_messages::{MessageFault, Messages};
 use lrpar_names::{Names, NamesFault};
 use lrpar_report_fixes::{Wording, read_token_texts};
 use std::alloc::{AllocError, Global};
@@ -25,10 +26,37 @@ const LEXER: &str = r"
     ; ';'
     [ \t\r\n]+ ;";
 
-// What reports call tokens, and rules if you name some. A token without a name here is called by its text, such as `;`.
-const NAMES: &str = "
-    NAME: a name
-    DIGITS: a number";
+// What reports call tokens, and rules if you name some; a token without a name here is called by its text, such as `;`. After the line `%%`,
+// a message for each error that a text can have. `nimbleparse --list-errors` prints these errors.
+pub(crate) const MESSAGES: &str = "
+NAME: a name
+DIGITS: a number
+
+%%
+
+// A text can't begin with this.
+'+'
+    expected a setting, such as 'size = 3;', not {found}
+
+'NAME' $
+    expected '=' and a number after the name {before}, not {found}
+
+'NAME' '=' $
+    expected a number after '=', not {found}
+
+'NAME' '=' 'DIGITS' $
+    expected ';' after the number {before}, not {found}
+
+// A setting is done, and this can't begin another one.
+'NAME' '=' 'DIGITS' ';' '+'
+    expected another setting, or the end of the text, not {found}
+
+'NAME' '=' 'DIGITS' '+' $
+    expected a number after '+', not {found}
+
+'NAME' '=' 'DIGITS' '+' 'DIGITS' $
+    expected ';' after the sum that ends with {before}, not {found}
+";
 
 /// Why a text has no settings.
 #[derive(Debug, Drop, Error)]
@@ -43,6 +71,8 @@ pub(crate) enum Failed {
     Lexer(#[from] RulesFault),
     #[error("names: {0}")]
     Names(#[from] NamesFault),
+    #[error("messages: {0}")]
+    Messages(#[from] MessageFault),
     #[error("productions: {0}")]
     Productions(#[from] SpelledFault),
     #[error("table: {0}")]
@@ -87,6 +117,7 @@ pub(crate) fn new_language(alloc: Global) -> Result<Language, Failed> {
     let spelled = grm.prods_spelled(alloc, &PRODS)?;
     let wording = wording_of(alloc, &grm, &rules)?.unmatched(unmatched);
     let data = parser_data(alloc, grm, 10_000, 1_000)?;
+    let wording = wording.messages(Messages::read(alloc, &data, MESSAGES)?);
     Ok(Language {
         data,
         rules,
@@ -102,7 +133,7 @@ fn wording_of(
     grm: &YaccGrammar<u32>,
     rules: &[LexRule],
 ) -> Result<Wording<u32>, Failed> {
-    let names = Names::read(alloc, grm, NAMES)?;
+    let names = Names::read(alloc, grm, MESSAGES)?;
     let texts = read_token_texts(alloc, grm, rules, LEXER)?;
     Ok(Wording::new(alloc, grm, names, texts)?)
 }

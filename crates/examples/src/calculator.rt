@@ -75,7 +75,7 @@ impl<'a, 'rules, 'input> Actions<u32, Token<u32>, RuleLexer<'rules, 'input>> for
 
 /// The errors of each line of the text, and its value.
 pub(crate) fn run(alloc: Global, text: &str) -> Result<String, Failed> {
-    let sums = language_of(alloc, GRAMMAR, LEXER)?;
+    let sums = language_of(alloc, GRAMMAR, LEXER, "")?;
     let mut out = String::new(alloc);
     for line in text.split_terminator('\n') {
         push_line(&mut out, alloc, &sums, line)?;

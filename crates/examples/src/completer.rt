@@ -15,7 +15,7 @@ const LEXER: &str = r"
 
 /// What may come next after each beginning of each line of the text.
 pub(crate) fn run(alloc: Global, text: &str) -> Result<String, Failed> {
-    let sums = language_of(alloc, GRAMMAR, LEXER)?;
+    let sums = language_of(alloc, GRAMMAR, LEXER, "")?;
     let mut out = String::new(alloc);
     for line in text.split_terminator('\n') {
         push_line(&mut out, alloc, &sums, line)?;

@@ -17,7 +17,7 @@ const LEXER: &str = r#"
 
 /// The settings of the text, one a line; or its errors.
 pub(crate) fn run(alloc: Global, text: &str) -> Result<String, Failed> {
-    let settings = language_of(alloc, GRAMMAR, LEXER)?;
+    let settings = language_of(alloc, GRAMMAR, LEXER, "")?;
     let mut out = String::new(alloc);
     push_formatted(&mut out, alloc, &settings, text)?;
     Ok(out)

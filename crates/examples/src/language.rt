@@ -6,7 +6,8 @@ use lrpar::span::TIdx;
 use lrpar::{LexParseError, Lexer, ParserData};
 use lrpar_grammar_unmatched::{UnmatchedFault, with_unmatched};
 use lrpar_lexer::{LexRule, RuleLexer, RulesFault, TokenTypes, rules_of};
-use lrpar_names::Names;
+use lrpar_messages::{MessageFault, Messages};
+use lrpar_names::{Names, NamesFault};
 use lrpar_report::{Look, Reporter, lexing_report};
 use lrpar_report_fixes::{TextReports, Wording, read_token_texts};
 use std::alloc::{AllocError, Global};
@@ -24,6 +25,10 @@ pub(crate) enum Failed {
     Unmatched(#[from] UnmatchedFault),
     #[error("lexer: {0}")]
     Lexer(#[from] RulesFault),
+    #[error("names: {0}")]
+    Names(#[from] NamesFault),
+    #[error("messages: {0}")]
+    Messages(#[from] MessageFault),
     #[error("table: {0}")]
     Table(#[from] Unbuilt<u32>),
     #[error("productions: {0}")]
@@ -82,28 +87,25 @@ impl Language {
     }
 }
 
-/// The language of these texts.
-pub(crate) fn language_of(alloc: Global, grammar: &str, lexer: &str) -> Result<Language, Failed> {
+/// The language of these texts. `messages` has names of tokens and rules, and after a line `%%` messages for errors; it may be empty.
+pub(crate) fn language_of(
+    alloc: Global,
+    grammar: &str,
+    lexer: &str,
+    messages: &str,
+) -> Result<Language, Failed> {
     let grm = YaccGrammar::<u32>::new_with_storaget(alloc, grammar)?;
     let (grm, unmatched) = with_unmatched(alloc, &grm, "unmatched text")?;
     let rules = rules_of(alloc, &grm, lexer)?;
-    let wording = wording_of(alloc, &grm, &rules, lexer)?.unmatched(unmatched);
+    let names = Names::read(alloc, &grm, messages)?;
+    let texts = read_token_texts(alloc, &grm, &rules, lexer)?;
+    let wording = Wording::new(alloc, &grm, names, texts)?.unmatched(unmatched);
     let data = parser_data(alloc, grm, 10_000, 1_000)?;
+    let wording = wording.messages(Messages::read(alloc, &data, messages)?);
     Ok(Language {
         data,
         rules,
         unmatched,
         wording,
     })
-}
-
-// What reports call the tokens: the text of each that always has the same one by the rules of the lexer, and else its name.
-fn wording_of(
-    alloc: Global,
-    grm: &YaccGrammar<u32>,
-    rules: &[LexRule],
-    lexer: &str,
-) -> Result<Wording<u32>, AllocError> {
-    let texts = read_token_texts(alloc, grm, rules, lexer)?;
-    Wording::new(alloc, grm, Names::new(alloc, grm)?, texts)
 }

@@ -29,9 +29,68 @@ const LEXER: &str = r#"
     : ':'
     [ \t\r\n]+ ;"#;
 
+// Names of tokens and rules, and a message for each error that a text can have.
+const MESSAGES: &str = "
+Value: a value
+Member: a member
+STRING: a string
+NUMBER: a number
+
+%%
+
+$
+    expected a value, not {found}
+
+'{' $
+    expected the name of a member or '}' after '{', not {found}
+
+'{' 'STRING' $
+    expected ':' and a value after the name {before}, not {found}
+
+'{' 'STRING' ':' $
+    expected a value after ':', not {found}
+
+'{' 'STRING' ':' 'STRING' ',' $
+    expected another member after ',', not {found}
+
+'[' $
+    expected a value or ']' after '[', not {found}
+
+'[' 'STRING' ',' $
+    expected another value after ',', not {found}
+
+// After a value may come the end of the text, or what goes on with a list or an object.
+'STRING' ']'
+    expected {expected} after {before}, not {found}
+
+'NUMBER' ']'
+    expected {expected} after {before}, not {found}
+
+'true' ']'
+    expected {expected} after {before}, not {found}
+
+'false' ']'
+    expected {expected} after {before}, not {found}
+
+'null' ']'
+    expected {expected} after {before}, not {found}
+
+'{' '}' ']'
+    expected {expected} after {before}, not {found}
+
+'[' ']' ']'
+    expected {expected} after {before}, not {found}
+
+'{' 'STRING' ':' 'STRING' '}' ']'
+    expected {expected} after {before}, not {found}
+
+'[' 'STRING' ']' ']'
+    expected {expected} after {before}, not {found}
+";
+
 /// The reports about the text, on its errors and on what its lexemes show.
 pub(crate) fn run(alloc: Global, text: &str) -> Result<String, Failed> {
-    let json = language_of(alloc, GRAMMAR, LEXER)?;
+    let json = language_of(alloc, GRAMMAR, LEXER, MESSAGES)?;
     let mut out = String::new(alloc);
     push_reports(&mut out, alloc, &json, text)?;
     Ok(out)

@@ -20,7 +20,7 @@ type Parsed<'text> = (Option<Value<'text>>, Vec<LexParseError<u32, TokenTypes>>)
 
 /// The reports about the file.
 pub(crate) fn run(alloc: Global, text: &str) -> Result<String, Failed> {
-    let queries = language_of(alloc, GRAMMAR, LEXER)?;
+    let queries = language_of(alloc, GRAMMAR, LEXER, "")?;
     let mut out = String::new(alloc);
     push_reports(&mut out, alloc, &queries, text)?;
     Ok(out)

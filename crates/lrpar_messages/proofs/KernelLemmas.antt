@@ -60,37 +60,37 @@ AreFirstsBelow graph marks firsts n =
 -- none so far
 pub no_firsts : (graph : Graph) (marks : List Bool) → AreFirstsBelow graph marks [] 0
 no_firsts graph marks = (
-    λ first has. let low = has.1 in absurd (omega (arith, low)),
-    λ s low. absurd (omega (arith, low)),
-    λ i j d less within. absurd (omega (arith, within)),
-  )
+  λ first has. let low = has.1 in absurd (omega (arith, low)),
+  λ s low. absurd (omega (arith, low)),
+  λ i j d less within. absurd (omega (arith, within)),
+)
 
 -- one more state
 module _ (graph : Graph) (marks : List Bool) (firsts : List ℕ) (n : ℕ) (are : AreFirstsBelow graph marks firsts n) where
   pub one_first : IsFirst graph marks firsts n → AreFirstsBelow graph marks (firsts ++ n ∷ []) (n + 1)
   one_first first = (
-      λ s has.
-          elim (Contains-push_cases firsts n s has) as (λ _. IsTrue (is_marked marks s)) [
-            | inl before ↦ are.0 s before
-            | inr last ↦ subst (λ k. IsTrue (is_marked marks k)) last first.0
-          ],
-      λ s low marked.
-          elim (cases_eq s n) as (λ _. IsInGroup graph (firsts ++ n ∷ []) s) [
-            | inl same ↦ subst (IsInGroup graph (firsts ++ n ∷ [])) (sym same) (n, Contains-push firsts n, (λ p k has _. has, λ p k has _. has))
-            | inr other ↦
-                let before = are.1 s (omega (arith, low, other)) marked in
-                (before.0, Contains-append_left firsts (n ∷ []) before.0 before.1, before.2)
-          ],
-      apart_more (λ k. k) graph firsts n are.2 (λ j d _ within same. first.1 (get_or firsts j d, Contains-get_or firsts j d within, same)),
-    )
+    λ s has.
+        elim (Contains-push_cases firsts n s has) as (λ _. IsTrue (is_marked marks s)) [
+          | inl before ↦ are.0 s before
+          | inr last ↦ subst (λ k. IsTrue (is_marked marks k)) last first.0
+        ],
+    λ s low marked.
+        elim (cases_eq s n) as (λ _. IsInGroup graph (firsts ++ n ∷ []) s) [
+          | inl same ↦ subst (IsInGroup graph (firsts ++ n ∷ [])) (sym same) (n, Contains-push firsts n, (λ p k has _. has, λ p k has _. has))
+          | inr other ↦
+              let before = are.1 s (omega (arith, low, other)) marked in
+              (before.0, Contains-append_left firsts (n ∷ []) before.0 before.1, before.2)
+        ],
+    apart_more (λ k. k) graph firsts n are.2 (λ j d _ within same. first.1 (get_or firsts j d, Contains-get_or firsts j d within, same)),
+  )
 
   pub no_first : IsNoFirst graph marks firsts n → AreFirstsBelow graph marks firsts (n + 1)
   no_first none = (
-      are.0,
-      λ s low marked.
-          elim (cases_eq s n) as (λ _. IsInGroup graph firsts s) [
-            | inl same ↦ subst (IsInGroup graph firsts) (sym same) (none (subst (λ k. IsTrue (is_marked marks k)) same marked))
-            | inr other ↦ are.1 s (omega (arith, low, other)) marked
-          ],
-      are.2,
-    )
+    are.0,
+    λ s low marked.
+        elim (cases_eq s n) as (λ _. IsInGroup graph firsts s) [
+          | inl same ↦ subst (IsInGroup graph firsts) (sym same) (none (subst (λ k. IsTrue (is_marked marks k)) same marked))
+          | inr other ↦ are.1 s (omega (arith, low, other)) marked
+        ],
+    are.2,
+  )

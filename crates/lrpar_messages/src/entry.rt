@@ -46,7 +46,11 @@ pub(crate) fn state_of<StorageT: StorageIndex>(
 ) -> Result<Result<StIdx<StorageT>, LineFault>, AllocError> {
     let (words, unended) = words_of(alloc, line)?;
     if let Some(word) = unended {
-        return Ok(Err(LineFault::at(MessageFaultKind::OpenQuote, word)));
+        return Ok(Err(LineFault {
+            kind: MessageFaultKind::OpenQuote,
+            from: word.from.saturating_sub(1),
+            to: word.to,
+        }));
     }
     match words.split_first() {
         Some((first, symbols)) if is_after(line, *first) => Ok(state_after(data, line, symbols)),

@@ -12,7 +12,7 @@ pub enum MessageFaultKind {
     /// A name that no token of the grammar has; after `%after`, no symbol. The place is the name.
     #[error("the grammar has no such symbol")]
     Unknown,
-    /// No token is there, or no symbol after `%after` where the state is none in which a run begins. The place is the line.
+    /// No token is there. The place is the line.
     #[error("no token is here")]
     NoTokens,
     /// A run over the tokens doesn't stop. The place is the last of them.

@@ -15,7 +15,7 @@ pub(crate) struct Lines<'t> {
 ///
 /// A line that begins with a blank belongs to the message of the entry above it; the lines of a message are joined by a space. Empty lines say
 /// nothing, nor do those that begin with `//`.
-pub(crate) fn entries_of<'t>(
+pub(crate) fn read_entries<'t>(
     alloc: Global,
     text: &'t str,
     strays: &mut Vec<Span>,
@@ -77,10 +77,7 @@ pub(crate) struct Word {
 
 /// The words of a line: in quotes, single or double, or between blanks. A quote that doesn't end is the last word: it goes on to the end of the
 /// line, and is the second result.
-pub(crate) fn words_of(
-    alloc: Global,
-    line: &str,
-) -> Result<(Vec<Word>, Option<Word>), AllocError> {
+pub(crate) fn words_of(alloc: Global, line: &str) -> Result<(Vec<Word>, Option<Word>), AllocError> {
     let mut words = Vec::new(alloc);
     // The word that is open, and the character that ends it: its quote, or a blank.
     let mut open = None;

@@ -1,6 +1,7 @@
 //! The messages of a catalogue.
 ghost use Rattle.std.specs.Prelude.{IfOk, string_bytes};
 ghost use Rattle.lrpar_messages.specs.Messages.{AreApart, FindsMessage, messages_of};
+
 use crate::fault::{MessageFault, MessageFaultKind};
 use crate::groups::have_same_kernel;
 use crate::reading::read_all;
@@ -82,8 +83,8 @@ impl<StorageT: StorageIndex> Messages<StorageT> {
         }
     }
 
-    /// All faults of a catalogue, in the order of its lines, and the messages of the entries without a fault. An entry for a state in which no
-    /// run stops is one. `Err`: out of memory.
+    /// All faults of a catalogue, in the order of its lines, and the messages of the entries without one. Then come the entries for states in
+    /// which no run stops. `Err`: out of memory.
     pub fn check(
         alloc: Global,
         data: &ParserData<StorageT>,

@@ -46,10 +46,7 @@ impl<StorageT: StorageIndex> Paths<StorageT> {
         let mut paths = Paths { ways };
         paths.set(
             usize::from(stable.start_state()),
-            Way {
-                len: 0,
-                step: None,
-            },
+            Way { len: 0, step: None },
         );
         // A way goes through each state at most once.
         for _ in 0..states {
@@ -74,10 +71,12 @@ impl<StorageT: StorageIndex> Paths<StorageT> {
         let mut symbols = Vec::new(alloc);
         let mut above = state;
         for _ in 0..self.ways.len() {
-            let Some(Way {
-                step: Some((below, symbol)),
-                len: _,
-            }) = self.way_to(usize::from(above))
+            let Some(
+                Way {
+                    step: Some((below, symbol)),
+                    len: _,
+                },
+            ) = self.way_to(usize::from(above))
             else {
                 break;
             };

@@ -1,9 +1,10 @@
 //! The reader of a catalogue.
 ghost use Rattle.std.specs.Prelude.{IfOk};
 ghost use Rattle.lrpar_messages.specs.Messages.{AreApart, HasNoMessage, messages_of};
+
 use crate::entry::state_of;
 use crate::fault::{MessageFault, MessageFaultKind};
-use crate::lines::{Lines, entries_of};
+use crate::lines::{Lines, read_entries};
 use crate::messages::{Message, find_message};
 use lrpar_grammar::span::{Span, StorageIndex};
 use lrpar_table_check::check::ParserData;
@@ -19,7 +20,7 @@ pub(crate) fn read_all<StorageT: StorageIndex>(
     ensures { IfOk result (λ messages. AreApart data.now.graph (messages_of StorageT.index messages.items)) }
 {
     let mut strays = Vec::new(alloc);
-    let entries = entries_of(alloc, text, &mut strays)?;
+    let entries = read_entries(alloc, text, &mut strays)?;
     for span in &strays {
         push_fault(faults, MessageFaultKind::Stray, *span)?;
     }

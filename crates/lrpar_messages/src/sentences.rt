@@ -180,7 +180,7 @@ pub(crate) fn stack_after<StorageT: StorageIndex>(
 {
     let mut stack = start_stack(alloc, data)?;
     'feeding: for token in tokens {
-        if !feed(data, &mut stack, *token)? {
+        if !advance(data, &mut stack, *token)? {
             return Ok(None);
         }
     }
@@ -201,7 +201,7 @@ fn start_stack<StorageT: StorageIndex>(
 }
 
 // Feeds a token, and returns whether it could be fed.
-fn feed<StorageT: StorageIndex>(
+fn advance<StorageT: StorageIndex>(
     data: &ParserData<StorageT>,
     stack: &mut Vec<StIdx<StorageT>>,
     token: TIdx<StorageT>,

@@ -180,7 +180,12 @@ fn filled<StorageT: StorageIndex>(
     let mut lexeme = String::new(alloc);
     found.push(&mut lexeme, subject.text)?;
     let mut expected = String::new(alloc);
-    push_choices(&mut expected, subject.grm(), &subject.wording.names, choices)?;
+    push_choices(
+        &mut expected,
+        subject.grm(),
+        &subject.wording.names,
+        choices,
+    )?;
     let mut before = String::new(alloc);
     push_before(&mut before, subject, place)?;
     let expected = expected.as_str();

@@ -10,7 +10,7 @@ use Rattle.lrpar_table_first.specs.FirstRows.{row_at, total_missing}
 use Rattle.lrpar_table_first.proofs.GrowthLemmas.{missing_set}
 use Rattle.lrpar_table_rows.specs.Table.{Table}
 use Rattle.lrpar_table_stops.specs.Met.{AreRight, is_met}
-use Rattle.lrpar_table_stops.specs.Stops.{LooksAt}
+use Rattle.lrpar_table_stops.specs.ErrorStates.{LooksAt}
 
 module _ (sets : List (List Bool)) (s t : ℕ) (bits : List Bool) (within : s < length sets) (room : length bits ≡ length (row_at sets s))
     (put : PutsToken (row_at sets s) bits t) where

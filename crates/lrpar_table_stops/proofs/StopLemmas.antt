@@ -6,7 +6,7 @@ use Rattle.lrpar_table_first.proofs.GrowthLemmas.{has_room}
 use Rattle.lrpar_table_rows.specs.Table.{FailsPastStates, FailsPastTokens, HasNoGotoPastStates, IsClosed, Table, ShiftTo, ReduceBy, Fails, action_of, goto_of, states_len}
 use Rattle.lrpar_table_sentences.specs.Reachable.{is_marked}
 use Rattle.lrpar_table_stops.specs.Met.{AreClosed, AreRight, MarksStops, is_met}
-use Rattle.lrpar_table_stops.specs.Stops.{AreStops, CanStop, Enters, LooksAt, Reduces, Repairs}
+use Rattle.lrpar_table_stops.specs.ErrorStates.{AreStops, CanStop, Enters, LooksAt, Reduces, Repairs}
 
 module _ (g : Grammar) (table : Table) (closed : IsClosed table) (past_states : FailsPastStates table) (past_tokens : FailsPastTokens table)
     (no_goto : HasNoGotoPastStates table) (known : (s t p : ℕ) → action_of table s t ≡ ReduceBy p → p < prods_len g) where

@@ -9,7 +9,7 @@ use Rattle.lrpar_grammar.specs.Tokens.{has}
 use Rattle.lrpar_table_first.specs.FirstRows.{row_at, total_missing}
 use Rattle.lrpar_table_rows.specs.Table.{Table, ShiftTo, ReduceBy, Fails, action_of, states_len}
 use Rattle.lrpar_table_sentences.specs.Reachable.{is_marked}
-use Rattle.lrpar_table_stops.specs.Stops.{LooksAt, Replaces}
+use Rattle.lrpar_table_stops.specs.ErrorStates.{LooksAt, Replaces}
 
 -- whether a run is known to look at token t in state s
 abbrev pub is_met : List (List Bool) → ℕ → ℕ → Bool
@@ -68,11 +68,11 @@ pub record IsLeftAt (table : Table) (sets : List (List Bool)) (s t : ℕ) : Type
   pub shifts : (next : ℕ) → action_of table s t ≡ ShiftTo next → MeetsAll sets table.tokens next
   pub repairs : IsTrue (is_met sets s t) → action_of table s t ≡ Fails → MeetsAll sets table.tokens s
 
--- so it is at each token
+-- at each token, where a shift of state s leads is known, and so is each token that a repair can put in its place
 abbrev pub IsLeft : Table → List (List Bool) → ℕ → Type 0
 IsLeft table sets s = (t : ℕ) → t < table.tokens → IsLeftAt table sets s t
 
--- so it is of each state
+-- of each state, where its shifts lead is known, and what repairs can put in place of tokens
 abbrev pub AreLeft : Table → List (List Bool) → Type 0
 AreLeft table sets = (s : ℕ) → s < states_len table → IsLeft table sets s
 
@@ -86,7 +86,7 @@ pub record AreClosed (g : Grammar) (table : Table) (sets : List (List Bool)) : T
 abbrev pub StopsAt : Table → List (List Bool) → ℕ → ℕ → Type 0
 StopsAt table sets s t = (action_of table s t ≡ Fails) × IsTrue (is_met sets s t)
 
--- so it is at some token
+-- a run is known to look at a token in state s, which has no action at it
 abbrev pub StopsIn : Table → List (List Bool) → ℕ → Type 0
 StopsIn table sets s = (t : ℕ) × (t < table.tokens) × StopsAt table sets s t
 

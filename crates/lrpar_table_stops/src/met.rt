@@ -4,7 +4,7 @@ ghost use Rattle.std.specs.Bool.{OnFalse, OnTrue};
 ghost use Rattle.lrpar_grammar.specs.Grammar.{Grammar, prods_len};
 ghost use Rattle.lrpar_table_rows.specs.Table.{states_len};
 ghost use Rattle.lrpar_table_stops.specs.Met.{AreClosed, AreLeft, AreReduced, AreRight, HasRoomFor, IsLeft, IsLeftAt, IsReducedBy, IsReducedOver, IsReducedTo, MeetsAll, MeetsMore, ReducesAt, StayRightWith, StopsAt, StopsIn, is_met};
-ghost use Rattle.lrpar_table_stops.specs.Stops.{LooksAt, Replaces};
+ghost use Rattle.lrpar_table_stops.specs.ErrorStates.{LooksAt, Replaces};
 
 use crate::path::{end_of_path, goto_by};
 use lrpar_grammar::grammar::YaccGrammar;
@@ -225,9 +225,7 @@ fn add_at<StorageT: StorageIndex>(
 {
     match stable.action(state, token) {
         Action::Shift(next) => add_tokens(grm, stable, sets, next),
-        Action::Error if is_met(sets, state, token) => {
-            add_tokens(grm, stable, sets, state)
-        }
+        Action::Error if is_met(sets, state, token) => { add_tokens(grm, stable, sets, state) }
         Action::Error | Action::Reduce(_) | Action::Accept => false,
     }
 }
@@ -314,6 +312,5 @@ fn stops_at<StorageT: StorageIndex>(
     requires token { StorageT.index token.0 < stable.now.tokens }
     ensures { IsTrue result ↔ StopsAt stable.now sets.now (StorageT.index state.0) (StorageT.index token.0) }
 {
-    stable.action(state, token) == Action::Error
-        && is_met(sets, state, token)
+    stable.action(state, token) == Action::Error && is_met(sets, state, token)
 }

@@ -3,7 +3,7 @@ ghost use Rattle.std.specs.Prelude.{◌≡◌, ◌<◌, IfSome, map};
 ghost use Rattle.lrpar_grammar.specs.Symbols.{symbol_of};
 ghost use Rattle.lrpar_table_rows.specs.Table.{goto_of, states_len};
 ghost use Rattle.lrpar_table_stops.specs.Met.{number_in};
-ghost use Rattle.lrpar_table_stops.specs.Stops.{end_of_path, next_by};
+ghost use Rattle.lrpar_table_stops.specs.ErrorStates.{end_of_path, next_by};
 
 use lrpar_grammar::span::{RIdx, StIdx, StorageIndex, Symbol};
 use lrpar_table_rows::table::{Action, StateTable};

@@ -2,7 +2,7 @@
 ghost use Rattle.std.specs.Prelude.{◌≡◌, IfOk};
 ghost use Rattle.lrpar_table_sentences.specs.Reachable.{is_marked};
 ghost use Rattle.lrpar_table_stops.specs.Met.{AreClosed, AreRight, MarksStops};
-ghost use Rattle.lrpar_table_stops.specs.Stops.{AreStopsOf, DecidesStop};
+ghost use Rattle.lrpar_table_stops.specs.ErrorStates.{AreStopsOf, DecidesStop};
 
 use crate::met::{add_all, empty_sets, stops_in};
 use lrpar_grammar::grammar::YaccGrammar;

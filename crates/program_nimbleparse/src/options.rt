@@ -1,8 +1,8 @@
 //! What the words after the program's name ask for.
 use crate::command::{
-    FORMAT, FORMATS, FORMS, GRAMMAR, INPUT, INPUT_OPTIONS, KIND, KINDS, LEXER, LIMIT, MAX_STATES,
-    CHECK_ERRORS, LIST_ERRORS, MESSAGES, MESSAGES_FORMAT, MINIMISER, MINIMISERS, PossibleValues, QUIET, REPAIRS, SEARCHES,
-    SHIFTS, STATES, Search, VERBOSE, command_line, meaning_of,
+    CHECK_ERRORS, FORMAT, FORMATS, FORMS, GRAMMAR, INPUT, INPUT_OPTIONS, KIND, KINDS, LEXER, LIMIT,
+    LIST_ERRORS, MAX_STATES, MESSAGES, MESSAGES_FORMAT, MINIMISER, MINIMISERS, PossibleValues,
+    QUIET, REPAIRS, SEARCHES, SHIFTS, STATES, Search, VERBOSE, command_line, meaning_of,
 };
 use crate::grammar::Asked;
 use crate::plan::{Format, Recovery};

@@ -2,8 +2,8 @@
 //! error.
 ghost use Rattle.std.specs.Prelude.{◌≤◌};
 
-use crate::command::PossibleValues;
 use crate::catalogue::{Catalogue, check_errors, list_errors};
+use crate::command::PossibleValues;
 use crate::completer::Completer;
 use crate::fault_line::FaultLine;
 use crate::grammar::{GrammarFile, GrammarTable, make_table};

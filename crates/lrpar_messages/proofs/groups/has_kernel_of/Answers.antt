@@ -42,8 +42,8 @@ returns g c =
     let index = g.StorageT.StorageIndex.index in
     let cores = c.begun_cores-core-items.result.now in (
       λ _ p k has begun.
-      let there = (c.begun_cores-core-items.ensures.all p k).0 (has, begun) in
-      c.loop-core.invariant there.0 p k
-      (let low = there.1 in let count = length-map cores (core_of index) in omega (arith, low, count, c.loop-core-test.false)) there.2,
+          let there = (c.begun_cores-core-items.ensures.all p k).0 (has, begun) in
+          c.loop-core.invariant there.0 p k
+          (let low = there.1 in let count = length-map cores (core_of index) in omega (arith, low, count, c.loop-core-test.false)) there.2,
       λ _. refl,
     )

@@ -36,7 +36,7 @@ returns g c =
     let firsts = c.args.firsts.now in (
       λ no. absurd (false≢true no),
       λ is.
-      absurd (c.loop-first.invariant is.1.0 is.0
-      (let low = is.1.1 in let count = length-map firsts (λ state. index state.0) in omega (arith, low, count, c.loop-first-test.false)) is.1.1
-      (subst (λ n. HaveSameKernel c.args.sgraph.now n (index c.args.state.0)) (sym is.1.2) is.2)),
+          absurd (c.loop-first.invariant is.1.0 is.0
+          (let low = is.1.1 in let count = length-map firsts (λ state. index state.0) in omega (arith, low, count, c.loop-first-test.false)) is.1.1
+          (subst (λ n. HaveSameKernel c.args.sgraph.now n (index c.args.state.0)) (sym is.1.2) is.2)),
     )

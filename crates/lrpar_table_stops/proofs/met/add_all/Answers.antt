@@ -1,5 +1,5 @@
 use Rattle.std.proofs.Common.{inl}
-use Rattle.lrpar_table_stops.specs.Stops.{Enters}
+use Rattle.lrpar_table_stops.specs.ErrorStates.{Enters}
 use Rattle.lrpar_table_stops.proofs.met.add_all.Goals as goal
 
 pub add_tokens-start-requires-clause-looks : goal.add_tokens-start-requires-clause-looks

@@ -1,6 +1,6 @@
 use Rattle.std.proofs.Common.{◌∙◌, inr, sym, IsTrue}
 use Rattle.lrpar_table_stops.specs.Met.{is_met}
-use Rattle.lrpar_table_stops.specs.Stops.{Enters, Repairs}
+use Rattle.lrpar_table_stops.specs.ErrorStates.{Enters, Repairs}
 use Rattle.lrpar_table_stops.proofs.met.add_at.Goals as goal
 
 pub add_tokens-requires-clause-looks : goal.add_tokens-requires-clause-looks

@@ -1,5 +1,5 @@
 use Rattle.std.proofs.Common.{subst, sym}
-use Rattle.lrpar_table_stops.specs.Stops.{LooksAt, Reduces}
+use Rattle.lrpar_table_stops.specs.ErrorStates.{LooksAt, Reduces}
 use Rattle.lrpar_table_stops.proofs.met.add_reduction.Goals as goal
 
 pub returns-then-reduces_at-clause-right : goal.returns-then-reduces_at-clause-right

@@ -5,7 +5,7 @@ use Rattle.lrpar_table_first.specs.FirstRows.{total_missing}
 use Rattle.lrpar_table_sentences.proofs.GrowthLemmas.{pass_grows, pass_stays}
 use Rattle.lrpar_table_sentences.proofs.FixLemmas.{index_back}
 use Rattle.lrpar_table_rows.specs.Table.{goto_of}
-use Rattle.lrpar_table_stops.specs.Stops.{end_of_path}
+use Rattle.lrpar_table_stops.specs.ErrorStates.{end_of_path}
 use Rattle.lrpar_table_stops.specs.Met.{ReducesAt, is_met}
 use Rattle.lrpar_table_stops.proofs.met.add_reductions_over.Goals as goal
 use Rattle.lrpar_table_stops.proofs.met.add_reductions_over.Goals.{then-add_reduction, else-add_reduction}

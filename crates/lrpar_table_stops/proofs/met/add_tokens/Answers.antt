@@ -4,7 +4,7 @@ use Rattle.std.proofs.lemmas.Bool.{OnFalse_at, OnFalse_from}
 use Rattle.lrpar_table_first.specs.FirstRows.{total_missing}
 use Rattle.lrpar_table_sentences.proofs.GrowthLemmas.{pass_grows, pass_stays}
 use Rattle.lrpar_table_stops.specs.Met.{HasRoomFor, is_met}
-use Rattle.lrpar_table_stops.specs.Stops.{LooksAt}
+use Rattle.lrpar_table_stops.specs.ErrorStates.{LooksAt}
 use Rattle.lrpar_table_stops.proofs.MetLemmas.{room_for}
 use Rattle.lrpar_table_stops.proofs.met.add_tokens.Goals as goal
 use Rattle.lrpar_table_stops.proofs.met.add_tokens.Goals.{then-add_token, else-add_token}

@@ -19,6 +19,6 @@ loop-number-preserved g c =
 
 pub returns : goal.returns
 returns g c = (
-    λ no. absurd (false≢true no),
-    λ stops. absurd (c.loop-number.invariant stops.0 (let count = c.tokens_len-number-end.ensures.tokens in let low = stops.1 in omega (arith, count, low, c.loop-number-test.false)) stops.2),
-  )
+  λ no. absurd (false≢true no),
+  λ stops. absurd (c.loop-number.invariant stops.0 (let count = c.tokens_len-number-end.ensures.tokens in let low = stops.1 in omega (arith, count, low, c.loop-number-test.false)) stops.2),
+)

@@ -3,7 +3,7 @@ use Rattle.std.specs.Option.{option_and_then}
 use Rattle.std.proofs.lemmas.List.{drop_all, drop_more}
 use Rattle.lrpar_grammar.specs.Symbols.{symbol_of}
 use Rattle.lrpar_table_stops.specs.Met.{number_in}
-use Rattle.lrpar_table_stops.specs.Stops.{end_of_path, next_by}
+use Rattle.lrpar_table_stops.specs.ErrorStates.{end_of_path, next_by}
 use Rattle.lrpar_table_stops.proofs.path.end_of_path.Goals as goal
 
 pub loop-symbol-preserved : goal.loop-symbol-preserved

@@ -1,6 +1,6 @@
 use Rattle.std.proofs.Common.{◌≡◌, drop, map}
 use Rattle.lrpar_grammar.specs.Symbols.{symbol_of}
-use Rattle.lrpar_table_stops.specs.Stops.{end_of_path}
+use Rattle.lrpar_table_stops.specs.ErrorStates.{end_of_path}
 use Rattle.lrpar_table_stops.proofs.path.end_of_path.Given as goal
 
 -- from the state that was reached, the symbols that are left lead where all lead from the first one

@@ -2,7 +2,7 @@ use Rattle.std.proofs.Common.{◌≡◌, ◌<◌, ◌∙◌, ap, subst, sym, ℕ
 use Rattle.lrpar_grammar.specs.Grammar.{prods_len}
 use Rattle.lrpar_table_rows.specs.Table.{ReduceBy, action_of}
 use Rattle.lrpar_table_stops.specs.Met.{MarksStops}
-use Rattle.lrpar_table_stops.specs.Stops.{AreStops}
+use Rattle.lrpar_table_stops.specs.ErrorStates.{AreStops}
 use Rattle.lrpar_table_stops.proofs.StopLemmas.{all_stops}
 use Rattle.lrpar_table_stops.proofs.stops.ErrorStates.new.Goals as goal
 
