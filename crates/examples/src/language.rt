@@ -98,7 +98,7 @@ pub(crate) fn language_of(
     let (grm, unmatched) = with_unmatched(alloc, &grm, "unmatched text")?;
     let rules = rules_of(alloc, &grm, lexer)?;
     let names = Names::read(alloc, &grm, messages)?;
-    let texts = read_token_texts(alloc, &grm, &rules, lexer)?;
+    let texts = read_token_texts(alloc, &grm, rules.as_slice(), lexer)?;
     let wording = Wording::new(alloc, &grm, names, texts)?.unmatched(unmatched);
     let data = parser_data(alloc, grm, 10_000, 1_000)?;
     let wording = wording.messages(Messages::read(alloc, &data, messages)?);
