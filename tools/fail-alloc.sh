@@ -184,6 +184,7 @@ printf '%s' "%% E : 'N' | E '+' 'N' | '(' E ')';" >"$work/brackets.y"
 printf '%s\n' "n 'N'" "\\+ '+'" "\\( '('" "\\) ')'" >"$work/brackets.lex"
 printf '%s\n' "insert ')'" "insert ')' delete" "insert '+' shift insert ')'" >"$work/brackets.repairs"
 printf '%s\n' 'delete' "insert 'INT'" >"$work/calc.repairs"
+printf '%s\n' '%%' "'N' '('" ' {before} needs {expected} after it, not {found}' >"$work/brackets.messages"
 printf '(nn' >"$work/text"
 printf '(n)' >"$work/whole"
 printf '%s' '%% E: F;' >"$work/wrong.y"
@@ -261,7 +262,7 @@ help: or insert '+'
 help: or delete 'n'
 " -q "$work/brackets.lex" "$work/brackets.y" "$work/text"
 refuse_each_call_of_nimbleparse 0 'E[ "(" E[ N "n" ] ")" ]
-' "$work/brackets.y: note: rules 2, productions 4, tokens 5, states 14, least cap 1
+' "$work/brackets.y: note: rules 2, productions 4, tokens 5, states 8, least cap 1
 " "$work/brackets.lex" "$work/brackets.y" "$work/whole"
 refuse_each_call_of_nimbleparse 2 '' "$work/wrong.y:1:7: error: name 'F' is neither a rule nor declared by %token
 1| %% E: F;
@@ -286,6 +287,55 @@ shift/reduce conflicts 0, reduce/reduce conflicts 0, as expected
 " "$work/unused.y"
 refuse_each_call_of_nimbleparse 2 '' "nimbleparse: --shifts needs a lexer: a single path is that of a grammar
 " --shifts 2 "$work/unused.y"
+
+refuse_each_call_of_nimbleparse 1 '' "$work/text:1:3: error: 'n' needs '+' or ')' after it, not 'n'
+1| (nn
+   - ^
+   |
+   this isn't closed
+help: replace 'n' by ')'
+1| (n)
+     ~
+help: or insert '+'
+help: or delete 'n'
+" -q --messages "$work/brackets.messages" "$work/brackets.lex" "$work/brackets.y" "$work/text"
+refuse_each_call_of_nimbleparse 1 '' "$work/brackets.messages: error: no message for \$
+$work/brackets.messages: error: no message for 'N' ')'
+$work/brackets.messages: error: no message for '(' \$
+$work/brackets.messages: error: no message for 'N' '+' \$
+$work/brackets.messages: error: no message for '(' 'N' \$
+$work/brackets.messages: error: no message for 'N' '+' 'N' '('
+$work/brackets.messages: error: no message for '(' 'N' ')' '('
+" --check-errors "$work/brackets.messages" "$work/brackets.lex" "$work/brackets.y"
+refuse_each_call_of_nimbleparse 0 "%%
+
+// expected 'n' or '('
+\$
+
+// expected '+' or end of input
+'N' ')'
+
+// expected '+' or end of input
+// elsewhere expected ')'
+'N' '('
+
+// expected 'n' or '('
+'(' \$
+
+// expected 'n'
+'N' '+' \$
+
+// expected '+' or ')'
+'(' 'N' \$
+
+// expected '+' or end of input
+// elsewhere expected ')'
+'N' '+' 'N' '('
+
+// expected '+' or end of input
+// elsewhere expected ')'
+'(' 'N' ')' '('
+" '' --list-errors "$work/brackets.lex" "$work/brackets.y"
 
 refuse_calls_in_both_ways "$most_calls" "$most_calls" "$here/fail-alloc.cases"
 if [[ -e $here/fail-alloc-from.cases ]]; then
