@@ -88,6 +88,7 @@ fn by_yacc_or_bison<'a>(
 ) -> Result<Source<'a>, Fault> {
     match YaccFile::new_with_kind(alloc, kind, text) {
         Ok(file) => of_yacc(alloc, file),
+        Err(YaccFileFault::Memory) => Err(Fault::Memory),
         Err(fault) => {
             let is_name = matches!(fault, YaccFileFault::UnknownToken(_));
             let otherwise = fault_of_report(alloc, printer, yacc_report(alloc, kind, text, &fault));
@@ -108,6 +109,7 @@ fn by_bison_or<'a>(
     otherwise: Fault,
 ) -> Result<Source<'a>, Fault> {
     match by_bison(alloc, printer, text) {
+        Err(Fault::Memory) => Err(Fault::Memory),
         Err(fault) if !looks_like_bison(text) => {
             drop(fault);
             Err(otherwise)
