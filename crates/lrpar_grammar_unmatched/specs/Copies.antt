@@ -49,6 +49,10 @@ HaveSymbols symbols pairs = map (λ pair. pair.0) pairs.items ≡ symbols
 abbrev pub HaveSpans : {S A : Type 0} → List Extent → Vec (Symbol S × Extent) A → Type 0
 HaveSpans spans pairs = map (λ pair. pair.1) pairs.items ≡ spans
 
+-- these are the listed parts
+abbrev pub AreDeclaredParts : {S : Type 0} → (S → ℕ) → Grammar → GrammarParts S → Type 0
+AreDeclaredParts index g parts = parts_of index parts ≡ declared_parts g
+
 -- these are the listed parts, with one more token
 abbrev pub ArePartsWithToken : {S : Type 0} → (S → ℕ) → Grammar → List ℕ → GrammarParts S → Type 0
 ArePartsWithToken index g name parts = parts_of index parts ≡ with_last_token (declared_parts g) name

@@ -1,11 +1,30 @@
 //! Copies of the parts that a grammar lists.
-ghost use Rattle.std.specs.Prelude.{◌≡◌, ◌<◌, ◌+◌, ◌≤◌, IfOk, length};
+ghost use Rattle.std.specs.Prelude.{◌≡◌, ◌<◌, IfOk, length};
 ghost use Rattle.lrpar_grammar_reader.specs.Grammar.{IsWellFormed, end_token, prods_len, rules_len};
-ghost use Rattle.lrpar_grammar_unmatched.specs.Copies.{AreDeclaredProds, AreDeclaredRules, AreDeclaredTokens, ArePartsWithToken, HaveSpans, HaveSymbols, IsProdAt, IsRuleAt, IsTokenAt, IsTokenNamed};
+ghost use Rattle.lrpar_grammar_unmatched.specs.Copies.{AreDeclaredProds, AreDeclaredRules, AreDeclaredTokens, AreDeclaredParts, ArePartsWithToken, HaveSpans, HaveSymbols, IsProdAt, IsRuleAt, IsTokenAt, IsTokenNamed};
 
 use lrpar_grammar::grammar::{GrammarParts, ProdPart, RulePart, TokenPart, YaccGrammar};
 use lrpar_grammar_places::span::{PIdx, RIdx, Span, StorageIndex, Symbol, TIdx};
 use std::alloc::{AllocError, Global};
+
+/// The parts that a grammar lists, as copies: each rule but the added one, each token but the end token with its printed text, and each
+/// production but the start production. [`YaccGrammar::from_parts`] makes the grammar of them again; with other names or printed texts of
+/// tokens, it makes a grammar for messages that call these so. Takes time and memory linear in the grammar. `Err`: out of memory.
+pub fn declared_parts<StorageT: StorageIndex>(
+    alloc: Global,
+    grm: &YaccGrammar<StorageT>,
+) -> Result<GrammarParts<StorageT>, AllocError>
+    ensures { IfOk result (AreDeclaredParts StorageT.index grm.now) }
+{
+    // What is known of this number says that the grammar is well-formed.
+    let _lemma = grm.start_prod();
+    Ok(GrammarParts {
+        rules: declared_rules(alloc, grm)?,
+        tokens: declared_tokens(alloc, grm)?,
+        prods: declared_prods(alloc, grm)?,
+        start: grm.start_rule_idx(),
+    })
+}
 
 // The listed parts of the grammar, with one more token.
 pub(crate) fn parts_with_token<StorageT: StorageIndex>(
@@ -13,18 +32,11 @@ pub(crate) fn parts_with_token<StorageT: StorageIndex>(
     grm: &YaccGrammar<StorageT>,
     name: &str,
 ) -> Result<GrammarParts<StorageT>, AllocError>
-    requires { IsWellFormed grm.now }
     ensures { IfOk result (ArePartsWithToken StorageT.index grm.now name.now) }
 {
-    let rules = declared_rules(alloc, grm)?;
-    let mut tokens = declared_tokens(alloc, grm)?;
-    tokens.push(token_named(alloc, name)?)?;
-    Ok(GrammarParts {
-        rules,
-        tokens,
-        prods: declared_prods(alloc, grm)?,
-        start: grm.start_rule_idx(),
-    })
+    let mut parts = declared_parts(alloc, grm)?;
+    parts.tokens.push(token_named(alloc, name)?)?;
+    Ok(parts)
 }
 
 // Each rule but the added one.

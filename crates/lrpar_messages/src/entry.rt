@@ -1,15 +1,12 @@
 //! The state of an entry of a catalogue.
 use crate::fault::MessageFaultKind;
 use crate::lines::{Word, words_of};
-use crate::sentences::{stack_after, stop_at};
+use crate::sentences::AFTER;
 use lrpar_grammar::grammar::YaccGrammar;
 use lrpar_grammar::span::{RIdx, Span, StIdx, StorageIndex, Symbol, TIdx};
 use lrpar_table_check::check::ParserData;
-use lrpar_table_rows::table::{Action, StateTable};
+use lrpar_table_stops::{next_by, stack_after, stop_at};
 use std::alloc::{AllocError, Global};
-
-/// The word before symbols that lead to a state.
-const AFTER: &str = "%after";
 
 /// What is wrong with a line, and which bytes of it.
 #[derive(Clone, Copy)]
@@ -111,30 +108,17 @@ fn state_of_sentence<StorageT: StorageIndex>(
             to: line.len(),
         }));
     };
-    let Some(stack) = stack_after(alloc, data, before)? else {
-        let place = first_error(alloc, data, before)?;
-        let word = words.get(place).unwrap_or(end);
-        return Ok(Err(LineFault::at(MessageFaultKind::EarlyError, *word)));
+    let stack = match stack_after(alloc, data, before)? {
+        Ok(stack) => stack,
+        Err(count) => {
+            let word = words.get(count).unwrap_or(end);
+            return Ok(Err(LineFault::at(MessageFaultKind::EarlyError, *word)));
+        }
     };
     Ok(match stop_at(alloc, data, &stack, *last)? {
         Some(state) => Ok(state),
         None => Err(LineFault::at(MessageFaultKind::NoError, *end)),
     })
-}
-
-// The place of the first of these tokens that can't be fed after those before it.
-fn first_error<StorageT: StorageIndex>(
-    alloc: Global,
-    data: &ParserData<StorageT>,
-    tokens: &[TIdx<StorageT>],
-) -> Result<usize, AllocError> {
-    for place in 0..tokens.len() {
-        let front = tokens.get(..place.saturating_add(1)).unwrap_or(tokens);
-        if stack_after(alloc, data, front)?.is_none() {
-            return Ok(place);
-        }
-    }
-    Ok(tokens.len())
 }
 
 // The token that a word names: without quotes `$` is the end token.
@@ -176,25 +160,4 @@ fn rule_named<StorageT: StorageIndex>(
         }
     }
     None
-}
-
-// The state to which this one goes by the symbol, if it does.
-fn next_by<StorageT: StorageIndex>(
-    stable: &StateTable<StorageT>,
-    state: StIdx<StorageT>,
-    symbol: Symbol<StorageT>,
-) -> Option<StIdx<StorageT>> {
-    if usize::from(state) >= stable.states_len() {
-        return None;
-    }
-    match symbol {
-        Symbol::Token(token) if usize::from(token) < stable.tokens_len() => {
-            match stable.action(state, token) {
-                Action::Shift(next) => Some(next),
-                Action::Reduce(_) | Action::Accept | Action::Error => None,
-            }
-        }
-        Symbol::Rule(rule) if usize::from(rule) < stable.rules_len() => stable.goto(state, rule),
-        Symbol::Token(_) | Symbol::Rule(_) => None,
-    }
 }

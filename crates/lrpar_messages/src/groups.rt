@@ -1,7 +1,6 @@
 //! The states in which a run can stop, in groups of states with the same kernel cores.
 ghost use Rattle.std.specs.Prelude.{◌↔◌, IfOk, IsTrue};
-ghost use Rattle.std.specs.Bool.{OnFalse, OnTrue};
-ghost use Rattle.lrpar_messages.specs.Groups.{AreFirsts, HasKernelOf, HaveSameKernel, IsFirst, IsInGroup, IsNoFirst, numbers_of};
+ghost use Rattle.lrpar_messages.specs.Groups.{AreGroups, AreInOneGroup, CoversKernel, HasGroup, TellsFirst};
 
 use lrpar_grammar::span::{StIdx, StorageIndex};
 use lrpar_table_check::check::ParserData;
@@ -16,7 +15,7 @@ pub fn have_same_kernel<StorageT: StorageIndex>(
     one: StIdx<StorageT>,
     other: StIdx<StorageT>,
 ) -> bool
-    ensures { IsTrue result ↔ HaveSameKernel sgraph.now (StorageT.index one.0) (StorageT.index other.0) }
+    ensures { IsTrue result ↔ AreInOneGroup StorageT.index sgraph.now one other }
 {
     has_kernel_of(sgraph, one, other) && has_kernel_of(sgraph, other, one)
 }
@@ -29,7 +28,7 @@ pub fn error_groups<StorageT: StorageIndex>(
     data: &ParserData<StorageT>,
     stops: &ErrorStates,
 ) -> Result<Vec<StIdx<StorageT>>, AllocError>
-    ensures { IfOk result (λ firsts. AreFirsts data.now.graph stops.now (numbers_of StorageT.index firsts.items)) }
+    ensures { IfOk result (AreGroups StorageT.index data.now stops.now) }
 {
     let mut firsts = Vec::new(alloc);
     for number in 0..data.sgraph().states_len() {
@@ -48,8 +47,7 @@ fn is_first<StorageT: StorageIndex>(
     firsts: &[StIdx<StorageT>],
     state: StIdx<StorageT>,
 ) -> bool
-    ensures first { OnTrue result (IsFirst sgraph.now stops.now (numbers_of StorageT.index firsts.now) (StorageT.index state.0)) }
-    ensures other { OnFalse result (IsNoFirst sgraph.now stops.now (numbers_of StorageT.index firsts.now) (StorageT.index state.0)) }
+    ensures { TellsFirst StorageT.index sgraph.now stops.now firsts.now state result }
 {
     stops.contains(state) && !is_in_group(sgraph, firsts, state)
 }
@@ -60,7 +58,7 @@ fn is_in_group<StorageT: StorageIndex>(
     firsts: &[StIdx<StorageT>],
     state: StIdx<StorageT>,
 ) -> bool
-    ensures { IsTrue result ↔ IsInGroup sgraph.now (numbers_of StorageT.index firsts.now) (StorageT.index state.0) }
+    ensures { IsTrue result ↔ HasGroup StorageT.index sgraph.now firsts.now state }
 {
     for first in firsts {
         if have_same_kernel(sgraph, *first, state) {
@@ -76,7 +74,7 @@ fn has_kernel_of<StorageT: StorageIndex>(
     one: StIdx<StorageT>,
     other: StIdx<StorageT>,
 ) -> bool
-    ensures { IsTrue result ↔ HasKernelOf sgraph.now (StorageT.index one.0) (StorageT.index other.0) }
+    ensures { IsTrue result ↔ CoversKernel StorageT.index sgraph.now one other }
 {
     if usize::from(one) >= sgraph.states_len() {
         return true;

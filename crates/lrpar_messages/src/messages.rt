@@ -1,6 +1,6 @@
 //! The messages of a catalogue.
-ghost use Rattle.std.specs.Prelude.{IfOk, string_bytes};
-ghost use Rattle.lrpar_messages.specs.Messages.{AreApart, FindsMessage, messages_of};
+ghost use Rattle.std.specs.Prelude.{IfOk};
+ghost use Rattle.lrpar_messages.specs.Messages.{AreApart, AreApartBeside, Finds, FindsEntry};
 
 use crate::fault::{MessageFault, MessageFaultKind};
 use crate::groups::have_same_kernel;
@@ -91,7 +91,7 @@ impl<StorageT: StorageIndex> Messages<StorageT> {
         stops: &ErrorStates,
         text: &str,
     ) -> Result<(Self, Vec<MessageFault>), AllocError>
-        ensures apart { IfOk result (λ checked. AreApart data.now.graph checked.0) }
+        ensures apart { IfOk result (AreApartBeside data.now.graph) }
     {
         let mut faults = Vec::new(alloc);
         let messages = read_all(alloc, data, text, &mut faults)?;
@@ -110,7 +110,7 @@ impl<StorageT: StorageIndex> Messages<StorageT> {
     ///
     /// Takes time linear in the number of messages.
     pub fn of(&self, sgraph: &StateGraph<StorageT>, state: StIdx<StorageT>) -> Option<&str>
-        ensures { FindsMessage (λ text. text.now) sgraph.now self.now (StorageT.index state.0) result }
+        ensures { Finds StorageT.index sgraph.now self.now state result }
     {
         match find_message(sgraph, &self.messages, state) {
             Some(message) => Some(message.text.as_str()),
@@ -125,7 +125,7 @@ pub(crate) fn find_message<'m, StorageT: StorageIndex>(
     messages: &'m [Message<StorageT>],
     state: StIdx<StorageT>,
 ) -> Option<&'m Message<StorageT>>
-    ensures { FindsMessage (λ message. string_bytes message.now.text) sgraph.now (messages_of StorageT.index messages.now) (StorageT.index state.0) result }
+    ensures { FindsEntry StorageT.index sgraph.now messages.now state result }
 {
     for message in messages {
         if have_same_kernel(sgraph, message.state, state) {

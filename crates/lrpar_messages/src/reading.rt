@@ -1,6 +1,6 @@
 //! The reader of a catalogue.
 ghost use Rattle.std.specs.Prelude.{IfOk};
-ghost use Rattle.lrpar_messages.specs.Messages.{AreApart, HasNoMessage, messages_of};
+ghost use Rattle.lrpar_messages.specs.Messages.{AreAllApart, IsNew};
 
 use crate::entry::state_of;
 use crate::fault::{MessageFault, MessageFaultKind};
@@ -17,7 +17,7 @@ pub(crate) fn read_all<StorageT: StorageIndex>(
     text: &str,
     faults: &mut Vec<MessageFault>,
 ) -> Result<Vec<Message<StorageT>>, AllocError>
-    ensures { IfOk result (λ messages. AreApart data.now.graph (messages_of StorageT.index messages.items)) }
+    ensures { IfOk result (AreAllApart StorageT.index data.now) }
 {
     let mut strays = Vec::new(alloc);
     let entries = read_entries(alloc, text, &mut strays)?;
@@ -51,7 +51,7 @@ fn message_of<StorageT: StorageIndex>(
     messages: &[Message<StorageT>],
     entry: &Lines<'_>,
 ) -> Result<Result<Message<StorageT>, (MessageFaultKind, Span)>, AllocError>
-    ensures new { IfOk result (λ made. IfOk made (λ message. HasNoMessage data.now.graph (messages_of StorageT.index messages.now) (StorageT.index message.state.0))) }
+    ensures new { IfOk result (IsNew StorageT.index data.now messages.now) }
 {
     let line = entry.span;
     let state = match state_of(alloc, data, entry.head)? {

@@ -1,16 +1,17 @@
 //! Short sentences that end in an error.
-ghost use Rattle.std.specs.Prelude.{IfOk, IfSome};
-ghost use Rattle.lrpar_table_check.specs.CheckedStacks.{FormStack, HasStack};
+ghost use Rattle.lrpar_table_check.specs.CheckedStacks.{FormStack};
 
 use crate::groups::have_same_kernel;
 use crate::paths::{Paths, tokens_of};
 use lrpar_grammar::grammar::YaccGrammar;
 use lrpar_grammar::span::{RIdx, StIdx, StorageIndex, Symbol, TIdx};
 use lrpar_table_check::check::ParserData;
-use lrpar_table_rows::table::Action;
 use lrpar_table_sentences::shortest::Shortest;
-use lrpar_table_stacks::overlay::Overlay;
+use lrpar_table_stops::{stack_after, stop_at};
 use std::alloc::{AllocError, Global};
+
+/// The word before symbols that lead to a state.
+pub(crate) const AFTER: &str = "%after";
 
 /// How a run comes to stop in a state of a group.
 pub struct ErrorExample<StorageT: StorageIndex> {
@@ -108,7 +109,7 @@ fn try_tokens<StorageT: StorageIndex>(
     examples: &mut Vec<ErrorExample<StorageT>>,
     tokens: &[TIdx<StorageT>],
 ) -> Result<(), AllocError> {
-    let Some(stack) = stack_after(alloc, data, tokens)? else {
+    let Ok(stack) = stack_after(alloc, data, tokens)? else {
         return Ok(());
     };
     let end = usize::from(data.grm().eof_token_idx());
@@ -170,75 +171,6 @@ fn tokens_elsewhere<StorageT: StorageIndex>(
     Ok(tokens)
 }
 
-/// The stack of a run over these tokens, if all can be fed.
-pub(crate) fn stack_after<StorageT: StorageIndex>(
-    alloc: Global,
-    data: &ParserData<StorageT>,
-    tokens: &[TIdx<StorageT>],
-) -> Result<Option<Vec<StIdx<StorageT>>>, AllocError>
-    ensures { IfOk result (λ stack. IfSome stack (HasStack StorageT.index data.now)) }
-{
-    let mut stack = start_stack(alloc, data)?;
-    'feeding: for token in tokens {
-        if !advance(data, &mut stack, *token)? {
-            return Ok(None);
-        }
-    }
-    Ok(Some(stack))
-}
-
-// The stack before any token.
-fn start_stack<StorageT: StorageIndex>(
-    alloc: Global,
-    data: &ParserData<StorageT>,
-) -> Result<Vec<StIdx<StorageT>>, AllocError>
-    ensures { IfOk result (HasStack StorageT.index data.now) }
-{
-    let start = data.stable().start_state();
-    let mut stack = Vec::new(alloc);
-    stack.push(start)?;
-    Ok(stack)
-}
-
-// Feeds a token, and returns whether it could be fed.
-fn advance<StorageT: StorageIndex>(
-    data: &ParserData<StorageT>,
-    stack: &mut Vec<StIdx<StorageT>>,
-    token: TIdx<StorageT>,
-) -> Result<bool, AllocError>
-    requires { HasStack StorageT.index data.now stack.old }
-    ensures { HasStack StorageT.index data.now stack.new }
-{
-    if usize::from(token) >= data.stable().tokens_len() {
-        return Ok(false);
-    }
-    data.feed(stack, token)
-}
-
-/// The state in which a run with this stack stops at the token, if it does.
-pub(crate) fn stop_at<StorageT: StorageIndex>(
-    alloc: Global,
-    data: &ParserData<StorageT>,
-    stack: &[StIdx<StorageT>],
-    token: TIdx<StorageT>,
-) -> Result<Option<StIdx<StorageT>>, AllocError>
-    requires { FormStack StorageT.index data.now stack.now }
-{
-    if usize::from(token) >= data.stable().tokens_len() {
-        return Ok(None);
-    }
-    let mut overlay = Overlay::new(alloc, stack);
-    let _reductions = data.settle_over(&mut overlay, token)?;
-    let top = overlay.top();
-    if usize::from(top) >= data.stable().states_len() {
-        return Ok(None);
-    }
-    Ok(match data.stable().action(top, token) {
-        Action::Error => Some(top),
-        Action::Shift(_) | Action::Reduce(_) | Action::Accept => None,
-    })
-}
-
 /// Adds the line of a catalogue that shows the error: its tokens in quotes, the end of the input as `$`; or, if no sentence shows it, symbols
 /// that lead to its state, after `%after`. Takes time linear in the line. After an `Err`, which is out of memory, a part may have been added.
 pub fn push_example<StorageT: StorageIndex>(
@@ -256,7 +188,7 @@ pub fn push_example<StorageT: StorageIndex>(
             }
         }
         None => {
-            out.push_str("%after")?;
+            out.push_str(AFTER)?;
             for symbol in &example.symbols {
                 out.push(' ')?;
                 match *symbol {

@@ -31,12 +31,8 @@ impl<'a, LexerT, LexemeT, V, E> Model for Args<'a, LexerT, LexemeT, V, E> {
 }
 
 impl<'a, LexerT, LexemeT: Drop, V: Drop, E: Drop> Args<'a, LexerT, LexemeT, V, E> {
-    // The arguments of a list without an error.
-    pub(crate) fn new(
-        lexer: &'a LexerT,
-        span: Span,
-        args: Vec<AStackType<LexemeT, Result<V, E>>>,
-    ) -> Self
+    /// The arguments of a list without an error. Internal: parses make them.
+    pub fn new(lexer: &'a LexerT, span: Span, args: Vec<AStackType<LexemeT, Result<V, E>>>) -> Self
         requires { first_failure args.items ≡ None }
         ensures { result ≡ record { lexer = lexer.now; span = span; left = given_of args.items } }
     {

@@ -5,6 +5,7 @@ mod actions;
 mod args;
 pub mod every_text;
 mod expected;
+pub mod failures;
 pub mod fault;
 pub mod generictree;
 pub mod laws;

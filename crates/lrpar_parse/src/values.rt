@@ -1,11 +1,12 @@
 //! Values: what a caller's function makes of each production, or its error.
-ghost use Rattle.std.specs.Prelude.{◌≡◌, ◌≢◌, ◌↔◌, ℕ, IfOk, IsTrue, None, Result, Some, is_some};
-ghost use Rattle.lrpar_parse.specs.ValueArguments.{ValueArguments, first_failure};
+ghost use Rattle.std.specs.Prelude.{◌↔◌, ℕ, IfOk, IsTrue, Result};
+ghost use Rattle.lrpar_parse.specs.ValueArguments.{ValueArguments};
 ghost use Rattle.lrpar_parse.specs.Arguments.{Answers};
-ghost use Rattle.lrpar_parse.specs.Values.{ComesOut, GivesOrCarries};
+ghost use Rattle.lrpar_parse.specs.Values.{GivesOrCarries};
 
 use crate::actions::Actions;
 use crate::args::Args;
+use crate::failures::{first_failure, has_failure};
 use crate::fault::ParseFault;
 use lrpar_grammar::span::{PIdx, RIdx, Span, StorageIndex, Symbol};
 use lrpar_parse_lexemes::lex_api::Lexeme;
@@ -84,46 +85,5 @@ impl<
         }
         let mut args = Args::new(lexer, span, args);
         Ok(self.values.value(alloc, usize::from(pidx), &mut args))
-    }
-}
-
-// Whether an argument is an error.
-fn has_failure<LexemeT, V, E>(args: &[AStackType<LexemeT, Result<V, E>>]) -> bool
-    ensures { result ≡ is_some (first_failure args.now) }
-{
-    for arg in args {
-        if let AStackType::ActionType(Err(_)) = arg {
-            return true;
-        }
-    }
-    false
-}
-
-// The first error among the arguments.
-fn first_failure<LexemeT: Drop, V: Drop, E: Drop>(args: Vec<AStackType<LexemeT, Result<V, E>>>) -> E
-    requires { first_failure args.items ≢ None }
-    ensures { first_failure args.items ≡ Some result }
-{
-    for arg in args {
-        if let AStackType::ActionType(Err(error)) = arg {
-            return error;
-        }
-    }
-    unreachable!()
-}
-
-/// What comes out of a parse by these actions: a value with the rest of the answer, or an error alone.
-pub(crate) fn come_out<V: Drop, E: Drop + From<ParseFault>, T: Drop>(
-    parsed: Result<(Option<Result<V, E>>, T), ParseFault>,
-) -> Result<(Option<V>, T), E>
-    ensures { ComesOut E.from_gives parsed result }
-{
-    match parsed {
-        Ok((value, rest)) => match value {
-            Some(Ok(value)) => Ok((Some(value), rest)),
-            Some(Err(error)) => Err(error),
-            None => Ok((None, rest)),
-        },
-        Err(fault) => Err(E::from(fault)),
     }
 }

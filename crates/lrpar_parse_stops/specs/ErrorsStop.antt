@@ -7,9 +7,13 @@ use Rattle.lrpar_table_rows.specs.Safe.{IsSafe}
 use Rattle.lrpar_table_rows.specs.Table.{FailsPastTokens, IsClosed, Table}
 use Rattle.lrpar_table_stacks.specs.Stack.{top_of}
 use Rattle.lrpar_table_stops.specs.ErrorStates.{CanStop}
+use Rattle.lrpar_parse_lexemes.specs.Lexemes.{LexemeParts}
+use Rattle.lrpar_parse_lexemes.specs.Views.{facts_by}
+use Rattle.lrpar_parse_repair.specs.Asked.{Asked}
 use Rattle.lrpar_parse_repair.specs.Recovery.{Point}
 use Rattle.lrpar_parse_repair.specs.Sequences.{PlainStep}
 use Rattle.lrpar_parse_run.specs.RepairRun.{RepairRun, RepairStop}
+use Rattle.lrpar_parse_run.specs.Subject.{OfRecoverers}
 
 -- a run can stop in the state on top of the stack of the error point
 abbrev pub IsErrorState : Grammar → Table → RepairStop → Type 0
@@ -26,3 +30,7 @@ StopsAtErrorStates {X} facts allows =
     → IsWellFormed g → IsClosed table → IsSafe g graph table → FailsPastTokens table → HaveTokens facts g lexemes
     → RepairRun facts allows k g table lexemes (table.start ∷ []) 0 stops consumed prods
     → All (IsErrorState g table) stops
+
+-- over lexemes with these parts, whatever a recoverer answers, of the answers that these relations allow
+abbrev pub AreErrorStates : {S X R : Type 0} → (S → ℕ) → (X → LexemeParts S) → (R → Asked X → List (List PlainStep) → Type 0) → Type 0
+AreErrorStates index parts allows = OfRecoverers allows (StopsAtErrorStates (facts_by index parts))

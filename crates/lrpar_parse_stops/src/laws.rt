@@ -1,7 +1,5 @@
 //! A law about the states in which parses stop: a function has it as its contract, and does nothing.
-ghost use Rattle.lrpar_parse_lexemes.specs.Views.{facts_by};
-ghost use Rattle.lrpar_parse_run.specs.Subject.{OfRecoverers};
-ghost use Rattle.lrpar_parse_stops.specs.ErrorsStop.{StopsAtErrorStates};
+ghost use Rattle.lrpar_parse_stops.specs.ErrorsStop.{AreErrorStates};
 
 use lrpar_grammar::span::StorageIndex;
 use lrpar_parse_lexemes::lex_api::Lexeme;
@@ -14,5 +12,5 @@ pub fn parses_stop_at_error_states<
     LexemeT: Lexeme<StorageT>,
     R: Recoverer<StorageT, LexemeT>,
 >()
-    ensures { OfRecoverers R.allows (StopsAtErrorStates (facts_by StorageT.index LexemeT.parts)) }
+    ensures { AreErrorStates StorageT.index LexemeT.parts R.allows }
 {}

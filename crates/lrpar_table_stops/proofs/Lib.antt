@@ -1,2 +1,3 @@
 pub mod MetLemmas
 pub mod StopLemmas
+pub mod RunLemmas

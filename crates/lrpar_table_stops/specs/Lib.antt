@@ -1,2 +1,3 @@
 pub mod ErrorStates
 pub mod Met
+pub mod Runs

@@ -23,8 +23,8 @@ pub(crate) fn end_of_path<StorageT: StorageIndex>(
     Some(state)
 }
 
-// The state to which this one goes by the symbol, if it does.
-fn next_by<StorageT: StorageIndex>(
+/// The state to which this one goes by the symbol, if it does: by a shift or by a goto. Takes the time of a look-up.
+pub fn next_by<StorageT: StorageIndex>(
     stable: &StateTable<StorageT>,
     state: StIdx<StorageT>,
     symbol: Symbol<StorageT>,

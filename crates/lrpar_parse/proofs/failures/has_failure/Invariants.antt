@@ -1,6 +1,6 @@
 use Rattle.std.proofs.Common.{◌≡◌, drop}
 use Rattle.lrpar_parse.specs.ValueArguments.{first_failure}
-use Rattle.lrpar_parse.proofs.values.has_failure.Given as goal
+use Rattle.lrpar_parse.proofs.failures.has_failure.Given as goal
 
 -- an error, if there is one, is among the arguments that are left
 abbrev pub invariant-loop-arg : goal.invariant-loop-arg

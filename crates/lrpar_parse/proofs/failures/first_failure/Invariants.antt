@@ -1,7 +1,7 @@
 use Rattle.std.proofs.Common.{◌≡◌}
 use Rattle.std.specs.Vec.Iter.{into_iter_items}
 use Rattle.lrpar_parse.specs.ValueArguments.{first_failure}
-use Rattle.lrpar_parse.proofs.values.first_failure.Given as goal
+use Rattle.lrpar_parse.proofs.failures.first_failure.Given as goal
 
 -- the first error of all arguments is the first one of those that are left
 abbrev pub invariant-loop-arg : goal.invariant-loop-arg

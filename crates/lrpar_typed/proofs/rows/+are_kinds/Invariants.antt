@@ -1,0 +1,5 @@
+use Rattle.std.proofs.Common.{length}
+use Rattle.lrpar_typed.proofs.rows.+are_kinds.Given as goal
+
+abbrev pub decreases-are_kinds : goal.decreases-are_kinds
+decreases-are_kinds g l = length l.row.now
