@@ -1,22 +1,24 @@
 //! What may come after the lexemes before an error.
-ghost use Rattle.std.specs.Prelude.{IfOk};
-ghost use Rattle.lrpar_table_check.specs.CheckedStacks.{AreExpectedOn, FormStack, HasStack};
+ghost use Rattle.lrpar_table_check.specs.CheckedStacks.{FormStack};
 
 use crate::wording::Wording;
 use lrpar_grammar::span::{RIdx, StIdx, StorageIndex, TIdx};
 use lrpar_names::{Choices, candidate_rules};
 use lrpar_table::check::ParserData;
 use lrpar_table_stacks::overlay::Overlay;
+use lrpar_table_stops::stack_after;
 use std::alloc::{AllocError, Global};
 
-/// Few names for what may come after these tokens, as far as they can be fed.
+/// Few names for what may come after these tokens; none, if they can't be fed.
 pub(crate) fn choices_after<StorageT: StorageIndex>(
     alloc: Global,
     data: &ParserData<StorageT>,
     wording: &Wording<StorageT>,
     before: &[TIdx<StorageT>],
 ) -> Result<Choices<StorageT>, AllocError> {
-    let stack = stack_after(alloc, data, before)?;
+    let Ok(stack) = stack_after(alloc, data, before)? else {
+        return Ok(no_choices(alloc));
+    };
     let expected = data.expected(alloc, &stack)?;
     let rules = rules_at(alloc, data, &stack, &expected)?;
     let mut named = Vec::with_capacity(alloc, expected.len())?;
@@ -28,49 +30,12 @@ pub(crate) fn choices_after<StorageT: StorageIndex>(
     wording.choices(alloc, &rules, &named)
 }
 
-// The stack of a parse after these tokens, as far as they can be fed.
-fn stack_after<StorageT: StorageIndex>(
-    alloc: Global,
-    data: &ParserData<StorageT>,
-    tokens: &[TIdx<StorageT>],
-) -> Result<Vec<StIdx<StorageT>>, AllocError>
-    ensures { IfOk result (HasStack StorageT.index data.now) }
-{
-    let mut stack = start_stack(alloc, data)?;
-    'feeding: for token in tokens {
-        if !feed(data, &mut stack, *token)? {
-            break;
-        }
+/// No names.
+pub(crate) fn no_choices<StorageT: StorageIndex>(alloc: Global) -> Choices<StorageT> {
+    Choices {
+        rules: Vec::new(alloc),
+        tokens: Vec::new(alloc),
     }
-    Ok(stack)
-}
-
-// The stack before any token.
-fn start_stack<StorageT: StorageIndex>(
-    alloc: Global,
-    data: &ParserData<StorageT>,
-) -> Result<Vec<StIdx<StorageT>>, AllocError>
-    ensures { IfOk result (HasStack StorageT.index data.now) }
-{
-    let start = data.stable().start_state();
-    let mut stack = Vec::new(alloc);
-    stack.push(start)?;
-    Ok(stack)
-}
-
-// Feeds a token, and returns whether it could be fed.
-fn feed<StorageT: StorageIndex>(
-    data: &ParserData<StorageT>,
-    stack: &mut Vec<StIdx<StorageT>>,
-    token: TIdx<StorageT>,
-) -> Result<bool, AllocError>
-    requires { HasStack StorageT.index data.now stack.old }
-    ensures { HasStack StorageT.index data.now stack.new }
-{
-    if usize::from(token) >= data.stable().tokens_len() {
-        return Ok(false);
-    }
-    data.feed(stack, token)
 }
 
 // The rules with which items go on where one of the tokens comes at the stack: in the state that takes it, after all reductions.

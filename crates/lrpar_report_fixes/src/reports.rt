@@ -3,6 +3,7 @@ ghost use Rattle.std.specs.Prelude.{◌≡◌, IfOk};
 ghost use Rattle.lrpar_report_lines.specs.declared.levels.Level.TheVariants.{Error};
 
 use crate::changes::Change;
+use crate::expected::no_choices;
 use crate::filling::push_filled;
 use crate::fixes::fix_of;
 use crate::openers::closed_bracket;
@@ -62,10 +63,7 @@ pub(crate) fn report_with_repairs<LexemeT: Lexeme<StorageT>, StorageT: StorageIn
 ) -> Result<Report, AllocError>
     ensures level { IfOk result (λ report. report.level ≡ Error) }
 {
-    let unknown = Choices {
-        rules: Vec::new(alloc),
-        tokens: Vec::new(alloc),
-    };
+    let unknown = no_choices(alloc);
     let lexeme = error.lexeme();
     let found = Found::new(subject, place, TIdx(lexeme.tok_id()), lexeme.span());
     let ways = repairing_ways(alloc, subject, place, error.repairs())?;

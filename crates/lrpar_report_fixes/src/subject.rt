@@ -3,6 +3,7 @@ use crate::lexemes::TextLexemes;
 use crate::wording::Wording;
 use lrpar_grammar::grammar::YaccGrammar;
 use lrpar_grammar::span::{Span, StorageIndex, TIdx};
+use lrpar_grammar_places::lines::NewlineCache;
 use lrpar_table::check::ParserData;
 
 /// A text in which an error is, and what is known of its tokens.
@@ -11,6 +12,8 @@ pub(crate) struct Subject<'a, StorageT: StorageIndex> {
     pub(crate) data: &'a ParserData<StorageT>,
     pub(crate) wording: &'a Wording<StorageT>,
     pub(crate) text: &'a str,
+    /// The lines of the text.
+    pub(crate) lines: &'a NewlineCache,
     /// Its lexemes, after the repairs of the errors before.
     pub(crate) lexemes: &'a TextLexemes<StorageT>,
 }

@@ -8,6 +8,7 @@ use crate::reports::{report_with_fixes, report_with_repairs};
 use crate::subject::Subject;
 use crate::wording::Wording;
 use lrpar_grammar::span::{StorageIndex, TIdx};
+use lrpar_grammar_places::lines::NewlineCache;
 use lrpar_names::Choices;
 use lrpar_parse_errors::errors::ParseError;
 use lrpar_parse_lexemes::lex_api::Lexeme;
@@ -40,6 +41,7 @@ pub struct TextReports<'a, StorageT: StorageIndex> {
     data: &'a ParserData<StorageT>,
     wording: &'a Wording<StorageT>,
     text: &'a str,
+    lines: NewlineCache,
     lexemes: TextLexemes<StorageT>,
     /// How many reports were made.
     count: usize,
@@ -52,16 +54,18 @@ impl<'a, StorageT: StorageIndex> Drop for TextReports<'a, StorageT> {
             data: _,
             wording: _,
             text: _,
+            lines,
             lexemes,
             count: _,
         } = self;
+        drop(lines);
         drop(lexemes);
     }
 }
 
 impl<'a, StorageT: StorageIndex> TextReports<'a, StorageT> {
     /// For reports of the errors of a text by this table. `answers` are what the lexer of the parse gives; a lexing error among them is passed
-    /// over. Takes time and memory linear in their number. `Err`: out of memory.
+    /// over. Takes time and memory linear in their number, and in the text for its lines. `Err`: out of memory.
     pub fn new<LexemeT: Lexeme<StorageT>, ErrorT>(
         alloc: Global,
         data: &'a ParserData<StorageT>,
@@ -79,6 +83,7 @@ impl<'a, StorageT: StorageIndex> TextReports<'a, StorageT> {
             data,
             wording,
             text,
+            lines: NewlineCache::new(alloc, text)?,
             lexemes,
             count: 0,
         })
@@ -124,6 +129,7 @@ impl<'a, StorageT: StorageIndex> TextReports<'a, StorageT> {
             data: self.data,
             wording: self.wording,
             text: self.text,
+            lines: &self.lines,
             lexemes: &self.lexemes,
         }
     }

@@ -86,8 +86,8 @@ impl<StorageT: StorageIndex> Wording<StorageT> {
         self
     }
 
-    /// Adds what may come after these tokens by the table, as far as they can be fed: `expected A, B or C`. Takes the time of a run over the
-    /// tokens. After an `Err`, which is out of memory, a part may have been added.
+    /// Adds what may come after these tokens by the table: `expected A, B or C`. Takes the time of a run over the tokens. If one of them can't
+    /// be fed, it adds nothing. After an `Err`, which is out of memory, a part may have been added.
     pub fn push_expected(
         &self,
         out: &mut String,

@@ -25,11 +25,11 @@ pub(crate) fn push_words<StorageT: StorageIndex>(
         }
         (true, true) => {
             out.push_str("delete ")?;
-            push_part(out, subject.text, change)
+            push_part(out, subject, change)
         }
         (true, false) => {
             out.push_str("replace ")?;
-            push_part(out, subject.text, change)?;
+            push_part(out, subject, change)?;
             out.push_str(" by ")?;
             push_tokens(out, subject, &change.tokens)
         }
@@ -62,9 +62,10 @@ pub(crate) fn push_tokens<StorageT: StorageIndex>(
 // Adds the text that goes; of a long one, or one of several lines, its first and its last lexeme.
 fn push_part<StorageT: StorageIndex>(
     out: &mut String,
-    text: &str,
+    subject: Subject<'_, StorageT>,
     change: &Change<StorageT>,
 ) -> Result<(), AllocError> {
+    let text = subject.text;
     let whole = text_at(text, change.span());
     if change.first.end() >= change.last.end() || is_short(whole) {
         return push_shortened(out, whole);
@@ -72,7 +73,22 @@ fn push_part<StorageT: StorageIndex>(
     out.push_str("all from ")?;
     push_shortened(out, text_at(text, change.first))?;
     out.push_str(" to ")?;
-    push_shortened(out, text_at(text, change.last))
+    push_shortened(out, text_at(text, change.last))?;
+    push_line(out, subject, change)
+}
+
+// Adds the line of the last lexeme that goes, if the first one is in another line.
+fn push_line<StorageT: StorageIndex>(
+    out: &mut String,
+    subject: Subject<'_, StorageT>,
+    change: &Change<StorageT>,
+) -> Result<(), AllocError> {
+    let first = subject.lines.byte_to_line_num(change.first.start());
+    let last = subject.lines.byte_to_line_num(change.last.start());
+    match (first, last) {
+        (Some(first), Some(last)) if first < last => write!(out, " in line {last}"),
+        (_, _) => Ok(()),
+    }
 }
 
 // Whether the text is on one line, and can be shown.

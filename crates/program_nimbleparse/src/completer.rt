@@ -1,8 +1,9 @@
 //! The completion of inputs, which is made when an error first needs it.
-use crate::grammar::GrammarFile;
 use crate::plan::{Plan, Recovery};
 use crate::show::write_messages;
+use crate::shown::shown_grammar;
 use crate::states::push_symbol;
+use lrpar_grammar::grammar::YaccGrammar;
 use lrpar_grammar::span::{StIdx, Symbol};
 use lrpar_parse_completion::TableCompletion;
 use lrpar_report::{Level, Report};
@@ -66,7 +67,7 @@ fn make<'a, O: Write, E: Write>(
         Err(Incompletable::Memory) => Err(Fault::Memory),
         Err(refusal) => {
             if !plan.is_quiet {
-                let text = refusal_note(alloc, plan.grammar, plan.data(), &refusal)?;
+                let text = refusal_note(alloc, plan, &refusal)?;
                 write_messages(out, err, text.as_str())?;
             }
             Ok(Completer::Never)
@@ -77,13 +78,15 @@ fn make<'a, O: Write, E: Write>(
 // The note that an error may have no repair, and why.
 fn refusal_note(
     alloc: Global,
-    file: GrammarFile<'_>,
-    data: &ParserData<u32>,
+    plan: &Plan<'_>,
     refusal: &Incompletable<u32>,
 ) -> Result<String, AllocError> {
     let mut why = String::from_str(alloc, "an error may have no repair: ")?;
     match refusal {
-        Incompletable::Stuck(states) => push_stack(&mut why, data, states)?,
+        Incompletable::Stuck(states) => {
+            let shown = shown_grammar(alloc, plan.data().grm(), plan.files)?;
+            push_stack(&mut why, plan.data(), &shown, states)?;
+        }
         Incompletable::TooMany => write!(
             &mut why,
             "there are more than {MAX_STACKS} stacks of the table to tell apart"
@@ -91,23 +94,24 @@ fn refusal_note(
         Incompletable::Memory => {}
     }
     let mut text = String::new(alloc);
-    let printer = file.printer(alloc)?;
+    let printer = plan.grammar.printer(alloc)?;
     let report = Report::new(alloc, Level::Note, why.as_str())?;
     printer.push(&mut text, alloc, &report)?;
     Ok(text)
 }
 
-// Adds that nothing completes the stack: its symbols, and the state on top.
+// Adds that nothing completes the stack: its symbols, with the names that this grammar has for them, and the state on top.
 fn push_stack(
     out: &mut String,
     data: &ParserData<u32>,
+    shown: &YaccGrammar<u32>,
     states: &[StIdx<u32>],
 ) -> Result<(), AllocError> {
     out.push_str("no tokens complete")?;
     for state in states {
         if let Some(symbol) = symbol_before(data, *state) {
             out.push(' ')?;
-            push_symbol(out, data.grm(), symbol)?;
+            push_symbol(out, shown, symbol)?;
         }
     }
     match states.last() {

@@ -9,7 +9,8 @@ use crate::kind::GrammarKind;
 use crate::printer::{MessageForm, Printer};
 use crate::program::Terminal;
 use crate::show::{fault_of_report, push_reports, write_messages};
-use crate::source::{Source, source_of};
+use crate::shown::{TokenFiles, shown_grammar};
+use crate::source::Source;
 use crate::states::push_states;
 use crate::unmatched::{Unmatched, table_grammar};
 use crate::useless::useless_reports;
@@ -115,36 +116,33 @@ impl GrammarTable {
     }
 }
 
-/// The checked table of a grammar file. A line says that it is built, if the terminal is to show that.
+/// The checked table of a grammar file of this source. A line says that it is built, if the terminal is to show that. Warns of what is of no use,
+/// and of conflicts, unless the program is to be quiet. A table with another number of conflicts than the file expects is refused. What is
+/// said of the table calls tokens as these files do, if there are any.
 pub(crate) fn make_table<O: Write, E: Write>(
     alloc: Global,
     file: GrammarFile<'_>,
+    printer: &Printer<'_>,
+    source: Source<'_>,
+    files: Option<TokenFiles<'_>>,
     out: &mut O,
     err: &mut E,
 ) -> Result<GrammarTable, Fault> {
-    if file.terminal.shows_progress && !file.asked.is_quiet {
+    let asked = file.asked;
+    if file.terminal.shows_progress && !asked.is_quiet {
         write_messages(out, err, "nimbleparse: building the table ..\n")?;
     }
-    let printer = file.printer(alloc)?;
-    build_table(alloc, &printer, file.text, file.asked, out, err)
-}
-
-// The checked table of a grammar file. Warns of what is of no use, and of conflicts, unless the program is to be quiet. A table with another
-// number of conflicts than the file expects is refused.
-fn build_table<O: Write, E: Write>(
-    alloc: Global,
-    printer: &Printer<'_>,
-    text: &str,
-    asked: Asked,
-    out: &mut O,
-    err: &mut E,
-) -> Result<GrammarTable, Fault> {
-    let Source { grammar, declared } = source_of(alloc, printer, text, asked.kind)?;
-    let warnings = warnings_of(alloc, text, &grammar, &declared, asked)?;
+    let Source { grammar, declared } = source;
+    let warnings = warnings_of(alloc, file.text, &grammar, &declared, asked)?;
     let (grammar, unmatched) = grammar_of_table(alloc, grammar, asked)?;
-    let (data, counts) = build_data(
-        alloc, printer, grammar, &declared, &warnings, asked, out, err,
-    )?;
+    let notes = Notes {
+        printer,
+        declared: &declared,
+        warnings: &warnings,
+        asked,
+        files,
+    };
+    let (data, counts) = build_data(alloc, grammar, notes, out, err)?;
     let has_warnings = !warnings.is_empty() || !has_expected(&declared, counts);
     Ok(GrammarTable {
         data,
@@ -190,6 +188,31 @@ fn warnings_of(
     Ok(warnings)
 }
 
+// What notes about a table are made of, beside the table.
+#[derive(Clone, Copy)]
+struct Notes<'a> {
+    printer: &'a Printer<'a>,
+    declared: &'a Declared<'a>,
+    warnings: &'a [Report],
+    asked: Asked,
+    // What other files say of tokens.
+    files: Option<TokenFiles<'a>>,
+}
+
+impl<'a> Notes<'a> {
+    // The grammar as notes show it, if that isn't the grammar itself.
+    fn shown_grammar(
+        self,
+        alloc: Global,
+        grm: &YaccGrammar<u32>,
+    ) -> Result<Option<YaccGrammar<u32>>, AllocError> {
+        match self.files {
+            Some(files) => Ok(Some(shown_grammar(alloc, grm, files)?)),
+            None => Ok(None),
+        }
+    }
+}
+
 // A table that was built, its grammar, and its item sets.
 #[derive(Clone, Copy)]
 struct Built<'a> {
@@ -202,14 +225,16 @@ struct Built<'a> {
 // The checked table of a grammar whose conflicts are resolved by the precedences that its file declares, if it declares any.
 fn build_data<O: Write, E: Write>(
     alloc: Global,
-    printer: &Printer<'_>,
     grm: YaccGrammar<u32>,
-    declared: &Declared<'_>,
-    warnings: &[Report],
-    asked: Asked,
+    notes: Notes<'_>,
     out: &mut O,
     err: &mut E,
 ) -> Result<(ParserData<u32>, Counts), Fault> {
+    let Notes {
+        declared,
+        asked,
+        ..
+    } = notes;
     let options = TableOptions::new()
         .precedences(&declared.precedences)
         .minimiser(asked.minimiser)
@@ -223,12 +248,12 @@ fn build_data<O: Write, E: Write>(
                 stable: &stable,
                 counts,
             };
-            write_notes(alloc, printer, built, declared, warnings, asked, out, err)?;
-            expect(alloc, printer, declared, counts)?;
-            let data = check_chains(alloc, printer, grm, sgraph, stable)?;
+            write_notes(alloc, built, notes, out, err)?;
+            expect(alloc, notes.printer, declared, counts)?;
+            let data = check_chains(alloc, grm, sgraph, stable, notes)?;
             Ok((data, counts))
         }
-        Err(fault) => Err(fault_of_build(alloc, printer, &grm, &fault, asked)),
+        Err(fault) => Err(fault_of_build(alloc, &grm, &fault, notes)),
     }
 }
 
@@ -236,58 +261,57 @@ fn build_data<O: Write, E: Write>(
 // be quiet.
 fn write_notes<O: Write, E: Write>(
     alloc: Global,
-    printer: &Printer<'_>,
     built: Built<'_>,
-    declared: &Declared<'_>,
-    warnings: &[Report],
-    asked: Asked,
+    notes: Notes<'_>,
     out: &mut O,
     err: &mut E,
 ) -> Result<(), Fault> {
-    if asked.is_quiet {
+    if notes.asked.is_quiet {
         return Ok(());
     }
-    let notes = notes_of(alloc, printer, built, declared, warnings, asked.max_states)?;
-    write_messages(out, err, notes.as_str())?;
-    if asked.shows_states {
-        write_states(alloc, printer, built, asked, out, err)?;
+    let shows_tokens = notes.asked.shows_states || built.stable.conflicts().is_some();
+    let shown = match shows_tokens {
+        true => notes.shown_grammar(alloc, built.grm)?,
+        false => None,
+    };
+    let built = match &shown {
+        Some(grm) => Built { grm, ..built },
+        None => built,
+    };
+    let text = notes_of(alloc, built, notes)?;
+    write_messages(out, err, text.as_str())?;
+    if notes.asked.shows_states {
+        write_states(alloc, built, notes, out, err)?;
     }
     Ok(())
 }
 
 // The warnings, and those of conflicts, unless these are what the file expects.
-fn notes_of(
-    alloc: Global,
-    printer: &Printer<'_>,
-    built: Built<'_>,
-    declared: &Declared<'_>,
-    warnings: &[Report],
-    max_states: usize,
-) -> Result<String, AllocError> {
-    let Built {
-        grm,
-        stable,
-        counts,
+fn notes_of(alloc: Global, built: Built<'_>, notes: Notes<'_>) -> Result<String, AllocError> {
+    let Notes {
+        printer,
+        declared,
         ..
-    } = built;
-    let mut notes = String::new(alloc);
-    push_reports(&mut notes, alloc, printer, warnings)?;
+    } = notes;
+    let mut text = String::new(alloc);
+    push_reports(&mut text, alloc, printer, notes.warnings)?;
     if declared.is_glr {
-        push_reports(&mut notes, alloc, printer, &[glr_note(alloc)?])?;
+        push_reports(&mut text, alloc, printer, &[glr_note(alloc)?])?;
     }
-    if !has_expected(declared, counts) {
+    if !has_expected(declared, built.counts) {
         let precedences = &declared.precedences;
+        let max_states = notes.asked.max_states;
         push_conflicts(
-            &mut notes,
+            &mut text,
             alloc,
             printer,
-            grm,
+            built.grm,
             precedences,
-            stable,
+            built.stable,
             max_states,
         )?;
     }
-    Ok(notes)
+    Ok(text)
 }
 
 // The note of a file for a GLR parser.
@@ -299,19 +323,19 @@ fn glr_note(alloc: Global) -> Result<Report, AllocError> {
 // Writes the states of the table: to standard output if the grammar is looked at, and to standard error otherwise.
 fn write_states<O: Write, E: Write>(
     alloc: Global,
-    printer: &Printer<'_>,
     built: Built<'_>,
-    asked: Asked,
+    notes: Notes<'_>,
     out: &mut O,
     err: &mut E,
 ) -> Result<(), Fault> {
     let mut text = String::new(alloc);
     push_states(&mut text, built.grm, built.sgraph, built.stable)?;
-    if asked.is_looked_at {
+    if notes.asked.is_looked_at {
         out.write_all(text.as_bytes())?;
         return Ok(());
     }
     let mut shown = String::new(alloc);
+    let printer = notes.printer;
     printer.push_text(&mut shown, alloc, "states of the table", text.as_str())?;
     write_messages(out, err, shown.as_str())
 }
@@ -319,37 +343,50 @@ fn write_states<O: Write, E: Write>(
 // Checks the chains of reductions of a table, and returns it.
 fn check_chains(
     alloc: Global,
-    printer: &Printer<'_>,
     grm: YaccGrammar<u32>,
     sgraph: StateGraph<u32>,
     stable: StateTable<u32>,
+    notes: Notes<'_>,
 ) -> Result<ParserData<u32>, Fault>
     requires { IsSafe grm sgraph stable }
 {
     match ParserData::of_safe(alloc, grm, sgraph, stable, CAP) {
         Ok(data) => Ok(data),
-        Err(refused) => Err(fault_of_chain(alloc, printer, refused)),
+        Err(refused) => Err(fault_of_chain(alloc, refused, notes)),
     }
 }
 
 // The fault of a grammar that has no table.
 fn fault_of_build(
     alloc: Global,
-    printer: &Printer<'_>,
     grm: &YaccGrammar<u32>,
     fault: &BuildFault,
-    asked: Asked,
+    notes: Notes<'_>,
 ) -> Fault {
-    let report = build_report(alloc, grm, fault, asked.max_states);
-    fault_of_report(alloc, printer, report)
+    let report = build_report(alloc, grm, fault, notes.asked.max_states);
+    fault_of_report(alloc, notes.printer, report)
 }
 
 // The fault of a table with a chain of reductions that is too long for any cap.
-fn fault_of_chain(alloc: Global, printer: &Printer<'_>, refused: Refused<u32>) -> Fault {
+fn fault_of_chain(alloc: Global, refused: Refused<u32>, notes: Notes<'_>) -> Fault {
     let CheckFault::ChainTooLong(state, token) = refused.fault() else {
         return Fault::Memory;
     };
     let (grm, _, _) = refused.into_parts();
-    let report = chain_report(alloc, &grm, state, token, CAP);
-    fault_of_report(alloc, printer, report)
+    let report = report_of_chain(alloc, &grm, state, token, notes);
+    fault_of_report(alloc, notes.printer, report)
+}
+
+// The report of a chain of reductions that is too long for any cap.
+fn report_of_chain(
+    alloc: Global,
+    grm: &YaccGrammar<u32>,
+    state: usize,
+    token: usize,
+    notes: Notes<'_>,
+) -> Result<Report, AllocError> {
+    match notes.shown_grammar(alloc, grm)? {
+        Some(shown) => chain_report(alloc, &shown, state, token, CAP),
+        None => chain_report(alloc, grm, state, token, CAP),
+    }
 }

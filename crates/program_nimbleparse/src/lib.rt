@@ -24,6 +24,7 @@ mod program;
 mod recoverers;
 pub mod rules;
 pub mod show;
+mod shown;
 mod sizes;
 mod source;
 mod states;

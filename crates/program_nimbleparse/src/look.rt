@@ -1,6 +1,7 @@
 //! A look at a grammar alone.
 use crate::grammar::{GrammarFile, GrammarTable, make_table};
 use crate::sizes::{push_sizes, push_table};
+use crate::source::source_of;
 use program_files::fault::Fault;
 use program_files::streams::Status;
 use std::alloc::{AllocError, Global};
@@ -14,7 +15,9 @@ pub(crate) fn look_at<O: Write, E: Write>(
     out: &mut O,
     err: &mut E,
 ) -> Result<Status, Fault> {
-    let table = make_table(alloc, file, out, err)?;
+    let printer = file.printer(alloc)?;
+    let source = source_of(alloc, &printer, file.text, file.asked.kind)?;
+    let table = make_table(alloc, file, &printer, source, None, out, err)?;
     if !file.asked.is_quiet {
         print_table(alloc, file, &table, out)?;
     }

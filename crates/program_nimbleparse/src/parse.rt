@@ -128,7 +128,7 @@ fn print_if_any<O: Write>(
 
 // The lexemes of the input, found once.
 fn lex<'i>(alloc: Global, plan: &Plan<'_>, text: &'i str) -> Result<ListLexer<'i>, AllocError> {
-    match plan.rules {
+    match plan.files.rules {
         LexerRules::Lines(rules) => {
             with_token(RuleLexer::new(alloc, rules, text)?, plan.unmatched()).lexed(alloc)
         }

@@ -1,6 +1,6 @@
 //! What inputs are parsed by, and how trees are printed.
 use crate::grammar::{GrammarFile, GrammarTable};
-use crate::rules::LexerRules;
+use crate::shown::TokenFiles;
 use lrpar_grammar::span::TIdx;
 use lrpar_report::Look;
 use lrpar_table::check::ParserData;
@@ -40,9 +40,7 @@ pub enum Recovery {
 pub(crate) struct Plan<'a> {
     pub(crate) grammar: GrammarFile<'a>,
     pub(crate) table: &'a GrammarTable,
-    pub(crate) rules: &'a LexerRules,
-    /// The text of the lexer's rules.
-    pub(crate) lexer: &'a str,
+    pub(crate) files: TokenFiles<'a>,
     /// How many lexemes have to follow a repair, if it is said.
     pub(crate) shifts: Option<usize>,
     pub(crate) recovery: Recovery,

@@ -17,7 +17,9 @@ use crate::printer::Printer;
 use crate::recoverers::Searches;
 use crate::rules::{LexerRules, lexer_rules};
 use crate::show::{with_label_text, write_messages};
+use crate::shown::TokenFiles;
 use crate::sizes::{push_sizes, push_table};
+use crate::source::{Source, source_of};
 use lrpar_grammar::grammar::YaccGrammar;
 use lrpar_report::{Level, Look, Report, token_warnings};
 use lrpar_table::check::ParserData;
@@ -223,13 +225,21 @@ impl<'a> Work<'a> {
         Printer::new(alloc, text, path, form, self.terminal.look)
     }
 
+    // What is said of tokens beside the grammar.
+    fn token_files(self, rules: &'a LexerRules) -> TokenFiles<'a> {
+        TokenFiles {
+            rules,
+            lexer: self.lexer,
+            messages: self.messages,
+        }
+    }
+
     // How inputs are parsed and trees are printed.
     fn plan(self, table: &'a GrammarTable, rules: &'a LexerRules) -> Plan<'a> {
         Plan {
             grammar: self.grammar_file(),
             table,
-            rules,
-            lexer: self.lexer,
+            files: self.token_files(rules),
             shifts: self.options.shifts,
             recovery: self.options.recovery,
             format: self.options.format,
@@ -240,7 +250,8 @@ impl<'a> Work<'a> {
     }
 }
 
-// Makes the table and the lexer's rules of the texts, warns of what is of no use, and parses the inputs.
+// Reads the grammar and the lexer's rules, makes the table, and does the task over them. A fault of the grammar or of its table comes before
+// one of the lexer.
 fn run_work<R: Files, I: Read + Drop, O: Write, E: Write>(
     rt: &R,
     alloc: Global,
@@ -249,21 +260,61 @@ fn run_work<R: Files, I: Read + Drop, O: Write, E: Write>(
     out: &mut O,
     err: &mut E,
 ) -> Result<Status, Fault> {
-    let table = make_table(alloc, work.grammar_file(), out, err)?;
-    let rules = rules_of_lexer(alloc, work, table.file_grm())?;
+    let file = work.grammar_file();
+    let printer = file.printer(alloc)?;
+    let source = source_of(alloc, &printer, file.text, file.asked.kind)?;
+    match rules_of_lexer(alloc, work, &source.grammar) {
+        Ok(rules) => run_with_rules(rt, alloc, work, &printer, source, &rules, input, out, err),
+        Err(Fault::Memory) => Err(Fault::Memory),
+        Err(fault) => {
+            drop(make_table(alloc, file, &printer, source, None, out, err)?);
+            Err(fault)
+        }
+    }
+}
+
+// Makes the table of a grammar, and does the task over it and the lexer's rules.
+fn run_with_rules<'a, R: Files, I: Read + Drop, O: Write, E: Write>(
+    rt: &R,
+    alloc: Global,
+    work: Work<'a>,
+    printer: &Printer<'_>,
+    source: Source<'_>,
+    rules: &'a LexerRules,
+    input: I,
+    out: &mut O,
+    err: &mut E,
+) -> Result<Status, Fault> {
+    let file = work.grammar_file();
+    let files = work.token_files(rules);
+    let table = make_table(alloc, file, printer, source, Some(files), out, err)?;
+    run_task(rt, alloc, work, &table, rules, input, out, err)
+}
+
+// Does the task over the table and the lexer's rules.
+fn run_task<R: Files, I: Read + Drop, O: Write, E: Write>(
+    rt: &R,
+    alloc: Global,
+    work: Work<'_>,
+    table: &GrammarTable,
+    rules: &LexerRules,
+    input: I,
+    out: &mut O,
+    err: &mut E,
+) -> Result<Status, Fault> {
     let messages = file_messages(alloc, work, &table.data)?;
     let catalogue = match (work.options.messages, work.messages) {
         (Some(path), Some(text)) => Some(Catalogue { path, text }),
         (_, None) | (None, _) => None,
     };
     match (work.options.task, catalogue) {
-        (Task::ListErrors, _) => list_errors(alloc, &work.plan(&table, &rules), messages, out),
+        (Task::ListErrors, _) => list_errors(alloc, &work.plan(table, rules), messages, out),
         (Task::CheckErrors, Some(catalogue)) => {
-            check_errors(alloc, &work.plan(&table, &rules), catalogue, out, err)
+            check_errors(alloc, &work.plan(table, rules), catalogue, out, err)
         }
         _ => {
-            warn(alloc, work, &table, &rules, out, err)?;
-            parse_inputs(rt, alloc, work, &table, &rules, messages, input, out, err)
+            warn(alloc, work, table, rules, out, err)?;
+            parse_inputs(rt, alloc, work, table, rules, messages, input, out, err)
         }
     }
 }

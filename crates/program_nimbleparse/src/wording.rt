@@ -1,9 +1,8 @@
 //! What messages call tokens and rules.
 use crate::messages::FileMessages;
 use crate::plan::Plan;
-use crate::rules::LexerRules;
 use lrpar_names::Names;
-use lrpar_report_fixes::{Wording, read_token_texts};
+use lrpar_report_fixes::Wording;
 use std::alloc::{AllocError, Global};
 
 /// What messages call tokens and rules, by a messages file and by the rules of the lexer, and its messages.
@@ -20,10 +19,7 @@ pub(crate) fn wording_of(
         }
         None => (Names::new(alloc, grm)?, None),
     };
-    let texts = match plan.rules {
-        LexerRules::Lines(rules) => read_token_texts(alloc, grm, rules.as_slice(), plan.lexer)?,
-        LexerRules::States(rules) => read_token_texts(alloc, grm, rules, plan.lexer)?,
-    };
+    let texts = plan.files.texts(alloc, grm)?;
     let avoided = Vec::from_slice(alloc, &plan.table.avoided)?;
     let wording = Wording::new(alloc, grm, names, texts)?.avoided(avoided);
     let wording = match messages {
