@@ -337,6 +337,38 @@ refuse_each_call_of_nimbleparse 0 "%%
 '(' 'N' ')' '('
 " '' --list-errors "$work/brackets.lex" "$work/brackets.y"
 
+printf "%%%% S: 'IF' S | 'IF' S 'ELSE' S | 'VAR';\n" >"$work/else.y"
+printf "i 'IF'\ne 'ELSE'\n[a-z] 'VAR'\n" >"$work/else.lex"
+printf 'ELSE: an else branch\n' >"$work/else.messages"
+printf 'x' >"$work/variable"
+refuse_each_call_of_nimbleparse 0 'S[ VAR "x" ]
+' "$work/else.y:1:8: warning: conflict at an else branch in state 8: the token is shifted, and 'S' isn't reduced
+1| %% S: 'IF' S | 'IF' S 'ELSE' S | 'VAR';
+          ^^^^^ this could be reduced instead; an example is below
+'e' in state 8: one text, two derivations
+  i i VAR . e VAR
+  reduce S: 'i' S
+    S[ i S[ i S[ VAR ] ] e S[ VAR ] ]
+  shift 'e'
+    S[ i S[ i S[ VAR ] e S[ VAR ] ] ]
+
+$work/else.y: note: rules 2, productions 4, tokens 4, states 12, least cap 1
+" --minimise canonical --messages "$work/else.messages" "$work/else.lex" "$work/else.y" "$work/variable"
+
+printf "%%%%\nS: 'A' | 'SIGN' X;\nX: X 'C';\n" >"$work/endless.y"
+printf "a 'A'\n! 'SIGN'\nc 'C'\n" >"$work/endless.lex"
+printf '!a' >"$work/stuck"
+refuse_each_call_of_nimbleparse 1 '' "$work/endless.y:3:1: warning: rule 'X' derives no text
+3| X: X 'C';
+   ^ each of its productions needs a rule that derives none
+$work/endless.y: note: rules 3, productions 4, tokens 4, states 6, least cap 1
+$work/endless.y: note: an error may have no repair: no tokens complete '!', in state 3
+$work/stuck:1:2: error: unexpected 'a'
+1| !a
+    ^
+note: no repair was found within --limit 8000; a larger limit may find one
+" "$work/endless.lex" "$work/endless.y" "$work/stuck"
+
 refuse_calls_in_both_ways "$most_calls" "$most_calls" "$here/fail-alloc.cases"
 if [[ -e $here/fail-alloc-from.cases ]]; then
     refuse_calls_in_both_ways "$each_from" "$most_from" "$here/fail-alloc-from.cases"
