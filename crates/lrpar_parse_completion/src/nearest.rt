@@ -174,7 +174,7 @@ impl<'a, 'p, StorageT: StorageIndex, LexemeT: Lexeme<StorageT>> Search<'a, 'p, S
 
     // The steps of the repair: the inserted tokens, and then a deletion of each lexeme before its place.
     fn steps(&self, alloc: Global, repair: Nearest) -> Result<Vec<RepairStep<StorageT>>, AllocError>
-        requires inserted { repair.inserted ≤ length self.now.tokens.now }
+        requires tokens { repair.inserted ≤ length self.now.tokens.now }
         requires after { self.now.point.now.place ≤ repair.place }
         ensures { IfOk result (HasSteps StorageT.index self.now repair) }
     {

@@ -128,7 +128,7 @@ impl<StorageT: StorageIndex> Found<StorageT> {
         requires formed { IsWellFormed grm.now }
         requires prod { StorageT.index prod.0 < prods_len grm.now }
         requires dot { dot ≤ prod_len grm.now (StorageT.index prod.0) }
-        requires marks { length self.old.marks.items ≡ rules_len grm.now }
+        requires len { length self.old.marks.items ≡ rules_len grm.now }
         ensures { OnOk result (AddsItem StorageT.index grm.now prod dot self.old self.new) }
     {
         let Some((rule, _)) = rule_after(grm, prod, dot) else {

@@ -6,8 +6,8 @@ use lrpar_table_items::cores::CoreItems;
 
 // Removes the lookaheads of all cores. The cores and the rooms of their sets stay.
 pub(crate) fn clear_kernels<StorageT: StorageIndex>(kernels: &mut [Vec<CoreItems<StorageT>>])
-    ensures cores { KeepCores StorageT.index kernels.old kernels.new }
-    ensures alike { StayAlike StorageT.index kernels.old kernels.new }
+    ensures kept { KeepCores StorageT.index kernels.old kernels.new }
+    ensures same { StayAlike StorageT.index kernels.old kernels.new }
     ensures none { AreWithoutItems StorageT.index kernels.new }
 {
     for state in 0..kernels.len() {
@@ -27,7 +27,7 @@ fn clear_kernel<StorageT: StorageIndex>(kernel: &mut Vec<CoreItems<StorageT>>)
 // Removes the lookaheads of the cores.
 fn clear_cores<StorageT: StorageIndex>(kernel: &mut [CoreItems<StorageT>])
     ensures cores { StayCores StorageT.index kernel.old kernel.new }
-    ensures same { AreSameCores StorageT.index kernel.new kernel.old }
+    ensures lr0 { AreSameCores StorageT.index kernel.new kernel.old }
     ensures none { HaveNoItem StorageT.index kernel.new }
 {
     for place in 0..kernel.len() {

@@ -32,7 +32,7 @@ pub(crate) fn make_distinct_states<StorageT: StorageIndex>(
     requires sets { AreSets grm.now sets.old }
     requires kernels { HaveKernels StorageT.index grm.now states.items }
     requires fit { length states.items ≤ StorageT.limit }
-    ensures states { IfOk result (AreStatesOf StorageT.index grm.now) }
+    ensures made { IfOk result (AreStatesOf StorageT.index grm.now) }
     ensures len { IfOk result (HasAtMost (length states.items)) }
 {
     let rounds = states.len();
@@ -42,9 +42,10 @@ pub(crate) fn make_distinct_states<StorageT: StorageIndex>(
         let marks = reached(alloc, &all)?;
         kernels = marked_kernels(alloc, &kernels, &marks)?;
         keep_marked(alloc, &mut all, &marks)?;
-        match propagate_states(alloc, grm, sets, &all, &mut kernels)? {
-            Ok(made) => return Ok(made),
-            Err((first, second)) => redirect(&mut all, second, first),
+        propagate(alloc, grm, sets, &all, &mut kernels)?;
+        match find_twins(&kernels) {
+            None => return make_merged_states(alloc, grm, sets, &all, &kernels),
+            Some((first, second)) => redirect(&mut all, second, first),
         }
     }
     Err(HeldFault::Misfit)
@@ -66,32 +67,6 @@ fn split_states<StorageT: StorageIndex>(
         all.push(transitions)?;
     }
     Ok((kernels, all))
-}
-
-// The states of the kernels, whose lookaheads are worked out anew from the start; or two of the kernels, if they are then the same.
-fn propagate_states<StorageT: StorageIndex>(
-    alloc: Global,
-    grm: &YaccGrammar<StorageT>,
-    sets: &mut Sets,
-    all: &[Transitions],
-    kernels: &mut [Vec<CoreItems<StorageT>>],
-) -> Result<Result<Vec<State<StorageT>>, (usize, usize)>, HeldFault>
-    requires well_formed { IsWellFormed grm.now }
-    requires sets { AreSets grm.now sets.old }
-    requires cores { HaveCores StorageT.index grm.now kernels.old }
-    requires fit { length kernels.old ≤ StorageT.limit }
-    ensures sets { AreSets grm.now sets.new }
-    ensures states { IfOk result (λ made. IfOk made (AreStatesOf StorageT.index grm.now)) }
-    ensures len { IfOk result (λ made. IfOk made (HasAtMost (length kernels.old))) }
-    ensures twins { IfOk result (λ made. IfErr made (AreTwins StorageT.index kernels.new)) }
-    ensures cores { IfOk result (λ made. IfErr made (λ _. HaveCores StorageT.index grm.now kernels.new)) }
-    ensures count { length kernels.new ≡ length kernels.old }
-{
-    propagate(alloc, grm, sets, all, kernels)?;
-    match find_twins(kernels) {
-        None => Ok(Ok(make_merged_states(alloc, grm, sets, all, kernels)?)),
-        Some(twins) => Ok(Err(twins)),
-    }
 }
 
 // Two kernels with the same cores and the same lookaheads, if there are any, the earlier one first.

@@ -38,7 +38,7 @@ pub(crate) fn make_merged_states<StorageT: StorageIndex>(
     requires held { AreKernelsHeld StorageT.index grm.now all.now kernels.now }
     requires distinct { AreDistinctKernels StorageT.index kernels.now }
     ensures sets { AreSets grm.now sets.new }
-    ensures states { IfOk result (AreStatesOf StorageT.index grm.now) }
+    ensures made { IfOk result (AreStatesOf StorageT.index grm.now) }
     ensures len { IfOk result (λ states. length states.items ≡ length kernels.now) }
 {
     let mut states = Vec::new(alloc);

@@ -20,7 +20,7 @@ returns-clause-same g c =
     let rows = map (core_set g.StorageT.StorageIndex.index) in
     let value = c.deref_mut.ensures.value in
     let is = back kernel.items c.deref_mut.result.now c.clear_cores.new.kernel kernel.len (sym kernel.ok.0) value c.clear_cores.auto.kernel in
-    ap (λ items. map lr0_core (rows items)) is ∙ c.clear_cores.ensures.same ∙ ap (λ items. map lr0_core (rows items)) value
+    ap (λ items. map lr0_core (rows items)) is ∙ c.clear_cores.ensures.lr0 ∙ ap (λ items. map lr0_core (rows items)) value
 
 pub returns-clause-none : goal.returns-clause-none
 returns-clause-none g c =

@@ -47,8 +47,8 @@ loop-number-preserved g c =
           (states_more Given states state n len so_far.given c.in_ok-state.ensures.state);
     }
 
-pub returns-clause-states : goal.returns-clause-states
-returns-clause-states g c =
+pub returns-clause-made : goal.returns-clause-made
+returns-clause-made g c =
     let index = g.StorageT.StorageIndex.index in
     let kernels = c.args.kernels.now in
     let rows = kernel_rows index kernels in

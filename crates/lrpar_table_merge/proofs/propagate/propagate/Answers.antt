@@ -10,13 +10,13 @@ use Rattle.lrpar_table_merge.proofs.RoundLemmas.{propagated_begun}
 use Rattle.lrpar_table_merge.proofs.propagate.propagate.Goals as goal
 
 pub begin-requires-clause-cores : goal.begin-requires-clause-cores
-begin-requires-clause-cores g c = c.clear_kernels.ensures.cores c.args.grm.now c.requires.cores
+begin-requires-clause-cores g c = c.clear_kernels.ensures.kept c.args.grm.now c.requires.cores
 
 pub returns-clause-held : goal.returns-clause-held
 returns-clause-held g c =
     let rows = λ (kernels : List _). kernel_rows g.StorageT.StorageIndex.index kernels in
     let start = c.in_ok-waits.ensures.alike in
-    let first = alike_on (rows c.args.kernels.now) (rows c.clear_kernels.new.kernels) (rows c.begin.new.kernels) c.clear_kernels.ensures.alike start in
+    let first = alike_on (rows c.args.kernels.now) (rows c.clear_kernels.new.kernels) (rows c.begin.new.kernels) c.clear_kernels.ensures.same start in
     on_ok_weaker c.pass_rounds.result
     (λ done. record {
       alike = alike_on (rows c.args.kernels.now) (rows c.begin.new.kernels) (rows c.pass_rounds.new.kernels) first done.alike;
@@ -29,14 +29,14 @@ returns-in_err-waits-clause-fault g c =
     let rows = λ (kernels : List _). kernel_rows g.StorageT.StorageIndex.index kernels in
     fault_is c.from_residual.result _ c.in_err-waits.field-0.0 c.from_residual.ensures.1
     (λ is.
-    inl (no_start_back c.args.grm.now (rows c.args.kernels.now) (rows c.clear_kernels.new.kernels) c.clear_kernels.ensures.alike
+    inl (no_start_back c.args.grm.now (rows c.args.kernels.now) (rows c.clear_kernels.new.kernels) c.clear_kernels.ensures.same
     (c.in_err-waits.ensures.misfit is)))
 
 pub returns-clause-fault : goal.returns-clause-fault
 returns-clause-fault g c =
     let rows = λ (kernels : List _). kernel_rows g.StorageT.StorageIndex.index kernels in
     let start = c.in_ok-waits.ensures.alike in
-    let first = alike_on (rows c.args.kernels.now) (rows c.clear_kernels.new.kernels) (rows c.begin.new.kernels) c.clear_kernels.ensures.alike start in
+    let first = alike_on (rows c.args.kernels.now) (rows c.clear_kernels.new.kernels) (rows c.begin.new.kernels) c.clear_kernels.ensures.same start in
     fault_weaker c.pass_rounds.result _ _
     (λ fault stuck is.
     inr (stuck_back c.args.grm.now (all_transitions c.args.all.now) (rows c.args.kernels.now) (rows c.begin.new.kernels) first (stuck is)))

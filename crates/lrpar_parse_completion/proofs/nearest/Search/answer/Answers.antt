@@ -14,7 +14,7 @@ steps-requires g c =
     let index = g.StorageT.StorageIndex.index in
     let found = rw c.in-Some.is at c.in_ok-repair.ensures in
     record {
-      inserted = let some = found.tried.some in omega (arith, some, length-map c.args.self.now.tokens.now (λ t. index t.0));
+      tokens = let some = found.tried.some in omega (arith, some, length-map c.args.self.now.tokens.now (λ t. index t.0));
       after = found.tried.after_stop;
     }
 

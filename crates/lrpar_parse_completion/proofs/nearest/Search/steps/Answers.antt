@@ -26,7 +26,7 @@ deleted-init g c =
     let steps = plain_steps index c.inserted.steps.items in
     let n = c.args.repair.inserted in
     let i = c.inserted.token-index in
-    let same : i ≡ n = omega (arith, c.inserted-test.false, c.inserted.auto.token-index-end, length-take n all, c.requires.inserted) in
+    let same : i ≡ n = omega (arith, c.inserted-test.false, c.inserted.auto.token-index-end, length-take n all, c.requires.tokens) in
     let none : 0 ≡ c.place-counter.result - c.args.self.now.point.now.place = omega (arith, c.place-counter.ensures.place) in
     subst (λ (k : ℕ). steps ≡ inserts_deletes (take n tokens) k) none
     (subst (λ (m : ℕ). steps ≡ inserts_deletes (take m tokens) 0) same c.inserted.invariant)

@@ -13,7 +13,7 @@ returns-then-index g c =
     let index = g.StorageT.StorageIndex.index in
     let n = index c.in-Some.rule.0 in
     let marks = c.args.self.now.marks.items in
-    let low : n < length marks = let within = c.in-Some.ensures.within in omega (arith, within, c.requires.marks) in
+    let low : n < length marks = let within = c.in-Some.ensures.within in omega (arith, within, c.requires.len) in
     let mark = mark_read marks c.from-number.result n c.index.result.now c.from-number.ensures low c.index.ensures in
     inl (
       refl,
@@ -29,7 +29,7 @@ returns g c =
     let index = g.StorageT.StorageIndex.index in
     let n = index c.in-Some.rule.0 in
     let marks = c.args.self.now.marks.items in
-    let low : n < length marks = let within = c.in-Some.ensures.within in omega (arith, within, c.requires.marks) in
+    let low : n < length marks = let within = c.in-Some.ensures.within in omega (arith, within, c.requires.len) in
     let mark = mark_read marks c.from-number.result n c.index.result.now c.from-number.ensures low c.index.ensures in
     inr (
       n,

@@ -88,5 +88,5 @@ returns g c =
       );
     }
 
-pub add-requires-clause-marks : goal.add-requires-clause-marks
-add-requires-clause-marks g c = rw c.grm-grm.ensures c.loop-prod.invariant.counted.0
+pub add-requires-clause-len : goal.add-requires-clause-len
+add-requires-clause-len g c = rw c.grm-grm.ensures c.loop-prod.invariant.counted.0
