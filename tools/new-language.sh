@@ -16,7 +16,7 @@ readonly root
 . "$here/crates.sh"
 
 # What users name of the library.
-readonly DOORS=(lrpar lrpar_grammar_unmatched lrpar_lexer lrpar_messages lrpar_names lrpar_report lrpar_report_fixes lrpar_table_stops)
+readonly DOORS=(lrpar lrpar_typed lrpar_grammar_unmatched lrpar_lexer lrpar_messages lrpar_names lrpar_report lrpar_report_fixes lrpar_table_stops)
 # The crate that a new one is a copy of.
 readonly TEMPLATE=example_project
 # The lines of crates.txt between which the library is.
@@ -85,7 +85,8 @@ make() {
     library_lines >"$1/crates.txt" || fail "cannot write in $1"
     printf '%s:%s\n' "$2" "${uses[$TEMPLATE]}" >>"$1/crates.txt"
     cp -a "$root/HANDLES" "$root/.gitignore" "$1" && cp -a "$root/.ci/run" "$1/.ci/run" || fail "cannot write in $1"
-    cp -a "$root/crates/$TEMPLATE/"{src,stdin,stdout} "$1/crates/$2" || fail "cannot write in $1"
+    cp -a "$root/crates/$TEMPLATE/"{src,specs,stdin,stdout} "$1/crates/$2" || fail "cannot write in $1"
+    sed -i "s/Rattle\.$TEMPLATE\./Rattle.$2./" "$1/crates/$2/src/syntax.rt" "$1/crates/$2/specs/Syntax.antt" || fail "cannot write in $1"
     sed "s/NAME/$2/g" "$here/new-language.md" >"$1/README.md" || fail "cannot write in $1"
 }
 

@@ -33,6 +33,7 @@ ALSO_NAMED = {
     "lrpar_report_fixes",
     "lrpar_table_sentences",
     "lrpar_table_stops",
+    "lrpar_typed",
 }
 
 

@@ -1,8 +1,8 @@
 #!/usr/bin/env bash
 # Tries new-language.sh, in a folder that it makes and removes: try-new-language.sh [--check]
 #
-# A new repository runs its tests; it refuses a grammar in which a production changed, by the production's text; and --update brings the
-# library back and leaves the rest alone. With --check, `rt check` proves the new crate, too, which can take an hour. Prints a line for
+# A new repository runs its tests; it refuses a grammar that its code wasn't made of; and --update brings the library back and leaves the
+# rest alone. With --check, `rt check` proves the new crate, too, which can take an hour. Prints a line for
 # each of these, and ends with 0 if all are so.
 set -u
 
@@ -32,17 +32,17 @@ in_crate() {
     (cd "$crate" && "$@")
 }
 
-# Whether the program ends because the list of productions has one that the grammar hasn't, and says its text.
-names_the_production() {
-    sed -i "s/Number ';';/Number ';' ';';/" "$crate/src/language.rt"
-    in_crate rt try <"$crate/stdin" 2>&1 | grep -F "Setting: 'NAME' '=' Number ';'"
+# Whether the program ends because its grammar has another production than its code.
+refuses_the_grammar() {
+    sed -i "s/^Setting: 'NAME' '=' Number ';';/Setting: 'NAME' '=' Number ';' ';';/" "$crate/src/syntax.rt"
+    in_crate rt try <"$crate/stdin" 2>&1 | grep -F "the grammar isn't the one that syntax.rt was made of"
 }
 
 # Whether an update brings back a file of the library, and leaves the changed file of the crate.
 updates() {
     echo "// changed" >>"$folder/tiny/crates/lrpar/src/lib.rt"
     "$here/new-language.sh" --update "$folder/tiny" || return 1
-    cmp "$here/../crates/lrpar/src/lib.rt" "$folder/tiny/crates/lrpar/src/lib.rt" && grep -qF "Number ';' ';';" "$crate/src/language.rt" \
+    cmp "$here/../crates/lrpar/src/lib.rt" "$folder/tiny/crates/lrpar/src/lib.rt" && grep -qF "Number ';' ';';" "$crate/src/syntax.rt" \
         && grep -q '^tiny: ' "$folder/tiny/crates.txt"
 }
 
@@ -52,6 +52,6 @@ says "its tests run" in_crate rt try --test
 if [[ ${1-} == --check ]]; then
     says "it is proved" in_crate rt check
 fi
-says "a changed production is refused by its text" names_the_production
+says "another grammar is refused" refuses_the_grammar
 says "the library is updated, and the rest stays" updates
 exit "$wrong"

@@ -9,6 +9,7 @@ from typing import NamedTuple
 from public import ROOT, crates
 
 DATA = ROOT / "tools" / "house"
+QUOTED = re.compile(r"""//[^\n]*|\br(#*)"(?s:.*?)"\1|"(?:[^"\\]|\\(?s:.))*"|'(?:[^'\\\n]|\\[^\n])[^'\n]{0,8}?'(?!\w)""")
 FUNCTION = re.compile(r"^[ ]*(?:pub(?:\([a-z]+\))? )?(?:const )?(?:unsafe )?fn (\w+)", re.M)
 TYPE = re.compile(r"^[ ]*(?:pub(?:\([a-z]+\))? )?(?:struct|enum|trait|type) (\w+)", re.M)
 DEFINITION = re.compile(r"^[ ]*(?:abbrev |unfoldable )?pub (?:record |data )?(?!use |mod )([^\s:({]+)", re.M)
@@ -87,9 +88,15 @@ def split_head(head):
 
 
 @functools.lru_cache(maxsize=None)
+def code(path):
+    """The text of a file of `src`, with blanks in place of comments and of texts in quotes."""
+    return QUOTED.sub(lambda part: re.sub(r"[^\n]", " ", part.group()), path.read_text())
+
+
+@functools.lru_cache(maxsize=None)
 def functions(path):
     """The functions of a file."""
-    text = re.sub(r"//[^\n]*", lambda comment: " " * len(comment.group()), path.read_text())
+    text = code(path)
     found = []
     for match in FUNCTION.finditer(text):
         end = end_of_head(text, match.end())
@@ -103,7 +110,7 @@ def names():
     """Each name in `src` and `specs`, with its crate, its file and its line: of files, functions, types and definitions."""
     for crate, path in files("src", ".rt"):
         yield crate, named(path), 1, path.stem
-        text = path.read_text()
+        text = code(path)
         for match in (*FUNCTION.finditer(text), *TYPE.finditer(text)):
             yield crate, named(path), line_of(text, match.start(1)), match.group(1)
     for crate, path in files("specs", ".antt"):

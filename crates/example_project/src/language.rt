@@ -1,8 +1,9 @@
-//! The language: its grammar, its lexer, and what reports call its tokens.
-use crate::values::PRODS;
+//! The language: its lexer, and what reports call its tokens. Its grammar is in `settings.y`, of which `nimbleparse --rust` makes
+//! `syntax.rt`.
+use crate::syntax::{GRAMMAR, Table};
 use lrpar::ParserData;
 use lrpar::build::{Unbuilt, parser_data};
-use lrpar::grammar::{GrammarFault, Spelled, SpelledFault, YaccGrammar};
+use lrpar::grammar::{GrammarFault, YaccGrammar};
 use lrpar::parser::ParseFault;
 use lrpar::span::TIdx;
 use lrpar_grammar_unmatched::{UnmatchedFault, with_unmatched};
@@ -13,10 +14,6 @@ use lrpar_report_fixes::{Wording, read_token_texts};
 use std::alloc::{AllocError, Global};
 use std::io;
 use thiserror::Error;
-
-const GRAMMAR: &str = "%% File: | File Setting;
-    Setting: 'NAME' '=' Number ';';
-    Number: 'DIGITS' | Number '+' 'DIGITS';";
 
 const LEXER: &str = r"
     [a-z_]+ 'NAME'
@@ -73,32 +70,34 @@ pub(crate) enum Failed {
     Names(#[from] NamesFault),
     #[error("messages: {0}")]
     Messages(#[from] MessageFault),
-    #[error("productions: {0}")]
-    Productions(#[from] SpelledFault),
     #[error("table: {0}")]
     Table(#[from] Unbuilt<u32>),
     #[error("parse: {0}")]
     Parse(#[from] ParseFault),
     #[error("the number at byte {0} is too big")]
     TooBig(usize),
-    #[error("a production has other symbols than its value needs")]
-    Symbols,
+    #[error("the grammar isn't the one that syntax.rt was made of")]
+    OtherGrammar,
     #[error("out of memory")]
     Memory(#[from(alloc)] AllocError),
 }
 
-/// The table of the grammar, the rules of the lexer, the productions by their places in `PRODS`, and the words of reports.
+/// The table of the grammar, the rules of the lexer, and the words of reports.
 #[derive(Drop)]
 pub(crate) struct Language {
-    pub(crate) data: ParserData<u32>,
+    pub(crate) table: Table,
     rules: Vec<LexRule>,
     // The token of text that no rule matches.
     unmatched: TIdx<u32>,
-    pub(crate) spelled: Spelled<u32>,
     pub(crate) wording: Wording<u32>,
 }
 
 impl Language {
+    /// The grammar with its checked table.
+    pub(crate) fn data(&self) -> &ParserData<u32> {
+        &self.table.checked
+    }
+
     /// The lexer of a text.
     pub(crate) fn lexer<'rules, 'text>(
         &'rules self,
@@ -109,20 +108,19 @@ impl Language {
     }
 }
 
-/// Makes the language. `Err` if the texts above don't fit one another, or `PRODS`.
+/// Makes the language. `Err` if the texts above don't fit one another, or the grammar.
 pub(crate) fn new_language(alloc: Global) -> Result<Language, Failed> {
     let grm = YaccGrammar::<u32>::new_with_storaget(alloc, GRAMMAR)?;
     let (grm, unmatched) = with_unmatched(alloc, &grm, "unmatched text")?;
     let rules = rules_of(alloc, &grm, LEXER)?;
-    let spelled = grm.prods_spelled(alloc, &PRODS)?;
     let wording = wording_of(alloc, &grm, &rules)?.unmatched(unmatched);
     let data = parser_data(alloc, grm, 10_000, 1_000)?;
     let wording = wording.messages(Messages::read(alloc, &data, MESSAGES)?);
+    let table = Table::new(data).ok_or(Failed::OtherGrammar)?;
     Ok(Language {
-        data,
+        table,
         rules,
         unmatched,
-        spelled,
         wording,
     })
 }

@@ -2,12 +2,14 @@
 #![tactic(auto)]
 
 mod language;
+mod syntax;
 #[cfg(test)]
 mod tests;
 mod values;
 
 use crate::language::{Failed, Language, new_language};
-use crate::values::{Setting, Settings, Value};
+use crate::syntax::{Parsed, parse_file};
+use crate::values::{Setting, Settings};
 use lrpar::repair::CpctPlus;
 use lrpar::{LexParseError, Lexer, RTParserBuilder};
 use lrpar_lexer::TokenTypes;
@@ -15,9 +17,6 @@ use lrpar_report::{Look, Reporter, lexing_report};
 use lrpar_report_fixes::TextReports;
 use std::alloc::{AllocError, Global};
 use std::io;
-
-/// The value of a text, if it has one, and its errors.
-type Parsed<'text> = (Option<Value<'text>>, Vec<LexParseError<u32, TokenTypes>>);
 
 fn main(rt: HostRuntime) -> Result<(), Failed> {
     let text = io::read_to_string(rt.alloc(), rt.stdin())?;
@@ -32,7 +31,7 @@ pub(crate) fn shown(alloc: Global, language: &Language, text: &str) -> Result<St
     let (file, errors) = parse(alloc, language, text)?;
     let mut out = String::new(alloc);
     push_errors(&mut out, alloc, language, text, &errors)?;
-    if let Some(Value::File(settings)) = &file {
+    if let Some(settings) = &file {
         push_settings(&mut out, settings)?;
     }
     Ok(out)
@@ -51,7 +50,7 @@ fn push_errors(
     }
     let reporter = Reporter::new(alloc, text, "input", Look::Plain)?;
     let answers = language.lexer(alloc, text)?.iter(alloc)?;
-    let mut reports = TextReports::new(alloc, &language.data, &language.wording, text, &answers)?;
+    let mut reports = TextReports::new(alloc, language.data(), &language.wording, text, &answers)?;
     for error in errors {
         let report = match error {
             LexParseError::LexError(error) => lexing_report(alloc, text, error)?,
@@ -67,13 +66,10 @@ fn parse<'text>(
     alloc: Global,
     language: &Language,
     text: &'text str,
-) -> Result<Parsed<'text>, Failed> {
+) -> Parsed<Vec<Setting<'text>>, Failed> {
     let lexer = language.lexer(alloc, text)?;
-    let parser = RTParserBuilder::new(&language.data).recoverer(CpctPlus::new(10_000));
-    let values = Settings {
-        spelled: &language.spelled,
-    };
-    parser.parse_values(alloc, &lexer, &values)
+    let parser = RTParserBuilder::new(&language.table.checked).recoverer(CpctPlus::new(10_000));
+    parse_file(alloc, &parser, &lexer, &Settings)
 }
 
 /// Adds a line for each setting.

@@ -45,11 +45,11 @@ fn are_shown(rt: &impl Abort, alloc: Global, language: &Language) -> Result<(), 
 #[test]
 fn each_error_has_a_message(rt: HostRuntime) -> Result<(), Fail> {
     let (alloc, language) = (rt.alloc(), new_language(rt.alloc())?);
-    let stops = ErrorStates::new(alloc, &language.data)?;
-    let (messages, faults) = Messages::check(alloc, &language.data, &stops, MESSAGES)?;
+    let stops = ErrorStates::new(alloc, language.data())?;
+    let (messages, faults) = Messages::check(alloc, language.data(), &stops, MESSAGES)?;
     assert!(rt; faults.is_empty());
-    for state in error_groups(alloc, &language.data, &stops)? {
-        let message = messages.of(language.data.sgraph(), state);
+    for state in error_groups(alloc, language.data(), &stops)? {
+        let message = messages.of(language.data().sgraph(), state);
         assert!(rt; message.is_some());
     }
     Ok(())

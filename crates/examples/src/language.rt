@@ -1,6 +1,6 @@
 //! What the examples share: a language of a grammar and a lexer, and reports of errors.
 use lrpar::build::{Unbuilt, parser_data};
-use lrpar::grammar::{GrammarFault, SpelledFault, YaccGrammar};
+use lrpar::grammar::{GrammarFault, YaccGrammar};
 use lrpar::parser::ParseFault;
 use lrpar::span::TIdx;
 use lrpar::{LexParseError, Lexer, ParserData};
@@ -31,10 +31,8 @@ pub(crate) enum Failed {
     Messages(#[from] MessageFault),
     #[error("table: {0}")]
     Table(#[from] Unbuilt<u32>),
-    #[error("productions: {0}")]
-    Productions(#[from] SpelledFault),
-    #[error("a production has other symbols than its value needs")]
-    Symbols,
+    #[error("the grammar isn't the one that syntax.rt was made of")]
+    OtherGrammar,
     #[error("parse: {0}")]
     Parse(#[from] ParseFault),
     #[error("out of memory")]

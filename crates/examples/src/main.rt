@@ -9,6 +9,7 @@ mod formatter;
 mod language;
 mod linter;
 mod queries;
+mod syntax;
 
 use crate::example::Example;
 use crate::language::Failed;

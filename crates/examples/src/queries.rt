@@ -1,22 +1,20 @@
-//! A linter of queries: the errors of a file, with fixes, and what may be wrong with its statements.
+//! A linter of queries: the errors of a file, with fixes, and what may be wrong with its statements. The grammar is in `queries.y`, of which
+//! `nimbleparse --rust` makes `syntax.rt`.
 mod language;
 mod lints;
-mod tree;
+pub(crate) mod tree;
 mod values;
 
 use crate::language::{Failed, Language, language_of};
-use crate::queries::language::{GRAMMAR, LEXER};
+use crate::queries::language::LEXER;
 use crate::queries::lints::lints;
 use crate::queries::tree::Query;
-use crate::queries::values::{EXPR_PRODS, QUERY_PRODS, Queries, Value};
+use crate::queries::values::Queries;
+use crate::syntax::{GRAMMAR, Parsed, has_syntax, parse_file};
+use lrpar::RTParserBuilder;
 use lrpar::repair::CpctPlus;
-use lrpar::{LexParseError, RTParserBuilder};
-use lrpar_lexer::TokenTypes;
 use lrpar_report::{Look, Reporter};
 use std::alloc::{AllocError, Global};
-
-/// The syntax tree of a file, if it has one, and its errors.
-type Parsed<'text> = (Option<Value<'text>>, Vec<LexParseError<u32, TokenTypes>>);
 
 /// The reports about the file.
 pub(crate) fn run(alloc: Global, text: &str) -> Result<String, Failed> {
@@ -35,7 +33,7 @@ fn push_reports(
 ) -> Result<(), Failed> {
     let (file, errors) = parse(alloc, queries, text)?;
     queries.push_errors(out, alloc, "input", text, &errors)?;
-    if let Some(Value::File(queries)) = &file {
+    if let Some(queries) = &file {
         push_lints(out, alloc, text, queries)?;
     }
     Ok(())
@@ -46,13 +44,13 @@ fn parse<'text>(
     alloc: Global,
     queries: &Language,
     text: &'text str,
-) -> Result<Parsed<'text>, Failed> {
+) -> Parsed<Vec<Query<'text>>, Failed> {
+    if !has_syntax(&queries.data) {
+        return Err(Failed::OtherGrammar);
+    }
     let lexer = queries.lexer(alloc, text)?;
-    let grm = queries.data.grm();
-    let spelled = grm.prods_spelled_in_parts(alloc, &[&QUERY_PRODS, &EXPR_PRODS])?;
     let parser = RTParserBuilder::new(&queries.data).recoverer(CpctPlus::new(10_000));
-    let values = Queries { spelled: &spelled };
-    parser.parse_values(alloc, &lexer, &values)
+    parse_file(alloc, &parser, &lexer, &Queries)
 }
 
 // Adds a warning for each thing that may be wrong with the statements.

@@ -41,6 +41,14 @@ IsRuleNext rule r [] = ⊥
 IsRuleNext rule r (Lexeme x ∷ args) = ⊥
 IsRuleNext rule r (ActionType v ∷ args) = rule v ≡ r
 
+-- the next argument was this value of a rule, and the others are left
+abbrev pub IsTaken : {L X V : Type 0} → ValueArguments L X V → V → ValueArguments L X V → Type 0
+IsTaken old value new = old.left ≡ ActionType value ∷ new.left
+
+-- the next argument was this lexeme, and the others are left
+abbrev pub IsLexemeTaken : {L X V : Type 0} → ValueArguments L X V → X → ValueArguments L X V → Type 0
+IsLexemeTaken old lexeme new = old.left ≡ Lexeme lexeme ∷ new.left
+
 -- a row up to its first 0
 abbrev pub until_zero : List ℕ → List ℕ
 until_zero [] = []

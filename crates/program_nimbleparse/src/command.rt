@@ -39,6 +39,12 @@ pub(crate) const LIST_ERRORS: &str = "list-errors";
 
 pub(crate) const CHECK_ERRORS: &str = "check-errors";
 
+pub(crate) const RUST: &str = "rust";
+
+pub(crate) const CHECK: &str = "check";
+
+pub(crate) const CRATE: &str = "crate";
+
 pub(crate) const LEXER: &str = "lexer";
 
 pub(crate) const GRAMMAR: &str = "grammar";
@@ -57,17 +63,19 @@ pub(crate) const INPUT_OPTIONS: [(&str, &str); 7] = [
 ];
 
 const ABOUT: &str =
-    "Reads the rules of a lexer and a grammar, and parses each input; or looks at a grammar alone";
+    "Reads the rules of a lexer and a grammar, and parses each input; or looks at a grammar alone, or makes code of it";
 
 const USAGE: &str = "\
 nimbleparse [OPTIONS] <LEXER> <GRAMMAR> [INPUT]...
-       nimbleparse [OPTIONS] <GRAMMAR>";
+       nimbleparse [OPTIONS] <GRAMMAR>
+       nimbleparse --rust [OPTIONS] <GRAMMAR>";
 
 const AFTER_HELP: &str = "\
 All words after -- are paths.
 
 Status 0: each input has a tree and no error; 1: an input has errors; 2: there is no result.
-Of a grammar alone, 0: nothing is warned of; 1: something is; 2: there is no table.";
+Of a grammar alone, 0: nothing is warned of; 1: something is; 2: there is no table.
+Of code, 0: the files have it; 1: with --check, they don't; 2: there is none.";
 
 const LONG_HELP_OF_STATES: &str = "\
 Print the states of the table: the kernel items of each with their lookaheads, and the states to
@@ -107,7 +115,7 @@ impl<T> Choice<T> {
 }
 
 /// The kinds of grammar files.
-pub(crate) const KINDS: [Choice<GrammarKind>; 4] = [
+pub(crate) const KINDS: [Choice<GrammarKind>; 5] = [
     Choice {
         name: "bison",
         meaning: GrammarKind::Bison,
@@ -127,6 +135,11 @@ pub(crate) const KINDS: [Choice<GrammarKind>; 4] = [
         name: "profile",
         meaning: GrammarKind::Profile,
         help: "A grammar text: declarations, rules, and nothing else",
+    },
+    Choice {
+        name: "typed",
+        meaning: GrammarKind::Typed,
+        help: "A typed grammar, of which --rust makes code",
     },
 ];
 
@@ -204,7 +217,7 @@ pub(crate) const FORMS: [Choice<MessageForm>; 2] = [
 /// The words that options take, as their parser checks them and the help shows them.
 #[derive(Clone, Copy)]
 pub(crate) struct PossibleValues<'a> {
-    kinds: [PossibleValue<'a>; 4],
+    kinds: [PossibleValue<'a>; 5],
     minimisers: [PossibleValue<'a>; 2],
     searches: [PossibleValue<'a>; 3],
     formats: [PossibleValue<'a>; 4],
@@ -219,6 +232,7 @@ impl<'a> PossibleValues<'a> {
                 KINDS[1].to_possible_value(),
                 KINDS[2].to_possible_value(),
                 KINDS[3].to_possible_value(),
+                KINDS[4].to_possible_value(),
             ],
             minimisers: [
                 MINIMISERS[0].to_possible_value(),
@@ -269,7 +283,8 @@ pub(crate) fn command_line<'a>(
     let command = add_table_options(alloc, command, values)?;
     let command = add_repair_options(alloc, command, values)?;
     let command = add_format(alloc, command, values)?;
-    add_message_options(alloc, command, values)
+    let command = add_message_options(alloc, command, values)?;
+    add_code_options(alloc, command)
 }
 
 // Adds the paths. A single one is found under the name of the lexer, though it is that of a grammar.
@@ -438,5 +453,29 @@ fn add_message_options<'a>(
                 .long("check-errors")
                 .value_name("FILE")
                 .help("Say which errors have no message in this file, and what is wrong with it"),
+        )
+}
+
+// Adds the options about code.
+fn add_code_options<'a>(alloc: Global, command: Command<'a>) -> Result<Command<'a>, AllocError> {
+    command
+        .arg(
+            Arg::new(alloc, RUST)
+                .long("rust")
+                .help(
+                    "Write the code of a typed grammar: src/syntax.rt and specs/Syntax.antt of its crate",
+                )
+                .action(ArgAction::SetTrue),
+        )?
+        .arg(
+            Arg::new(alloc, CHECK)
+                .long("check")
+                .help("With --rust: write nothing, and say which file isn't what the grammar makes")
+                .action(ArgAction::SetTrue),
+        )?
+        .arg(
+            Arg::new(alloc, CRATE).long("crate").value_name("NAME").help(
+                "With --rust: the crate has this name, not that of its folder",
+            ),
         )
 }

@@ -62,6 +62,9 @@ fn kind_named(alloc: Global, value: &str, start: usize) -> Result<Named, AllocEr
     if word == "grmtools" {
         return Ok(Named::Kind(GrammarKind::Yacc(YaccKind::Grmtools)));
     }
+    if word == "typed" {
+        return Ok(Named::Kind(GrammarKind::Typed));
+    }
     if is_original(word) {
         return Ok(Named::Kind(GrammarKind::Yacc(YaccKind::Original)));
     }

@@ -12,6 +12,8 @@ pub enum GrammarKind {
     Yacc(YaccKind),
     /// As a `.y` file of bison or yacc.
     Bison,
+    /// As a typed grammar.
+    Typed,
 }
 
 // What files of bison have, and grammar texts and files of lrpar don't.

@@ -2,6 +2,7 @@
 #![tactic(auto)]
 
 mod catalogue;
+mod code;
 mod command;
 mod completer;
 mod conflicts;
@@ -28,6 +29,7 @@ mod shown;
 mod sizes;
 mod source;
 mod states;
+mod typed;
 mod unmatched;
 mod useless;
 mod wording;

@@ -1,12 +1,15 @@
 //! What the words after the program's name ask for.
+use crate::code::CodeTask;
 use crate::command::{
-    CHECK_ERRORS, FORMAT, FORMATS, FORMS, GRAMMAR, INPUT, INPUT_OPTIONS, KIND, KINDS, LEXER, LIMIT,
-    LIST_ERRORS, MAX_STATES, MESSAGES, MESSAGES_FORMAT, MINIMISER, MINIMISERS, PossibleValues,
-    QUIET, REPAIRS, SEARCHES, SHIFTS, STATES, Search, VERBOSE, command_line, meaning_of,
+    CHECK, CHECK_ERRORS, CRATE, FORMAT, FORMATS, FORMS, GRAMMAR, INPUT, INPUT_OPTIONS, KIND, KINDS,
+    LEXER, LIMIT, LIST_ERRORS, MAX_STATES, MESSAGES, MESSAGES_FORMAT, MINIMISER, MINIMISERS,
+    PossibleValues, QUIET, REPAIRS, RUST, SEARCHES, SHIFTS, STATES, Search, VERBOSE, command_line,
+    meaning_of,
 };
-use crate::grammar::Asked;
+use crate::grammar::{Asked, GrammarFile};
 use crate::plan::{Format, Recovery};
 use crate::printer::MessageForm;
+use crate::program::Terminal;
 use clap::error::ErrorKind;
 use clap::parser::ValueSource;
 use clap::{ArgMatches, Error};
@@ -20,6 +23,12 @@ const NO_PATH: &str = "the following required arguments were not provided: <GRAM
 /// What is wrong with inputs where none is parsed.
 const NO_INPUT: &str = "no input is read with --list-errors and --check-errors";
 
+/// What is wrong with a lexer where code is made.
+const NO_LEXER: &str = "--rust needs a grammar alone";
+
+/// What is wrong with a check of nothing.
+const NO_RUST: &str = "--check needs --rust";
+
 /// What the words ask for.
 #[derive(Drop)]
 pub(crate) enum Request<'a> {
@@ -27,6 +36,8 @@ pub(crate) enum Request<'a> {
     Help(String),
     /// A look at a grammar alone.
     LookAt(GrammarOptions<'a>),
+    /// The code of a grammar.
+    Code(GrammarOptions<'a>, CodeTask, Option<&'a str>),
     /// A parse of inputs.
     Parse(Options<'a>),
 }
@@ -36,6 +47,18 @@ pub(crate) enum Request<'a> {
 pub(crate) struct GrammarOptions<'a> {
     pub(crate) grammar: &'a str,
     pub(crate) asked: Asked,
+}
+
+impl<'a> GrammarOptions<'a> {
+    /// The file, whose text this is, and what is asked of it.
+    pub(crate) fn file(self, text: &'a str, terminal: Terminal) -> GrammarFile<'a> {
+        GrammarFile {
+            path: self.grammar,
+            text,
+            asked: self.asked,
+            terminal,
+        }
+    }
 }
 
 /// What is to be done with a lexer and a grammar.
@@ -91,8 +114,31 @@ fn request_by<'a>(alloc: Global, matches: &ArgMatches<'a>) -> Result<Request<'a>
         return Err(Fault::Words(String::from_str(alloc, NO_PATH)?));
     };
     match matches.get_str(GRAMMAR) {
+        Some(_) if matches.get_flag(RUST) => {
+            Err(Fault::Words(String::from_str(alloc, NO_LEXER)?))
+        }
         Some(grammar) => Ok(Request::Parse(options_of(alloc, matches, first, grammar)?)),
-        None => Ok(Request::LookAt(grammar_options(alloc, matches, first)?)),
+        None => look_or_code(alloc, matches, grammar_options(alloc, matches, first)?),
+    }
+}
+
+// A look at a grammar, or its code.
+fn look_or_code<'a>(
+    alloc: Global,
+    matches: &ArgMatches<'a>,
+    options: GrammarOptions<'a>,
+) -> Result<Request<'a>, Fault> {
+    match (matches.get_flag(RUST), matches.get_flag(CHECK)) {
+        (true, is_checked) => {
+            let task = if is_checked {
+                CodeTask::Check
+            } else {
+                CodeTask::Write
+            };
+            Ok(Request::Code(options, task, matches.get_str(CRATE)))
+        }
+        (false, true) => Err(Fault::Words(String::from_str(alloc, NO_RUST)?)),
+        (false, false) => Ok(Request::LookAt(options)),
     }
 }
 

@@ -3,6 +3,7 @@
 ghost use Rattle.std.specs.Prelude.{◌≤◌};
 
 use crate::catalogue::{Catalogue, check_errors, list_errors};
+use crate::code::{CodeTask, run_code};
 use crate::command::PossibleValues;
 use crate::completer::Completer;
 use crate::fault_line::FaultLine;
@@ -138,6 +139,9 @@ fn run_words<R: Files, I: Read + Drop, O: Write, E: Write>(
     match request_of(alloc, args, &values)? {
         Request::Help(text) => print_help(text.as_str(), out),
         Request::LookAt(options) => look_at_file(rt, alloc, options, terminal, out, err),
+        Request::Code(options, task, name) => {
+            make_code(rt, alloc, options, task, name, terminal, out)
+        }
         Request::Parse(options) => run_files(rt, alloc, &options, terminal, input, out, err),
     }
 }
@@ -158,13 +162,22 @@ fn look_at_file<R: Files, O: Write, E: Write>(
     err: &mut E,
 ) -> Result<Status, Fault> {
     let text = file_text(rt, alloc, options.grammar)?;
-    let file = GrammarFile {
-        path: options.grammar,
-        text: text.as_str(),
-        asked: options.asked,
-        terminal,
-    };
-    look_at(alloc, file, out, err)
+    look_at(alloc, options.file(text.as_str(), terminal), out, err)
+}
+
+// Reads the grammar that the options name, and writes its code.
+fn make_code<R: Files, O: Write>(
+    rt: &R,
+    alloc: Global,
+    options: GrammarOptions<'_>,
+    task: CodeTask,
+    name: Option<&str>,
+    terminal: Terminal,
+    out: &mut O,
+) -> Result<Status, Fault> {
+    let text = file_text(rt, alloc, options.grammar)?;
+    let file = options.file(text.as_str(), terminal);
+    run_code(rt, alloc, file, task, name, out)
 }
 
 // Reads the files that the options name, and does what these ask for.

@@ -6,6 +6,7 @@ use crate::header::{Named, named_kind};
 use crate::kind::{GrammarKind, kind_by_look, looks_like_bison};
 use crate::printer::Printer;
 use crate::show::fault_of_report;
+use crate::typed::grammar_of;
 use lrpar_grammar::grammar::{GrammarFault, YaccGrammar};
 use lrpar_grammar::span::Span;
 use lrpar_grammar_bison_parts::faults::BisonFault;
@@ -56,6 +57,7 @@ fn by_kind<'a>(
     match kind {
         GrammarKind::Yacc(kind) => by_yacc(alloc, printer, text, kind),
         GrammarKind::Bison => by_bison(alloc, printer, text),
+        GrammarKind::Typed => Ok(plain(alloc, grammar_of(alloc, printer, text)?)),
         GrammarKind::Profile => match YaccGrammar::new_with_storaget(alloc, text) {
             Ok(grammar) => Ok(plain(alloc, grammar)),
             Err(fault) => Err(refused(alloc, printer, text, &fault)),
@@ -209,6 +211,6 @@ fn unknown_kind(alloc: Global, text: &str, span: Span) -> Result<Report, AllocEr
         text.get(span.start()..span.end()).unwrap_or(""),
     )?;
     let label =
-        "expected Grmtools, or Original with NoAction, UserAction or GenericParseTree in brackets";
+        "expected Typed, Grmtools, or Original with NoAction, UserAction or GenericParseTree in brackets";
     Report::error(alloc, message.as_str())?.label(span, label)
 }

@@ -1,0 +1,234 @@
+//! Typed grammars as they are expanded: rules with types, and productions with what makes their values.
+use crate::file::Label;
+use lrpar_grammar::span::{RIdx, Span, Symbol, TIdx};
+use lrpar_grammar_reader::parts::{GrammarParts, ProdPart, RulePart, TokenPart};
+use std::alloc::{AllocError, Global};
+use thiserror::Error;
+
+/// A typed grammar: each rule has a type, and each production says what makes its value.
+#[derive(Drop)]
+pub struct TypedGrammar {
+    /// What the types name, each as in a `use`.
+    pub uses: Vec<Span>,
+    /// The rules, numbered from 1: those that are written, and then groups, lists and options.
+    pub rules: Vec<TypedRule>,
+    /// The tokens, numbered from 0.
+    pub tokens: Vec<TypedToken>,
+    /// The number of the start rule.
+    pub start: RIdx<u32>,
+}
+
+/// A rule.
+#[derive(Drop)]
+pub struct TypedRule {
+    /// Its name.
+    pub name: String,
+    /// Where it is first written.
+    pub span: Span,
+    /// What its productions are.
+    pub form: Form,
+    /// The type of its values.
+    pub value: String,
+    /// Its productions.
+    pub prods: Vec<TypedProd>,
+}
+
+/// A token.
+#[derive(Drop)]
+pub struct TypedToken {
+    /// Its name.
+    pub name: String,
+    /// Where it is first written.
+    pub span: Span,
+}
+
+/// What the productions of a rule are.
+#[derive(Clone, Copy, Debug, PartialEq, Eq)]
+pub enum Form {
+    /// Those that are written.
+    Written,
+    /// Those of a group.
+    Group,
+    /// Nothing, or one symbol more: `X*`.
+    ZeroOrMore(Symbol<u32>),
+    /// The symbol, or one more: `X+`.
+    OneOrMore(Symbol<u32>),
+    /// Nothing, or the symbol: `X?`.
+    Optional(Symbol<u32>),
+    /// The symbol, or one more after a separator: `X % S`.
+    Separated(Symbol<u32>, Symbol<u32>),
+    /// Nothing, a list with separators, or one with another separator after it: `X %? S`.
+    Terminated(Symbol<u32>, Symbol<u32>),
+}
+
+/// A production.
+#[derive(Drop)]
+pub struct TypedProd {
+    /// Its symbols, from left to right.
+    pub symbols: Vec<TypedSymbol>,
+    /// What makes its value.
+    pub making: Making,
+    /// Where it is.
+    pub span: Span,
+}
+
+/// A symbol of a production.
+#[derive(Clone, Copy, Debug, PartialEq, Eq)]
+pub struct TypedSymbol {
+    /// The symbol.
+    pub symbol: Symbol<u32>,
+    /// Where it is.
+    pub span: Span,
+    /// The name of its value, if it is written: `_` for none.
+    pub name: Option<Span>,
+}
+
+/// What makes the value of a production.
+#[derive(Clone, Copy, Debug, PartialEq, Eq)]
+pub enum Making {
+    /// The action with this label, if it is written.
+    Action(Option<Label>),
+    /// An empty list.
+    Empty,
+    /// A list of the only value.
+    First,
+    /// The first value, a list, with the last one at its end.
+    Push,
+    /// `None`.
+    Nothing,
+    /// `Some` with the only value.
+    Just,
+    /// The first value.
+    Same,
+}
+
+/// Why a typed grammar as it is written has no meaning.
+#[derive(Clone, Debug, Drop, PartialEq, Eq, Error)]
+pub enum TypedFault {
+    /// No rule is written.
+    #[error("no rules")]
+    NoRules,
+    /// A name that is no rule, where one must be, or neither a rule nor a declared token.
+    #[error("unknown rule at byte {at}", at = .0.start())]
+    UnknownRule(Span),
+    /// A token has the name of a rule.
+    #[error("token is a rule at byte {at}", at = .0.start())]
+    TokenIsRule(Span),
+    /// A second `%start`.
+    #[error("repeated %start at byte {at}", at = .0.start())]
+    RepeatedStart(Span),
+    /// A second `%type` of a rule.
+    #[error("repeated %type at byte {at}", at = .0.start())]
+    RepeatedType(Span),
+    /// A list, an option or a group here would have the name of another rule.
+    #[error("the name is taken of what is at byte {at}", at = .0.start())]
+    TakenName(Span),
+    /// Groups are in too many groups.
+    #[error("too many groups in one another at byte {at}", at = .0.start())]
+    TooDeep(Span),
+    /// There are more rules or tokens than can be numbered.
+    #[error("too many rules or tokens")]
+    TooMany,
+    /// An allocation failed.
+    #[error("out of memory")]
+    Memory(#[from(alloc)] AllocError),
+}
+
+impl TypedGrammar {
+    /// The rule of this number.
+    pub fn rule(&self, ridx: RIdx<u32>) -> Option<&TypedRule> {
+        self.rules.get((ridx.0 as usize).checked_sub(1)?)
+    }
+
+    /// The name of a symbol.
+    pub fn name(&self, symbol: Symbol<u32>) -> &str {
+        match symbol {
+            Symbol::Rule(ridx) => match self.rule(ridx) {
+                Some(rule) => rule.name.as_str(),
+                None => "",
+            },
+            Symbol::Token(TIdx(token)) => match self.tokens.get(token as usize) {
+                Some(token) => token.name.as_str(),
+                None => "",
+            },
+        }
+    }
+
+    /// The type of a symbol's values.
+    pub fn type_of(&self, symbol: Symbol<u32>) -> &str {
+        match symbol {
+            Symbol::Rule(ridx) => match self.rule(ridx) {
+                Some(rule) => rule.value.as_str(),
+                None => "()",
+            },
+            Symbol::Token(_) => "Token<u32>",
+        }
+    }
+
+    /// Whether the value of a symbol of a production is passed to its action: that of a rule whose type isn't `()`, and any that has a name
+    /// but `_`.
+    pub fn is_passed(&self, text: &str, symbol: &TypedSymbol) -> bool {
+        match symbol.name {
+            Some(name) => word_at(text, name) != "_",
+            None => matches!(symbol.symbol, Symbol::Rule(_)) && self.type_of(symbol.symbol) != "()",
+        }
+    }
+
+    /// The parts of the grammar.
+    pub fn parts(&self, alloc: Global) -> Result<GrammarParts<u32>, AllocError> {
+        let mut rules = Vec::with_capacity(alloc, self.rules.len())?;
+        let mut prods = Vec::new(alloc);
+        for (place, rule) in self.rules.iter().enumerate() {
+            let name = String::from_str(alloc, rule.name.as_str())?;
+            rules.push(RulePart {
+                name,
+                span: rule.span,
+            })?;
+            let number = u32::try_from(place).unwrap_or(u32::MAX).saturating_add(1);
+            for prod in &rule.prods {
+                prods.push(prod_part(alloc, RIdx(number), prod)?)?;
+            }
+        }
+        Ok(GrammarParts {
+            rules,
+            tokens: token_parts(alloc, &self.tokens)?,
+            prods,
+            start: self.start,
+        })
+    }
+}
+
+/// The word at a place of the text.
+pub fn word_at(text: &str, span: Span) -> &str {
+    text.get(span.start()..span.end()).unwrap_or("").trim()
+}
+
+// The part of a production.
+fn prod_part(
+    alloc: Global,
+    rule: RIdx<u32>,
+    prod: &TypedProd,
+) -> Result<ProdPart<u32>, AllocError> {
+    let mut symbols = Vec::with_capacity(alloc, prod.symbols.len())?;
+    for symbol in &prod.symbols {
+        symbols.push((symbol.symbol, symbol.span))?;
+    }
+    Ok(ProdPart {
+        rule,
+        symbols,
+        span: prod.span,
+    })
+}
+
+// The parts of tokens.
+fn token_parts(alloc: Global, tokens: &[TypedToken]) -> Result<Vec<TokenPart>, AllocError> {
+    let mut parts = Vec::with_capacity(alloc, tokens.len())?;
+    for token in tokens {
+        parts.push(TokenPart {
+            name: String::from_str(alloc, token.name.as_str())?,
+            epp: None,
+            span: token.span,
+        })?;
+    }
+    Ok(parts)
+}
