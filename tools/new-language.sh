@@ -16,7 +16,7 @@ readonly root
 . "$here/crates.sh"
 
 # What users name of the library.
-readonly DOORS=(lrpar lrpar_typed lrpar_grammar_unmatched lrpar_lexer lrpar_messages lrpar_names lrpar_report lrpar_report_fixes lrpar_table_stops)
+readonly DOORS=(lrpar lrpar_typed lrpar_language lrpar_lexer lrpar_messages lrpar_report lrpar_table_stops)
 # The crate that a new one is a copy of.
 readonly TEMPLATE=example_project
 # The lines of crates.txt between which the library is.

@@ -21,6 +21,7 @@ ALSO_NAMED = {
     "lrpar_conflict_examples",
     "lrpar_grammar_bison_parts",
     "lrpar_grammar_unmatched",
+    "lrpar_language",
     "lrpar_lexer",
     "lrpar_lexer_lrlex",
     "lrpar_messages",

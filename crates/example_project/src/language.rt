@@ -1,16 +1,8 @@
 //! The language: its lexer, and what reports call its tokens. Its grammar is in `settings.y`, of which `nimbleparse --rust` makes
 //! `syntax.rt`.
-use crate::syntax::{GRAMMAR, Table};
-use lrpar::ParserData;
-use lrpar::build::{Unbuilt, parser_data};
-use lrpar::grammar::{GrammarFault, YaccGrammar};
+use crate::syntax::GRAMMAR;
 use lrpar::parser::ParseFault;
-use lrpar::span::TIdx;
-use lrpar_grammar_unmatched::{UnmatchedFault, with_unmatched};
-use lrpar_lexer::{LexRule, RuleLexer, RulesFault, rules_of};
-use lrpar_messages::{MessageFault, Messages};
-use lrpar_names::{Names, NamesFault};
-use lrpar_report_fixes::{Wording, read_token_texts};
+use lrpar_language::{Language, LanguageFault, LanguageTexts};
 use std::alloc::{AllocError, Global};
 use std::io;
 use thiserror::Error;
@@ -60,18 +52,8 @@ DIGITS: a number
 pub(crate) enum Failed {
     #[error("streams: {0}")]
     Streams(#[from] io::Error),
-    #[error("grammar: {0}")]
-    Grammar(#[from] GrammarFault),
-    #[error("token of unmatched text: {0}")]
-    Unmatched(#[from] UnmatchedFault),
-    #[error("lexer: {0}")]
-    Lexer(#[from] RulesFault),
-    #[error("names: {0}")]
-    Names(#[from] NamesFault),
-    #[error("messages: {0}")]
-    Messages(#[from] MessageFault),
-    #[error("table: {0}")]
-    Table(#[from] Unbuilt<u32>),
+    #[error("language: {0}")]
+    Language(#[from] LanguageFault),
     #[error("parse: {0}")]
     Parse(#[from] ParseFault),
     #[error("the number at byte {0} is too big")]
@@ -82,56 +64,12 @@ pub(crate) enum Failed {
     Memory(#[from(alloc)] AllocError),
 }
 
-/// The table of the grammar, the rules of the lexer, and the words of reports.
-#[derive(Drop)]
-pub(crate) struct Language {
-    pub(crate) table: Table,
-    rules: Vec<LexRule>,
-    // The token of text that no rule matches.
-    unmatched: TIdx<u32>,
-    pub(crate) wording: Wording<u32>,
-}
-
-impl Language {
-    /// The grammar with its checked table.
-    pub(crate) fn data(&self) -> &ParserData<u32> {
-        &self.table.checked
-    }
-
-    /// The lexer of a text.
-    pub(crate) fn lexer<'rules, 'text>(
-        &'rules self,
-        alloc: Global,
-        text: &'text str,
-    ) -> Result<RuleLexer<'rules, 'text>, AllocError> {
-        Ok(RuleLexer::new(alloc, &self.rules, text)?.with_unmatched(self.unmatched))
-    }
-}
-
-/// Makes the language. `Err` if the texts above don't fit one another, or the grammar.
-pub(crate) fn new_language(alloc: Global) -> Result<Language, Failed> {
-    let grm = YaccGrammar::<u32>::new_with_storaget(alloc, GRAMMAR)?;
-    let (grm, unmatched) = with_unmatched(alloc, &grm, "unmatched text")?;
-    let rules = rules_of(alloc, &grm, LEXER)?;
-    let wording = wording_of(alloc, &grm, &rules)?.unmatched(unmatched);
-    let data = parser_data(alloc, grm, 10_000, 1_000)?;
-    let wording = wording.messages(Messages::read(alloc, &data, MESSAGES)?);
-    let table = Table::new(data).ok_or(Failed::OtherGrammar)?;
-    Ok(Language {
-        table,
-        rules,
-        unmatched,
-        wording,
-    })
-}
-
-// The words of reports.
-fn wording_of(
-    alloc: Global,
-    grm: &YaccGrammar<u32>,
-    rules: &[LexRule],
-) -> Result<Wording<u32>, Failed> {
-    let names = Names::read(alloc, grm, MESSAGES)?;
-    let texts = read_token_texts(alloc, grm, rules, LEXER)?;
-    Ok(Wording::new(alloc, grm, names, texts)?)
+/// Makes the language.
+pub(crate) fn new_language(alloc: Global) -> Result<Language, LanguageFault> {
+    let texts = LanguageTexts {
+        grammar: GRAMMAR,
+        lexer: LEXER,
+        messages: MESSAGES,
+    };
+    Language::new(alloc, texts)
 }

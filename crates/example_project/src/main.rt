@@ -7,14 +7,13 @@ mod syntax;
 mod tests;
 mod values;
 
-use crate::language::{Failed, Language, new_language};
-use crate::syntax::{Parsed, parse_file};
+use crate::language::{Failed, new_language};
+use crate::syntax::{has_syntax, parse_file};
 use crate::values::{Setting, Settings};
+use lrpar::RTParserBuilder;
 use lrpar::repair::CpctPlus;
-use lrpar::{LexParseError, Lexer, RTParserBuilder};
-use lrpar_lexer::TokenTypes;
-use lrpar_report::{Look, Reporter, lexing_report};
-use lrpar_report_fixes::TextReports;
+use lrpar_language::Language;
+use lrpar_report::{Look, Reporter};
 use std::alloc::{AllocError, Global};
 use std::io;
 
@@ -28,48 +27,21 @@ fn main(rt: HostRuntime) -> Result<(), Failed> {
 
 /// A report for each error of a text, and then a line for each setting, if the repairs make it a text of settings.
 pub(crate) fn shown(alloc: Global, language: &Language, text: &str) -> Result<String, Failed> {
-    let (file, errors) = parse(alloc, language, text)?;
+    if !has_syntax(language.data()) {
+        return Err(Failed::OtherGrammar);
+    }
+    let lexer = language.lexer(alloc, text)?;
+    let parser = RTParserBuilder::new(language.data()).recoverer(CpctPlus::new(10_000));
+    let (file, errors) = parse_file(alloc, &parser, &lexer, &Settings)?;
+    let reporter = Reporter::new(alloc, text, "input", Look::Plain)?;
     let mut out = String::new(alloc);
-    push_errors(&mut out, alloc, language, text, &errors)?;
+    for report in &language.error_reports(alloc, text, &errors)? {
+        reporter.push(&mut out, alloc, report)?;
+    }
     if let Some(settings) = &file {
         push_settings(&mut out, settings)?;
     }
     Ok(out)
-}
-
-/// Adds a report for each error.
-fn push_errors(
-    out: &mut String,
-    alloc: Global,
-    language: &Language,
-    text: &str,
-    errors: &[LexParseError<u32, TokenTypes>],
-) -> Result<(), AllocError> {
-    if errors.is_empty() {
-        return Ok(());
-    }
-    let reporter = Reporter::new(alloc, text, "input", Look::Plain)?;
-    let answers = language.lexer(alloc, text)?.iter(alloc)?;
-    let mut reports = TextReports::new(alloc, language.data(), &language.wording, text, &answers)?;
-    for error in errors {
-        let report = match error {
-            LexParseError::LexError(error) => lexing_report(alloc, text, error)?,
-            LexParseError::ParseError(error) => reports.report(alloc, error)?,
-        };
-        reporter.push(out, alloc, &report)?;
-    }
-    Ok(())
-}
-
-/// The settings of a text, if the repairs make it a text of settings, and its errors.
-fn parse<'text>(
-    alloc: Global,
-    language: &Language,
-    text: &'text str,
-) -> Parsed<Vec<Setting<'text>>, Failed> {
-    let lexer = language.lexer(alloc, text)?;
-    let parser = RTParserBuilder::new(&language.table.checked).recoverer(CpctPlus::new(10_000));
-    parse_file(alloc, &parser, &lexer, &Settings)
 }
 
 /// Adds a line for each setting.

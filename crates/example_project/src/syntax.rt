@@ -1,9 +1,11 @@
 //! The syntax of a language: made of its grammar by `nimbleparse --rust`. Edit the grammar, and make it again.
 //!
-//! Checksum of the grammar: 1481dbf51bd240ee
+//! SHA-1 of the grammar: 95e98c98d62ff95bd201a9dc2d779c3eea6c7fb7
 ghost use Rattle.std.specs.Prelude.{◌<◌, ◌≤◌, ◌↔◌, IfOk, IsTrue, length};
-ghost use Rattle.lrpar_typed.specs.Rows.{AreOfRow, AreRowsOf, IsOfRow, IsRuleNext, IsTaken, TakesRow};
-ghost use Rattle.example_project.specs.Syntax.{rule_of};
+ghost use Rattle.lrpar_typed.specs.Rows.{AllHold, AreOfRow, AreRowsOf, IsOfRow, IsRuleNext, IsTaken, TakesRow};
+ghost use Rattle.lrpar_typed.specs.TypedParse.{ValueHolds};
+ghost use Rattle.example_project.specs.Syntax.{HoldsOf, rule_of};
+ghost use Rattle.example_project.specs.declared.syntax.RuleValue.{RuleValue};
 ghost use Rattle.example_project.specs.declared.syntax.TheConstants.{ROWS};
 
 use crate::values::Setting;
@@ -48,9 +50,9 @@ pub(crate) mod tokens {
 
 /// The allocator, the lexer, and where a production is.
 #[derive(Clone, Copy)]
-pub(crate) struct At<'a, 'rules, 'text> {
+pub(crate) struct At<'a, 'text> {
     pub(crate) alloc: Global,
-    pub(crate) lexer: &'a RuleLexer<'rules, 'text>,
+    pub(crate) lexer: &'a RuleLexer<'a, 'text>,
     pub(crate) range: lrpar_typed::TextRange,
 }
 
@@ -59,24 +61,28 @@ pub(crate) trait Actions<'text> {
     /// Why a text has no value.
     type Error: Drop + From<lrpar_typed::ParseFault> + From<AllocError>;
 
+    /// What holds of each value: an action may use it of what it is passed, and shows it of its value. So it holds of the value of a parse.
+    /// Values of one type are those of the first rule that has it. Who claims nothing of values leaves it out.
+    ghost holds: { Self → RuleValue → Type 0 } = { λ _ _. Unit {0} };
+
     /// `Setting: 'NAME' '=' Number ';'`
     fn setting(
         &self,
-        at: &At<'_, '_, 'text>,
+        at: At<'_, 'text>,
         name: Token<u32>,
         value: u64,
-    ) -> Result<Setting<'text>, Self::Error>;
+    ) -> Result<Setting<'text>, Self::Error>
+        requires { HoldsOf (holds self.now) (RuleValue.Number value) }
+        ensures { IfOk result (λ made. HoldsOf (holds self.now) (RuleValue.Setting made)) };
 
     /// `Number: 'DIGITS'`
-    fn number(&self, at: &At<'_, '_, 'text>, digits: Token<u32>) -> Result<u64, Self::Error>;
+    fn number(&self, at: At<'_, 'text>, digits: Token<u32>) -> Result<u64, Self::Error>
+        ensures { IfOk result (λ made. HoldsOf (holds self.now) (RuleValue.Number made)) };
 
     /// `Number: Number '+' 'DIGITS'`
-    fn sum(
-        &self,
-        at: &At<'_, '_, 'text>,
-        left: u64,
-        digits: Token<u32>,
-    ) -> Result<u64, Self::Error>;
+    fn sum(&self, at: At<'_, 'text>, left: u64, digits: Token<u32>) -> Result<u64, Self::Error>
+        requires { HoldsOf (holds self.now) (RuleValue.Number left) }
+        ensures { IfOk result (λ made. HoldsOf (holds self.now) (RuleValue.Number made)) };
 }
 
 /// The value of a rule.
@@ -127,6 +133,8 @@ impl<'a, 'rules, 'text, A: Actions<'text>> Typed<u32, Token<u32>, RuleLexer<'rul
 
     ghost gives = { λ _ _ _ _. Unit {0} };
 
+    ghost holds = { λ acting. HoldsOf (A.holds acting.actions.now) };
+
     fn takes(
         &self,
         pidx: lrpar_typed::PIdx<u32>,
@@ -146,28 +154,32 @@ impl<'a, 'rules, 'text, A: Actions<'text>> Typed<u32, Token<u32>, RuleLexer<'rul
     ) -> Result<RuleValue<'text>, A::Error>
         requires within { production < length ROWS }
         requires fits { AreOfRow (λ n. n) ⟦<Token<u32> as Lexeme<u32>>⟧.parts rule_of ROWS production args.old }
+        requires hold { AllHold (HoldsOf (A.holds self.now.actions.now)) args.old.left }
         ensures rule { IsOfRow rule_of ROWS production result }
         ensures gives { Unit {0} }
+        ensures holds { IfOk result (HoldsOf (A.holds self.now.actions.now)) }
     {
         let at = At {
             alloc,
             lexer: args.lexer(),
             range: lrpar_typed::TextRange::from(args.span()),
         };
-        make_from_0(self.actions, &at, production, args)
+        make_from_0(self.actions, at, production, args)
     }
 }
 
 // The values of productions 0 to 5.
-fn make_from_0<'rules, 'text, A: Actions<'text>>(
+fn make_from_0<'text, A: Actions<'text>>(
     actions: &A,
-    at: &At<'_, 'rules, 'text>,
+    at: At<'_, 'text>,
     production: usize,
-    args: &mut RuleArgs<'_, 'rules, 'text, A::Error>,
+    args: &mut RuleArgs<'_, '_, 'text, A::Error>,
 ) -> Result<RuleValue<'text>, A::Error>
     requires high { production < 6 }
     requires fits { AreOfRow (λ n. n) ⟦<Token<u32> as Lexeme<u32>>⟧.parts rule_of ROWS production args.old }
-    ensures { IsOfRow rule_of ROWS production result }
+    requires hold { AllHold (HoldsOf (A.holds actions.now)) args.old.left }
+    ensures rule { IsOfRow rule_of ROWS production result }
+    ensures holds { IfOk result (HoldsOf (A.holds actions.now)) }
 {
     match production {
         // File: Setting_list
@@ -276,7 +288,7 @@ pub(crate) type Parsed<ValueT, ErrorT> = Result<
     ErrorT,
 >;
 
-/// Parses a text to the value of `File`.
+/// Parses a text to the value of `File`. What holds of values by the actions holds of it.
 pub(crate) fn parse_file<'text, R: Recoverer<u32, Token<u32>> + Drop, A: Actions<'text>>(
     alloc: Global,
     parser: &lrpar_typed::RTParserBuilder<'_, u32, TokenTypes<u32>, R>,
@@ -284,6 +296,7 @@ pub(crate) fn parse_file<'text, R: Recoverer<u32, Token<u32>> + Drop, A: Actions
     actions: &A,
 ) -> Parsed<Vec<Setting<'text>>, A::Error>
     requires { AreRowsOf ROWS 1 parser.now.checked.grammar }
+    ensures { IfOk result (ValueHolds (λ v. HoldsOf (A.holds actions.now) (RuleValue.File v))) }
 {
     let (value, errors) = lrpar_typed::parse_typed(parser, alloc, lexer, &Acting { actions })?;
     match value {

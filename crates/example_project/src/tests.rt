@@ -1,6 +1,7 @@
 //! Texts, and what is shown of each.
-use crate::language::{Language, MESSAGES, new_language};
+use crate::language::{MESSAGES, new_language};
 use crate::shown;
+use lrpar_language::Language;
 use lrpar_messages::{Messages, error_groups};
 use lrpar_table_stops::ErrorStates;
 use std::alloc::Global;

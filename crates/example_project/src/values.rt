@@ -20,7 +20,7 @@ impl<'text> Actions<'text> for Settings {
 
     fn setting(
         &self,
-        at: &At<'_, '_, 'text>,
+        at: At<'_, 'text>,
         name: Token<u32>,
         value: u64,
     ) -> Result<Setting<'text>, Failed> {
@@ -28,11 +28,11 @@ impl<'text> Actions<'text> for Settings {
         Ok(Setting { name, value })
     }
 
-    fn number(&self, at: &At<'_, '_, 'text>, digits: Token<u32>) -> Result<u64, Failed> {
+    fn number(&self, at: At<'_, 'text>, digits: Token<u32>) -> Result<u64, Failed> {
         number_of(at, digits)
     }
 
-    fn sum(&self, at: &At<'_, '_, 'text>, left: u64, digits: Token<u32>) -> Result<u64, Failed> {
+    fn sum(&self, at: At<'_, 'text>, left: u64, digits: Token<u32>) -> Result<u64, Failed> {
         match left.checked_add(number_of(at, digits)?) {
             Some(sum) => Ok(sum),
             None => Err(Failed::TooBig(at.range.start())),
@@ -41,7 +41,7 @@ impl<'text> Actions<'text> for Settings {
 }
 
 // The number that the digits are; 0 if a repair inserted them.
-fn number_of(at: &At<'_, '_, '_>, digits: Token<u32>) -> Result<u64, Failed> {
+fn number_of(at: At<'_, '_>, digits: Token<u32>) -> Result<u64, Failed> {
     if digits.faulty() {
         return Ok(0);
     }

@@ -1,12 +1,13 @@
 //! A calculator: for each line of a text its errors with fixes, and then its value, or that it has none.
 ghost use Rattle.std.specs.Prelude.{◌↔◌, IfOk, IsTrue};
 
-use crate::language::{Failed, Language, language_of};
+use crate::language::{Failed, language_of, push_reports};
 use lrpar::parser::AStackType::ActionType;
 use lrpar::parser::{AStackType, Actions};
 use lrpar::repair::CpctPlus;
 use lrpar::span::{PIdx, RIdx, Span, Symbol};
 use lrpar::{LexParseError, RTParserBuilder};
+use lrpar_language::Language;
 use lrpar_lexer::{RuleLexer, Token, TokenTypes};
 use std::alloc::{AllocError, Global};
 
@@ -75,7 +76,7 @@ impl<'a, 'rules, 'input> Actions<u32, Token<u32>, RuleLexer<'rules, 'input>> for
 
 /// The errors of each line of the text, and its value.
 pub(crate) fn run(alloc: Global, text: &str) -> Result<String, Failed> {
-    let sums = language_of(alloc, GRAMMAR, LEXER, "")?;
+    let sums = language_of(alloc, GRAMMAR, LEXER)?;
     let mut out = String::new(alloc);
     for line in text.split_terminator('\n') {
         push_line(&mut out, alloc, &sums, line)?;
@@ -86,7 +87,8 @@ pub(crate) fn run(alloc: Global, text: &str) -> Result<String, Failed> {
 // Adds the errors of a line, and its value.
 fn push_line(out: &mut String, alloc: Global, sums: &Language, line: &str) -> Result<(), Failed> {
     let (value, errors) = parse(alloc, sums, line)?;
-    sums.push_errors(out, alloc, "line", line, &errors)?;
+    let reports = sums.error_reports(alloc, line, &errors)?;
+    push_reports(out, alloc, "line", line, &reports)?;
     Ok(push_value(out, line, value)?)
 }
 
@@ -101,7 +103,7 @@ fn push_value(out: &mut String, line: &str, value: Option<u64>) -> Result<(), Al
 // The value of a line, if it has one, and its errors.
 fn parse(alloc: Global, sums: &Language, line: &str) -> Result<Parsed, Failed> {
     let lexer = sums.lexer(alloc, line)?;
-    let parser = RTParserBuilder::new(&sums.data).recoverer(CpctPlus::new(10_000));
+    let parser = RTParserBuilder::new(sums.data()).recoverer(CpctPlus::new(10_000));
     let (value, errors) = parser.parse_actions(alloc, &lexer, &Calculation { line }, &())?;
     Ok((value.unwrap_or(None), errors))
 }

@@ -1,7 +1,8 @@
 //! A completer for sums: for each beginning of a line that ends with a lexeme, the tokens that may come next.
-use crate::language::{Failed, Language, language_of};
+use crate::language::{Failed, language_of};
 use lrpar::span::TIdx;
 use lrpar::{Lexeme, Lexer, RTParserBuilder};
+use lrpar_language::Language;
 use std::alloc::{AllocError, Global};
 
 const GRAMMAR: &str = "%% Sum: Sum '+' Term | Term; Term: '(' Sum ')' | 'INT';";
@@ -15,7 +16,7 @@ const LEXER: &str = r"
 
 /// What may come next after each beginning of each line of the text.
 pub(crate) fn run(alloc: Global, text: &str) -> Result<String, Failed> {
-    let sums = language_of(alloc, GRAMMAR, LEXER, "")?;
+    let sums = language_of(alloc, GRAMMAR, LEXER)?;
     let mut out = String::new(alloc);
     for line in text.split_terminator('\n') {
         push_line(&mut out, alloc, &sums, line)?;
@@ -40,7 +41,7 @@ fn push_line(out: &mut String, alloc: Global, sums: &Language, line: &str) -> Re
 // Adds a text, and the tokens that may come after it.
 fn push_next(out: &mut String, alloc: Global, sums: &Language, text: &str) -> Result<(), Failed> {
     let lexer = sums.lexer(alloc, text)?;
-    let expected = RTParserBuilder::new(&sums.data).expected(alloc, &lexer)?;
+    let expected = RTParserBuilder::new(sums.data()).expected(alloc, &lexer)?;
     Ok(push_tokens(out, sums, text, &expected.tokens)?)
 }
 
@@ -55,7 +56,7 @@ fn push_tokens(
     out.push_str(" ->")?;
     for token in tokens {
         out.push(' ')?;
-        out.push_str(sums.data.grm().epp_of(*token))?;
+        out.push_str(sums.data().grm().epp_of(*token))?;
     }
     out.push('\n')
 }

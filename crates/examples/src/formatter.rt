@@ -1,6 +1,7 @@
 //! A formatter of settings: one a line, with one space at each side of `=`; or the errors of the text, if it has any.
-use crate::language::{Failed, Language, language_of};
+use crate::language::{Failed, language_of, push_reports};
 use lrpar::{Lexeme, Lexer, RTParserBuilder};
+use lrpar_language::Language;
 use lrpar_lexer::RuleLexer;
 use std::alloc::Global;
 
@@ -17,26 +18,21 @@ const LEXER: &str = r#"
 
 /// The settings of the text, one a line; or its errors.
 pub(crate) fn run(alloc: Global, text: &str) -> Result<String, Failed> {
-    let settings = language_of(alloc, GRAMMAR, LEXER, "")?;
-    let mut out = String::new(alloc);
-    push_formatted(&mut out, alloc, &settings, text)?;
-    Ok(out)
+    let settings = language_of(alloc, GRAMMAR, LEXER)?;
+    format(alloc, &settings, text)
 }
 
-// Adds the settings of the text, or its errors.
-fn push_formatted(
-    out: &mut String,
-    alloc: Global,
-    settings: &Language,
-    text: &str,
-) -> Result<(), Failed> {
+fn format(alloc: Global, settings: &Language, text: &str) -> Result<String, Failed> {
     let lexer = settings.lexer(alloc, text)?;
-    let errors = RTParserBuilder::new(&settings.data).parse_noaction(alloc, &lexer)?;
+    let errors = RTParserBuilder::new(settings.data()).parse_noaction(alloc, &lexer)?;
+    let mut out = String::new(alloc);
     if errors.is_empty() {
-        push_settings(out, alloc, &lexer, text)
+        push_settings(&mut out, alloc, &lexer, text)?;
     } else {
-        Ok(settings.push_errors(out, alloc, "input", text, &errors)?)
+        let reports = settings.error_reports(alloc, text, &errors)?;
+        push_reports(&mut out, alloc, "input", text, &reports)?;
     }
+    Ok(out)
 }
 
 // Adds the settings of a text that has no error.

@@ -1,8 +1,9 @@
 //! A linter of JSON: reports of the errors of a text, with fixes, and of keys that are twice in an object; and how deep the text nests.
-use crate::language::{Failed, Language, language_of};
+use crate::language::{Failed, push_reports};
 use lrpar::repair::CpctPlus;
 use lrpar::span::TextRange;
 use lrpar::{Lexeme, Lexer, RTParserBuilder};
+use lrpar_language::{Language, LanguageTexts};
 use lrpar_lexer::RuleLexer;
 use lrpar_report::{Look, Report, Reporter};
 use std::alloc::{AllocError, Global};
@@ -90,25 +91,24 @@ $
 
 /// The reports about the text, on its errors and on what its lexemes show.
 pub(crate) fn run(alloc: Global, text: &str) -> Result<String, Failed> {
-    let json = language_of(alloc, GRAMMAR, LEXER, MESSAGES)?;
-    let mut out = String::new(alloc);
-    push_reports(&mut out, alloc, &json, text)?;
-    Ok(out)
+    let texts = LanguageTexts {
+        grammar: GRAMMAR,
+        lexer: LEXER,
+        messages: MESSAGES,
+    };
+    lint(alloc, &Language::new(alloc, texts)?, text)
 }
 
-// Adds the reports about the text.
-fn push_reports(
-    out: &mut String,
-    alloc: Global,
-    json: &Language,
-    text: &str,
-) -> Result<(), Failed> {
+fn lint(alloc: Global, json: &Language, text: &str) -> Result<String, Failed> {
     let lexer = json.lexer(alloc, text)?;
-    let errors = RTParserBuilder::new(&json.data)
+    let errors = RTParserBuilder::new(json.data())
         .recoverer(CpctPlus::new(10_000))
         .parse_noaction(alloc, &lexer)?;
-    json.push_errors(out, alloc, "input", text, &errors)?;
-    Ok(push_lints(out, alloc, &lexer, text)?)
+    let reports = json.error_reports(alloc, text, &errors)?;
+    let mut out = String::new(alloc);
+    push_reports(&mut out, alloc, "input", text, &reports)?;
+    push_lints(&mut out, alloc, &lexer, text)?;
+    Ok(out)
 }
 
 // Adds a warning for each key that its object already has, and a line for how deep the lexemes nest.

@@ -1,9 +1,11 @@
 //! The syntax of a language: made of its grammar by `nimbleparse --rust`. Edit the grammar, and make it again.
 //!
-//! Checksum of the grammar: e103dc3557f0f66e
+//! SHA-1 of the grammar: 7fed340ca0746ab1540cce6b7626173d5e68b2d8
 ghost use Rattle.std.specs.Prelude.{◌<◌, ◌≤◌, ◌↔◌, IfOk, IsTrue, length};
-ghost use Rattle.lrpar_typed.specs.Rows.{AreOfRow, AreRowsOf, IsOfRow, IsRuleNext, IsTaken, TakesRow};
-ghost use Rattle.examples.specs.Syntax.{rule_of};
+ghost use Rattle.lrpar_typed.specs.Rows.{AllHold, AreOfRow, AreRowsOf, IsOfRow, IsRuleNext, IsTaken, TakesRow};
+ghost use Rattle.lrpar_typed.specs.TypedParse.{ValueHolds};
+ghost use Rattle.examples.specs.Syntax.{HoldsOf, rule_of};
+ghost use Rattle.examples.specs.declared.syntax.RuleValue.{RuleValue};
 ghost use Rattle.examples.specs.declared.syntax.TheConstants.{ROWS};
 
 use crate::queries::tree::{Expr, Operator, Query, Stage};
@@ -143,9 +145,9 @@ pub(crate) mod tokens {
 
 /// The allocator, the lexer, and where a production is.
 #[derive(Clone, Copy)]
-pub(crate) struct At<'a, 'rules, 'text> {
+pub(crate) struct At<'a, 'text> {
     pub(crate) alloc: Global,
-    pub(crate) lexer: &'a RuleLexer<'rules, 'text>,
+    pub(crate) lexer: &'a RuleLexer<'a, 'text>,
     pub(crate) range: lrpar_typed::TextRange,
 }
 
@@ -154,38 +156,47 @@ pub(crate) trait Actions<'text> {
     /// Why a text has no value.
     type Error: Drop + From<lrpar_typed::ParseFault> + From<AllocError>;
 
+    /// What holds of each value: an action may use it of what it is passed, and shows it of its value. So it holds of the value of a parse.
+    /// Values of one type are those of the first rule that has it. Who claims nothing of values leaves it out.
+    ghost holds: { Self → RuleValue → Type 0 } = { λ _ _. Unit {0} };
+
     /// `Statement: 'let' 'NAME' '=' Query`
     fn named_query(
         &self,
-        at: &At<'_, '_, 'text>,
+        at: At<'_, 'text>,
         name: Token<u32>,
         query: Query<'text>,
-    ) -> Result<Query<'text>, Self::Error>;
+    ) -> Result<Query<'text>, Self::Error>
+        requires { HoldsOf (holds self.now) (RuleValue.Query query) }
+        ensures { IfOk result (λ made. HoldsOf (holds self.now) (RuleValue.Statement made)) };
 
     /// `Query: 'from' 'NAME' Stage_list`
     fn query(
         &self,
-        at: &At<'_, '_, 'text>,
+        at: At<'_, 'text>,
         name: Token<u32>,
         stages: Vec<Stage<'text>>,
-    ) -> Result<Query<'text>, Self::Error>;
+    ) -> Result<Query<'text>, Self::Error>
+        requires { HoldsOf (holds self.now) (RuleValue.StageList stages) }
+        ensures { IfOk result (λ made. HoldsOf (holds self.now) (RuleValue.Query made)) };
 
     /// `Stage: 'where' Expr`
-    fn filter(
-        &self,
-        at: &At<'_, '_, 'text>,
-        condition: Expr<'text>,
-    ) -> Result<Stage<'text>, Self::Error>;
+    fn filter(&self, at: At<'_, 'text>, condition: Expr<'text>) -> Result<Stage<'text>, Self::Error>
+        requires { HoldsOf (holds self.now) (RuleValue.Expr condition) }
+        ensures { IfOk result (λ made. HoldsOf (holds self.now) (RuleValue.Stage made)) };
 
     /// `Stage: 'select' Expr_by_comma`
     fn select(
         &self,
-        at: &At<'_, '_, 'text>,
+        at: At<'_, 'text>,
         columns: Vec<Expr<'text>>,
-    ) -> Result<Stage<'text>, Self::Error>;
+    ) -> Result<Stage<'text>, Self::Error>
+        requires { HoldsOf (holds self.now) (RuleValue.ExprByComma columns) }
+        ensures { IfOk result (λ made. HoldsOf (holds self.now) (RuleValue.Stage made)) };
 
     /// `Stage: 'take' 'INT'`
-    fn take(&self, at: &At<'_, '_, 'text>, count: Token<u32>) -> Result<Stage<'text>, Self::Error>;
+    fn take(&self, at: At<'_, 'text>, count: Token<u32>) -> Result<Stage<'text>, Self::Error>
+        ensures { IfOk result (λ made. HoldsOf (holds self.now) (RuleValue.Stage made)) };
 
     /// `Expr: Expr 'or' And`
     /// `And: And 'and' Comparison`
@@ -197,35 +208,39 @@ pub(crate) trait Actions<'text> {
     /// `Product: Product '/' Atom`
     fn binary(
         &self,
-        at: &At<'_, '_, 'text>,
+        at: At<'_, 'text>,
         kind: Operator,
         left: Expr<'text>,
         right: Expr<'text>,
-    ) -> Result<Expr<'text>, Self::Error>;
+    ) -> Result<Expr<'text>, Self::Error>
+        requires { HoldsOf (holds self.now) (RuleValue.Expr left) × HoldsOf (holds self.now) (RuleValue.And right) }
+        ensures { IfOk result (λ made. HoldsOf (holds self.now) (RuleValue.Expr made)) };
 
     /// `Atom: 'NAME'`
-    fn column(&self, at: &At<'_, '_, 'text>, name: Token<u32>) -> Result<Expr<'text>, Self::Error>;
+    fn column(&self, at: At<'_, 'text>, name: Token<u32>) -> Result<Expr<'text>, Self::Error>
+        ensures { IfOk result (λ made. HoldsOf (holds self.now) (RuleValue.Atom made)) };
 
     /// `Atom: 'NAME' '(' Expr_by_comma ')'`
     fn call(
         &self,
-        at: &At<'_, '_, 'text>,
+        at: At<'_, 'text>,
         name: Token<u32>,
         arguments: Vec<Expr<'text>>,
-    ) -> Result<Expr<'text>, Self::Error>;
+    ) -> Result<Expr<'text>, Self::Error>
+        requires { HoldsOf (holds self.now) (RuleValue.ExprByComma arguments) }
+        ensures { IfOk result (λ made. HoldsOf (holds self.now) (RuleValue.Atom made)) };
 
     /// `Atom: 'INT'`
-    fn number(
-        &self,
-        at: &At<'_, '_, 'text>,
-        digits: Token<u32>,
-    ) -> Result<Expr<'text>, Self::Error>;
+    fn number(&self, at: At<'_, 'text>, digits: Token<u32>) -> Result<Expr<'text>, Self::Error>
+        ensures { IfOk result (λ made. HoldsOf (holds self.now) (RuleValue.Atom made)) };
 
     /// `Atom: 'TEXT'`
-    fn text(&self, at: &At<'_, '_, 'text>, text: Token<u32>) -> Result<Expr<'text>, Self::Error>;
+    fn text(&self, at: At<'_, 'text>, text: Token<u32>) -> Result<Expr<'text>, Self::Error>
+        ensures { IfOk result (λ made. HoldsOf (holds self.now) (RuleValue.Atom made)) };
 
     /// `Atom: 'null'`
-    fn null(&self, at: &At<'_, '_, 'text>) -> Result<Expr<'text>, Self::Error>;
+    fn null(&self, at: At<'_, 'text>) -> Result<Expr<'text>, Self::Error>
+        ensures { IfOk result (λ made. HoldsOf (holds self.now) (RuleValue.Atom made)) };
 }
 
 /// The value of a rule.
@@ -313,6 +328,8 @@ impl<'a, 'rules, 'text, A: Actions<'text>> Typed<u32, Token<u32>, RuleLexer<'rul
 
     ghost gives = { λ _ _ _ _. Unit {0} };
 
+    ghost holds = { λ acting. HoldsOf (A.holds acting.actions.now) };
+
     fn takes(
         &self,
         pidx: lrpar_typed::PIdx<u32>,
@@ -332,8 +349,10 @@ impl<'a, 'rules, 'text, A: Actions<'text>> Typed<u32, Token<u32>, RuleLexer<'rul
     ) -> Result<RuleValue<'text>, A::Error>
         requires within { production < length ROWS }
         requires fits { AreOfRow (λ n. n) ⟦<Token<u32> as Lexeme<u32>>⟧.parts rule_of ROWS production args.old }
+        requires hold { AllHold (HoldsOf (A.holds self.now.actions.now)) args.old.left }
         ensures rule { IsOfRow rule_of ROWS production result }
         ensures gives { Unit {0} }
+        ensures holds { IfOk result (HoldsOf (A.holds self.now.actions.now)) }
     {
         let at = At {
             alloc,
@@ -341,29 +360,31 @@ impl<'a, 'rules, 'text, A: Actions<'text>> Typed<u32, Token<u32>, RuleLexer<'rul
             range: lrpar_typed::TextRange::from(args.span()),
         };
         if production < 8 {
-            make_from_0(self.actions, &at, production, args)
+            make_from_0(self.actions, at, production, args)
         } else if production < 16 {
-            make_from_8(self.actions, &at, production, args)
+            make_from_8(self.actions, at, production, args)
         } else if production < 24 {
-            make_from_16(self.actions, &at, production, args)
+            make_from_16(self.actions, at, production, args)
         } else if production < 32 {
-            make_from_24(self.actions, &at, production, args)
+            make_from_24(self.actions, at, production, args)
         } else {
-            make_from_32(self.actions, &at, production, args)
+            make_from_32(self.actions, at, production, args)
         }
     }
 }
 
 // The values of productions 0 to 7.
-fn make_from_0<'rules, 'text, A: Actions<'text>>(
+fn make_from_0<'text, A: Actions<'text>>(
     actions: &A,
-    at: &At<'_, 'rules, 'text>,
+    at: At<'_, 'text>,
     production: usize,
-    args: &mut RuleArgs<'_, 'rules, 'text, A::Error>,
+    args: &mut RuleArgs<'_, '_, 'text, A::Error>,
 ) -> Result<RuleValue<'text>, A::Error>
     requires high { production < 8 }
     requires fits { AreOfRow (λ n. n) ⟦<Token<u32> as Lexeme<u32>>⟧.parts rule_of ROWS production args.old }
-    ensures { IsOfRow rule_of ROWS production result }
+    requires hold { AllHold (HoldsOf (A.holds actions.now)) args.old.left }
+    ensures rule { IsOfRow rule_of ROWS production result }
+    ensures holds { IfOk result (HoldsOf (A.holds actions.now)) }
 {
     match production {
         // File: File_group_list
@@ -428,16 +449,18 @@ fn make_from_0<'rules, 'text, A: Actions<'text>>(
 }
 
 // The values of productions 8 to 15.
-fn make_from_8<'rules, 'text, A: Actions<'text>>(
+fn make_from_8<'text, A: Actions<'text>>(
     actions: &A,
-    at: &At<'_, 'rules, 'text>,
+    at: At<'_, 'text>,
     production: usize,
-    args: &mut RuleArgs<'_, 'rules, 'text, A::Error>,
+    args: &mut RuleArgs<'_, '_, 'text, A::Error>,
 ) -> Result<RuleValue<'text>, A::Error>
     requires low { 8 ≤ production }
     requires high { production < 16 }
     requires fits { AreOfRow (λ n. n) ⟦<Token<u32> as Lexeme<u32>>⟧.parts rule_of ROWS production args.old }
-    ensures { IsOfRow rule_of ROWS production result }
+    requires hold { AllHold (HoldsOf (A.holds actions.now)) args.old.left }
+    ensures rule { IsOfRow rule_of ROWS production result }
+    ensures holds { IfOk result (HoldsOf (A.holds actions.now)) }
 {
     match production {
         // Expr: And
@@ -500,16 +523,18 @@ fn make_from_8<'rules, 'text, A: Actions<'text>>(
 }
 
 // The values of productions 16 to 23.
-fn make_from_16<'rules, 'text, A: Actions<'text>>(
+fn make_from_16<'text, A: Actions<'text>>(
     actions: &A,
-    at: &At<'_, 'rules, 'text>,
+    at: At<'_, 'text>,
     production: usize,
-    args: &mut RuleArgs<'_, 'rules, 'text, A::Error>,
+    args: &mut RuleArgs<'_, '_, 'text, A::Error>,
 ) -> Result<RuleValue<'text>, A::Error>
     requires low { 16 ≤ production }
     requires high { production < 24 }
     requires fits { AreOfRow (λ n. n) ⟦<Token<u32> as Lexeme<u32>>⟧.parts rule_of ROWS production args.old }
-    ensures { IsOfRow rule_of ROWS production result }
+    requires hold { AllHold (HoldsOf (A.holds actions.now)) args.old.left }
+    ensures rule { IsOfRow rule_of ROWS production result }
+    ensures holds { IfOk result (HoldsOf (A.holds actions.now)) }
 {
     match production {
         // Sum: Product
@@ -570,16 +595,18 @@ fn make_from_16<'rules, 'text, A: Actions<'text>>(
 }
 
 // The values of productions 24 to 31.
-fn make_from_24<'rules, 'text, A: Actions<'text>>(
+fn make_from_24<'text, A: Actions<'text>>(
     actions: &A,
-    at: &At<'_, 'rules, 'text>,
+    at: At<'_, 'text>,
     production: usize,
-    args: &mut RuleArgs<'_, 'rules, 'text, A::Error>,
+    args: &mut RuleArgs<'_, '_, 'text, A::Error>,
 ) -> Result<RuleValue<'text>, A::Error>
     requires low { 24 ≤ production }
     requires high { production < 32 }
     requires fits { AreOfRow (λ n. n) ⟦<Token<u32> as Lexeme<u32>>⟧.parts rule_of ROWS production args.old }
-    ensures { IsOfRow rule_of ROWS production result }
+    requires hold { AllHold (HoldsOf (A.holds actions.now)) args.old.left }
+    ensures rule { IsOfRow rule_of ROWS production result }
+    ensures holds { IfOk result (HoldsOf (A.holds actions.now)) }
 {
     match production {
         // Atom: 'null'
@@ -627,16 +654,18 @@ fn make_from_24<'rules, 'text, A: Actions<'text>>(
 }
 
 // The values of productions 32 to 32.
-fn make_from_32<'rules, 'text, A: Actions<'text>>(
+fn make_from_32<'text, A: Actions<'text>>(
     actions: &A,
-    at: &At<'_, 'rules, 'text>,
+    at: At<'_, 'text>,
     production: usize,
-    args: &mut RuleArgs<'_, 'rules, 'text, A::Error>,
+    args: &mut RuleArgs<'_, '_, 'text, A::Error>,
 ) -> Result<RuleValue<'text>, A::Error>
     requires low { 32 ≤ production }
     requires high { production < 33 }
     requires fits { AreOfRow (λ n. n) ⟦<Token<u32> as Lexeme<u32>>⟧.parts rule_of ROWS production args.old }
-    ensures { IsOfRow rule_of ROWS production result }
+    requires hold { AllHold (HoldsOf (A.holds actions.now)) args.old.left }
+    ensures rule { IsOfRow rule_of ROWS production result }
+    ensures holds { IfOk result (HoldsOf (A.holds actions.now)) }
 {
     match production {
         // Expr_by_comma: Expr_by_comma ',' Expr
@@ -820,7 +849,7 @@ pub(crate) type Parsed<ValueT, ErrorT> = Result<
     ErrorT,
 >;
 
-/// Parses a text to the value of `File`.
+/// Parses a text to the value of `File`. What holds of values by the actions holds of it.
 pub(crate) fn parse_file<'text, R: Recoverer<u32, Token<u32>> + Drop, A: Actions<'text>>(
     alloc: Global,
     parser: &lrpar_typed::RTParserBuilder<'_, u32, TokenTypes<u32>, R>,
@@ -828,6 +857,7 @@ pub(crate) fn parse_file<'text, R: Recoverer<u32, Token<u32>> + Drop, A: Actions
     actions: &A,
 ) -> Parsed<Vec<Query<'text>>, A::Error>
     requires { AreRowsOf ROWS 1 parser.now.checked.grammar }
+    ensures { IfOk result (ValueHolds (λ v. HoldsOf (A.holds actions.now) (RuleValue.File v))) }
 {
     let (value, errors) = lrpar_typed::parse_typed(parser, alloc, lexer, &Acting { actions })?;
     match value {

@@ -1,1 +1,4 @@
+pub mod ExpandingLemmas
+pub mod ExpansionLemmas
+pub mod KeptLemmas
 mod ListLemmas

@@ -1,27 +1,133 @@
 //! What a typed grammar means: each list, option and group is a rule.
-use crate::file::{Alternative, Atom, Declaration, File, MAX_DEPTH, Mention, Repeat};
+ghost use Rattle.std.specs.Prelude.{◌≡◌, ◌≢◌, ◌+◌, ◌≤◌, [], IfOk, None, OnOk, vec_len, string_bytes};
+ghost use Rattle.lrpar_grammar_typed.specs.Expanding.{AddsRule, AppendsProds, Begins, Extends, IsDeclared, IsExpanded, IsGroupOf, IsSound, IsTokenAt, rule_index};
+ghost use Rattle.lrpar_grammar_typed.specs.Expansion as spec;
+ghost use Rattle.lrpar_grammar_typed.specs.Expansion.{AreAlternatives, AreApart, AreDistinct, AreParts, AreRepeated, FitForm, HaveProdsOfForms, IsAtom, IsDefined, IsExpansionOf, IsMeant, IsOfForm, IsRepeated, IsStart, StandsFor, declared_start, rule_names, start_after, token_names};
+ghost use Rattle.lrpar_grammar_typed.specs.declared.typed.Form.TheVariants.{Written};
+
+use crate::file::{
+    Alternative, Atom, Declaration, File, Item, MAX_DEPTH, Mention, Part, Repeat, Rule,
+};
 use crate::forms::form_prods;
 use crate::names::{form_name, group_name};
 use crate::typed::{
     Form, Making, TypedFault, TypedGrammar, TypedProd, TypedRule, TypedSymbol, TypedToken, word_at,
 };
+use lrpar_grammar::grammar::GrammarFault;
 use lrpar_grammar::span::{RIdx, Span, Symbol, TIdx};
 use std::alloc::{AllocError, Global};
 use std::collections::BTreeMap;
+use thiserror::Error;
 
 /// The typed grammar that is written. Each list, option and group becomes a rule, named after what it is of: `Expr_list` for `Expr*`.
 ///
 /// `Err`: the first fault, in the order of the text; those of declarations come first.
-pub fn expand(alloc: Global, text: &str, file: &File) -> Result<TypedGrammar, TypedFault> {
-    let mut expander = Expander::new(alloc, text);
-    expander.declare_types(file)?;
-    expander.declare_rules(file)?;
-    let start = expander.declare(file)?;
+pub fn expand(alloc: Global, text: &str, file: &File) -> Result<TypedGrammar, TypedFault>
+    ensures expansion { IfOk result (λ g. IsExpansionOf text.now file.now.rules.items g) }
+    ensures forms { IfOk result (λ g. HaveProdsOfForms g.rules.items) }
+    ensures rules { IfOk result (λ g. AreDistinct (rule_names g)) }
+    ensures tokens { IfOk result (λ g. AreDistinct (token_names g)) }
+    ensures apart { IfOk result (λ g. AreApart g) }
+    ensures start { IfOk result (λ g. IsStart text.now (declared_start file.now.declarations.items) (rule_names g) g.start) }
+{
+    let types = Types::of_declarations(alloc, text, &file.declarations)?;
+    let mut expander = Expander::new(alloc, text, types);
+    expander.declare_rules(&file.rules)?;
+    let start = expander.declare(&file.declarations)?;
     for rule in &file.rules {
         let prods = expander.expand_prods(rule.name, &rule.alternatives, MAX_DEPTH)?;
         expander.add_prods(rule.name, prods)?;
     }
     expander.finish(start)
+}
+
+// Why a definition or an item is refused. It is a type of its own, since at a `?` the prover doesn't find the type of `GrammarFault` by
+// `TypedFault`.
+#[derive(Debug, Drop, Error)]
+enum Refusal {
+    // A second `%start`.
+    #[error("repeated %start")]
+    RepeatedStart(Span),
+    // The name here is no rule and no declared token.
+    #[error("unknown rule")]
+    UnknownRule(Span),
+    // The token here has the name of a rule.
+    #[error("token is a rule")]
+    TokenIsRule(Span),
+    // There are more rules or tokens than can be numbered.
+    #[error("too many symbols")]
+    TooMany,
+    // A list, an option or a group here would have the name of another rule.
+    #[error("the name is taken")]
+    TakenName(Span),
+    // Groups are in too many groups.
+    #[error("too many groups in one another")]
+    TooDeep(Span),
+    // An allocation failed.
+    #[error("out of memory")]
+    Memory(#[from(alloc)] AllocError),
+}
+
+impl From<Refusal> for TypedFault {
+    fn from(fault: Refusal) -> TypedFault {
+        match fault {
+            Refusal::RepeatedStart(span) => TypedFault::Grammar(GrammarFault::RepeatedStart(span)),
+            Refusal::UnknownRule(span) => TypedFault::Grammar(GrammarFault::UnknownRule(span)),
+            Refusal::TokenIsRule(span) => TypedFault::Grammar(GrammarFault::TokenIsRule(span)),
+            Refusal::TooMany => TypedFault::Grammar(GrammarFault::StorageTooSmall),
+            Refusal::TakenName(span) => TypedFault::TakenName(span),
+            Refusal::TooDeep(span) => TypedFault::TooDeep(span),
+            Refusal::Memory(error) => TypedFault::Memory(error),
+        }
+    }
+}
+
+// The types that are declared, and of each rule the place of its type among them.
+#[derive(Drop)]
+struct Types<'a> {
+    text: &'a str,
+    values: Vec<Span>,
+    places: BTreeMap<&'a str, usize>,
+}
+
+impl<'a> Types<'a> {
+    // The types that the declarations have for rules.
+    fn of_declarations(
+        alloc: Global,
+        text: &'a str,
+        declarations: &[Declaration],
+    ) -> Result<Types<'a>, TypedFault> {
+        let mut values = Vec::new(alloc);
+        let mut places = BTreeMap::new(alloc);
+        for declaration in declarations {
+            if let Declaration::Type(value, rules) = declaration {
+                let place = values.len();
+                values.push(*value)?;
+                for rule in rules {
+                    let name = word_at(text, *rule);
+                    if places.contains_key(name) {
+                        return Err(TypedFault::RepeatedType(*rule));
+                    }
+                    let _ = places.insert(name, place)?;
+                }
+            }
+        }
+        Ok(Types {
+            text,
+            values,
+            places,
+        })
+    }
+
+    // The type that is declared for a rule, or this one.
+    fn value_or(&self, alloc: Global, rule: &str, otherwise: &str) -> Result<String, AllocError> {
+        let place = self.places.get(rule).copied();
+        let value = match place.and_then(|place| self.values.get(place)) {
+            Some(value) => word_at(self.text, *value),
+            None => otherwise,
+        };
+        String::from_str(alloc, value)
+    }
 }
 
 // A typed grammar that is being expanded.
@@ -34,13 +140,15 @@ struct Expander<'a> {
     rules: BTreeMap<String, usize>,
     groups: usize,
     tokens: BTreeMap<&'a str, u32>,
-    // The types that are declared, and of each rule the place of its type among them.
-    values: Vec<Span>,
-    types: BTreeMap<&'a str, usize>,
+    types: Types<'a>,
 }
 
 impl<'a> Expander<'a> {
-    fn new(alloc: Global, text: &'a str) -> Expander<'a> {
+    fn new(alloc: Global, text: &'a str, types: Types<'a>) -> Expander<'a>
+        ensures declared { IsDeclared result }
+        ensures rules { result.grammar.rules.items ≡ [] }
+        ensures text { result.text.now ≡ text.now }
+    {
         Expander {
             alloc,
             text,
@@ -53,92 +161,116 @@ impl<'a> Expander<'a> {
             rules: BTreeMap::new(alloc),
             groups: 0,
             tokens: BTreeMap::new(alloc),
-            values: Vec::new(alloc),
-            types: BTreeMap::new(alloc),
+            types,
         }
     }
 
-    // Takes the types of rules.
-    fn declare_types(&mut self, file: &File) -> Result<(), TypedFault> {
-        for declaration in &file.declarations {
-            if let Declaration::Type(value, rules) = declaration {
-                let place = self.values.len();
-                self.values.push(*value)?;
-                for rule in rules {
-                    let name = word_at(self.text, *rule);
-                    if self.types.contains_key(name) {
-                        return Err(TypedFault::RepeatedType(*rule));
-                    }
-                    let _ = self.types.insert(name, place)?;
-                }
-            }
+    // Takes the rules that are defined.
+    fn declare_rules(&mut self, rules: &[Rule]) -> Result<(), Refusal>
+        requires declared { IsDeclared self.old }
+        requires none { self.old.grammar.rules.items ≡ [] }
+        ensures { OnOk result (IsExpanded self.old.text.now rules.now [] self.new) }
+    {
+        for rule in rules {
+            self.declare_rule(rule.name)?;
         }
         Ok(())
     }
 
-    // Takes the rules that are written.
-    fn declare_rules(&mut self, file: &File) -> Result<(), TypedFault> {
-        for rule in &file.rules {
-            let word = word_at(self.text, rule.name);
-            if !self.rules.contains_key(word) {
-                let name = String::from_str(self.alloc, word)?;
-                let value = self.value_or(word, "()")?;
-                self.add_rule(name, rule.name, Form::Written, value, Vec::new(self.alloc))?;
-            }
+    // Takes the rule whose name is here, if it isn't there yet.
+    fn declare_rule(&mut self, rule: Span) -> Result<(), Refusal>
+        requires { IsDeclared self.old }
+        ensures declared { OnOk result (IsDeclared self.new) }
+        ensures text { OnOk result (self.new.text.now ≡ self.old.text.now) }
+        ensures rules { OnOk result (Begins self.old.grammar.rules.items self.new.grammar.rules.items) }
+        ensures defined { OnOk result (IsDefined self.old.text.now self.new.grammar rule) }
+        ensures one_more { OnOk result (vec_len self.new.grammar.rules ≤ vec_len self.old.grammar.rules + 1) }
+    {
+        let word = word_at(self.text, rule);
+        if self.rules.contains_key(word) {
+            return Ok(());
         }
+        let name = String::from_str(self.alloc, word)?;
+        let value = self.types.value_or(self.alloc, word, "()")?;
+        let _ = self.add_rule(TypedRule {
+            name,
+            span: rule,
+            form: Form::Written,
+            value,
+            prods: Vec::new(self.alloc),
+        })?;
         Ok(())
     }
 
     // Takes the other declarations. The start rule, if it is declared.
-    fn declare(&mut self, file: &File) -> Result<Option<Span>, TypedFault> {
+    fn declare(&mut self, declarations: &[Declaration]) -> Result<Option<Span>, Refusal>
+        requires { IsSound self.old }
+        ensures sound { OnOk result (IsSound self.new) }
+        ensures extends { OnOk result (Extends self.old self.new) }
+        ensures start { IfOk result (λ start. start ≡ declared_start declarations.now) }
+    {
         let mut start = None;
-        for declaration in &file.declarations {
-            match declaration {
-                Declaration::Use(path) => self.grammar.uses.push(*path)?,
-                Declaration::Start(rule) if start.is_some() => {
-                    return Err(TypedFault::RepeatedStart(*rule));
-                }
-                Declaration::Start(rule) => start = Some(*rule),
-                Declaration::Tokens(tokens) => {
-                    for token in tokens {
-                        let _ = self.number_token(token.name)?;
-                    }
-                }
-                Declaration::Type(_, _) => {}
-            }
+        for declaration in declarations {
+            start = self.declare_one(declaration, start)?;
         }
         Ok(start)
     }
 
+    // Takes a declaration. The start rule, if it is this one or was declared before.
+    fn declare_one(
+        &mut self,
+        declaration: &Declaration,
+        start: Option<Span>,
+    ) -> Result<Option<Span>, Refusal>
+        requires { IsSound self.old }
+        ensures sound { OnOk result (IsSound self.new) }
+        ensures extends { OnOk result (Extends self.old self.new) }
+        ensures start { IfOk result (λ new. new ≡ start_after start declaration.now) }
+    {
+        match declaration {
+            Declaration::Use(path) => {
+                self.grammar.uses.push(*path)?;
+                Ok(start)
+            }
+            Declaration::Start(rule) if start.is_some() => Err(Refusal::RepeatedStart(*rule)),
+            Declaration::Start(rule) => Ok(Some(*rule)),
+            Declaration::Tokens(tokens) => {
+                self.number_tokens(tokens)?;
+                Ok(start)
+            }
+            Declaration::Type(_, _) => Ok(start),
+        }
+    }
+
+    // Numbers the tokens that aren't numbered yet.
+    fn number_tokens(&mut self, tokens: &[Mention]) -> Result<(), Refusal>
+        requires { IsSound self.old }
+        ensures sound { OnOk result (IsSound self.new) }
+        ensures extends { OnOk result (Extends self.old self.new) }
+    {
+        for token in tokens {
+            let _ = self.number_token(token.name)?;
+        }
+        Ok(())
+    }
+
     // The productions that the alternatives are, of this rule or of a group in it.
+    #[cycle(groups)]
     fn expand_prods(
         &mut self,
         rule: Span,
         alternatives: &[Alternative],
         depth: usize,
-    ) -> Result<Vec<TypedProd>, TypedFault> {
+    ) -> Result<Vec<TypedProd>, Refusal>
+        requires { IsSound self.old }
+        ensures sound { OnOk result (IsSound self.new) }
+        ensures extends { OnOk result (Extends self.old self.new) }
+        ensures prods { IfOk result (λ prods. AreAlternatives self.new.text.now self.new.grammar alternatives.now prods.items) }
+    {
         let mut prods = Vec::with_capacity(self.alloc, alternatives.len())?;
         for alternative in alternatives {
-            let mut symbols = Vec::with_capacity(self.alloc, alternative.parts.len())?;
-            for part in &alternative.parts {
-                let span = part.item.span;
-                let symbol = match &part.item.atom {
-                    Atom::Symbol(mention) => self.find_symbol(*mention)?,
-                    Atom::Group(alternatives) => {
-                        let depth = depth.checked_sub(1).ok_or(TypedFault::TooDeep(span))?;
-                        let name = self.next_group_name(rule)?;
-                        let prods = self.expand_prods(rule, alternatives, depth)?;
-                        self.add_group(name, span, prods)?
-                    }
-                };
-                symbols.push(TypedSymbol {
-                    symbol: self.repeat(symbol, &part.item.repeats, span)?,
-                    span,
-                    name: part.name,
-                })?;
-            }
             prods.push(TypedProd {
-                symbols,
+                symbols: self.expand_parts(rule, &alternative.parts, depth)?,
                 making: Making::Action(alternative.label),
                 span: alternative.span,
             })?;
@@ -146,83 +278,199 @@ impl<'a> Expander<'a> {
         Ok(prods)
     }
 
+    // The symbols that the parts are.
+    #[cycle(groups)]
+    fn expand_parts(
+        &mut self,
+        rule: Span,
+        parts: &[Part],
+        depth: usize,
+    ) -> Result<Vec<TypedSymbol>, Refusal>
+        requires { IsSound self.old }
+        ensures sound { OnOk result (IsSound self.new) }
+        ensures extends { OnOk result (Extends self.old self.new) }
+        ensures symbols { IfOk result (λ symbols. AreParts self.new.text.now self.new.grammar parts.now symbols.items) }
+    {
+        let mut symbols = Vec::with_capacity(self.alloc, parts.len())?;
+        for part in parts {
+            symbols.push(TypedSymbol {
+                symbol: self.expand_item(rule, &part.item, depth)?,
+                span: part.item.span,
+                name: part.name,
+            })?;
+        }
+        Ok(symbols)
+    }
+
+    // The symbol that the item is.
+    #[cycle(groups)]
+    fn expand_item(&mut self, rule: Span, item: &Item, depth: usize) -> Result<Symbol<u32>, Refusal>
+        requires { IsSound self.old }
+        ensures sound { OnOk result (IsSound self.new) }
+        ensures extends { OnOk result (Extends self.old self.new) }
+        ensures symbol { IfOk result (λ symbol. StandsFor self.new.text.now self.new.grammar item.now symbol) }
+    {
+        let symbol = self.expand_atom(rule, &item.atom, item.span, depth)?;
+        self.repeat(symbol, &item.repeats, item.span)
+    }
+
+    // The symbol that is written, or that of the group.
+    #[cycle(groups)]
+    fn expand_atom(
+        &mut self,
+        rule: Span,
+        atom: &Atom,
+        span: Span,
+        depth: usize,
+    ) -> Result<Symbol<u32>, Refusal>
+        requires { IsSound self.old }
+        ensures sound { OnOk result (IsSound self.new) }
+        ensures extends { OnOk result (Extends self.old self.new) }
+        ensures symbol { IfOk result (λ symbol. IsAtom self.new.text.now self.new.grammar atom.now symbol) }
+    {
+        match atom {
+            Atom::Symbol(mention) => self.find_symbol(*mention),
+            Atom::Group(alternatives) => {
+                let depth = depth.checked_sub(1).ok_or(Refusal::TooDeep(span))?;
+                let name = self.next_group_name(rule)?;
+                let prods = self.expand_prods(rule, alternatives, depth)?;
+                self.add_group(name, span, prods)
+            }
+        }
+    }
+
     // The name of the next group in this rule.
-    fn next_group_name(&mut self, rule: Span) -> Result<String, AllocError> {
+    fn next_group_name(&mut self, rule: Span) -> Result<String, AllocError>
+        requires { IsSound self.old }
+        ensures sound { OnOk result (IsSound self.new) }
+        ensures extends { OnOk result (Extends self.old self.new) }
+    {
         self.groups = self.groups.saturating_add(1);
         group_name(self.alloc, word_at(self.text, rule), self.groups)
     }
 
     // The symbol that is meant.
-    fn find_symbol(&mut self, mention: Mention) -> Result<Symbol<u32>, TypedFault> {
+    fn find_symbol(&mut self, mention: Mention) -> Result<Symbol<u32>, Refusal>
+        requires { IsSound self.old }
+        ensures sound { OnOk result (IsSound self.new) }
+        ensures extends { OnOk result (Extends self.old self.new) }
+        ensures symbol { IfOk result (λ symbol. IsMeant self.new.text.now self.new.grammar mention symbol) }
+    {
         if !mention.is_quoted {
             let name = word_at(self.text, mention.name);
             if let Some(place) = self.rules.get(name) {
                 return rule_symbol(*place);
             }
             if !self.tokens.contains_key(name) {
-                return Err(TypedFault::UnknownRule(mention.name));
+                return Err(Refusal::UnknownRule(mention.name));
             }
         }
         Ok(Symbol::Token(self.number_token(mention.name)?))
     }
 
     // The token whose name is here.
-    fn number_token(&mut self, span: Span) -> Result<TIdx<u32>, TypedFault> {
+    fn number_token(&mut self, span: Span) -> Result<TIdx<u32>, Refusal>
+        requires { IsSound self.old }
+        ensures sound { OnOk result (IsSound self.new) }
+        ensures extends { OnOk result (Extends self.old self.new) }
+        ensures token { IfOk result (λ token. IsTokenAt self.new.text.now self.new.grammar span token) }
+    {
         let name = word_at(self.text, span);
         if let Some(token) = self.tokens.get(name) {
             return Ok(TIdx(*token));
         }
         if self.rules.contains_key(name) {
-            return Err(TypedFault::TokenIsRule(span));
+            return Err(Refusal::TokenIsRule(span));
         }
-        let token = u32::try_from(self.grammar.tokens.len()).map_err(|_| TypedFault::TooMany)?;
+        let token = u32::try_from(self.grammar.tokens.len()).map_err(|_| Refusal::TooMany)?;
         let _ = self.tokens.insert(name, token)?;
         let name = String::from_str(self.alloc, name)?;
         self.grammar.tokens.push(TypedToken { name, span })?;
         Ok(TIdx(token))
     }
 
-    // The symbol that stands for this one, repeated so.
+    // The symbol of a list or an option of this symbol; this one if nothing repeats it.
     fn repeat(
         &mut self,
         symbol: Symbol<u32>,
         repeats: &[Repeat],
         span: Span,
-    ) -> Result<Symbol<u32>, TypedFault> {
-        let mut symbol = symbol;
+    ) -> Result<Symbol<u32>, Refusal>
+        requires { IsSound self.old }
+        ensures sound { OnOk result (IsSound self.new) }
+        ensures extends { OnOk result (Extends self.old self.new) }
+        ensures symbol { IfOk result (λ y. AreRepeated self.new.text.now self.new.grammar symbol repeats.now y) }
+    {
+        let mut repeated = symbol;
         for repeat in repeats {
-            symbol = match repeat {
-                Repeat::ZeroOrMore => self.add_form(Form::ZeroOrMore(symbol), span)?,
-                Repeat::OneOrMore => self.add_form(Form::OneOrMore(symbol), span)?,
-                Repeat::Optional => self.add_form(Form::Optional(symbol), span)?,
-                Repeat::Separated(mention) => {
-                    let separator = self.find_symbol(*mention)?;
-                    self.add_form(Form::Separated(symbol, separator), span)?
-                }
-                Repeat::Terminated(mention) => {
-                    let separator = self.find_symbol(*mention)?;
-                    let list = self.add_form(Form::Separated(symbol, separator), span)?;
-                    self.add_form(Form::Terminated(list, separator), span)?
-                }
-            };
+            repeated = self.repeat_once(repeated, *repeat, span)?;
         }
-        Ok(symbol)
+        Ok(repeated)
+    }
+
+    // The symbol of the list or the option of this symbol.
+    fn repeat_once(
+        &mut self,
+        symbol: Symbol<u32>,
+        repeat: Repeat,
+        span: Span,
+    ) -> Result<Symbol<u32>, Refusal>
+        requires { IsSound self.old }
+        ensures sound { OnOk result (IsSound self.new) }
+        ensures extends { OnOk result (Extends self.old self.new) }
+        ensures symbol { IfOk result (λ y. IsRepeated self.new.text.now self.new.grammar symbol repeat y) }
+    {
+        match repeat {
+            Repeat::ZeroOrMore => self.add_form(Form::ZeroOrMore(symbol), span),
+            Repeat::OneOrMore => self.add_form(Form::OneOrMore(symbol), span),
+            Repeat::Optional => self.add_form(Form::Optional(symbol), span),
+            Repeat::Separated(mention) => {
+                let separator = self.find_symbol(mention)?;
+                self.add_form(Form::Separated(symbol, separator), span)
+            }
+            Repeat::Terminated(mention) => {
+                let separator = self.find_symbol(mention)?;
+                let list = self.add_form(Form::Separated(symbol, separator), span)?;
+                self.add_form(Form::Terminated(list, separator), span)
+            }
+        }
     }
 
     // The rule of a form, which is made if it isn't there.
-    fn add_form(&mut self, form: Form, span: Span) -> Result<Symbol<u32>, TypedFault> {
+    fn add_form(&mut self, form: Form, span: Span) -> Result<Symbol<u32>, Refusal>
+        requires sound { IsSound self.old }
+        requires made { form ≢ Written }
+        ensures sound { OnOk result (IsSound self.new) }
+        ensures extends { OnOk result (Extends self.old self.new) }
+        ensures symbol { IfOk result (λ symbol. IsOfForm self.new.grammar form symbol) }
+    {
         let name = form_name(self.alloc, &self.grammar, form)?;
         if let Some(place) = self.rules.get(name.as_str()) {
-            return match self.grammar.rules.get(*place) {
-                Some(rule) if rule.form == form => rule_symbol(*place),
-                _ => Err(TypedFault::TakenName(span)),
-            };
+            return self.find_form(*place, form, span);
         }
         let value = form_type(self.alloc, &self.grammar, form)?;
-        let value = self.value_or(name.as_str(), value.as_str())?;
+        let value = self
+            .types
+            .value_or(self.alloc, name.as_str(), value.as_str())?;
         let rule = rule_symbol(self.grammar.rules.len())?;
         let prods = form_prods(self.alloc, rule, form, span)?;
-        self.add_rule(name, span, form, value, prods)
+        self.add_rule(TypedRule {
+            name,
+            span,
+            form,
+            value,
+            prods,
+        })
+    }
+
+    // The rule at this place, which has to be of this form.
+    fn find_form(&self, place: usize, form: Form, span: Span) -> Result<Symbol<u32>, Refusal>
+        ensures { IfOk result (λ symbol. IsOfForm self.now.grammar form symbol) }
+    {
+        match self.grammar.rules.get(place) {
+            Some(rule) if rule.form == form => rule_symbol(place),
+            _ => Err(Refusal::TakenName(span)),
+        }
     }
 
     // The rule of a group.
@@ -231,101 +479,117 @@ impl<'a> Expander<'a> {
         name: String,
         span: Span,
         prods: Vec<TypedProd>,
-    ) -> Result<Symbol<u32>, TypedFault> {
+    ) -> Result<Symbol<u32>, Refusal>
+        requires { IsSound self.old }
+        ensures sound { OnOk result (IsSound self.new) }
+        ensures extends { OnOk result (Extends self.old self.new) }
+        ensures symbol { IfOk result (λ symbol. IsGroupOf self.new.grammar prods symbol) }
+    {
         if self.rules.contains_key(name.as_str()) {
-            return Err(TypedFault::TakenName(span));
+            return Err(Refusal::TakenName(span));
         }
-        let value = self.value_or(name.as_str(), group_type(&self.grammar, self.text, &prods))?;
-        self.add_rule(name, span, Form::Group, value, prods)
+        let value = self.types.value_or(
+            self.alloc,
+            name.as_str(),
+            group_type(&self.grammar, self.text, &prods),
+        )?;
+        self.add_rule(TypedRule {
+            name,
+            span,
+            form: Form::Group,
+            value,
+            prods,
+        })
     }
 
     // Adds a rule, which has to be a new one.
-    fn add_rule(
-        &mut self,
-        name: String,
-        span: Span,
-        form: Form,
-        value: String,
-        prods: Vec<TypedProd>,
-    ) -> Result<Symbol<u32>, TypedFault> {
+    fn add_rule(&mut self, rule: TypedRule) -> Result<Symbol<u32>, Refusal>
+        requires sound { IsSound self.old }
+        requires new { rule_index self.old (string_bytes rule.name) ≡ None }
+        requires prods { FitForm (vec_len self.old.grammar.rules) rule.form rule.prods }
+        requires apart { rule.form ≡ Written → self.old.grammar.tokens.items ≡ [] }
+        ensures sound { OnOk result (IsSound self.new) }
+        ensures symbol { IfOk result (λ symbol. symbol ≡ spec.rule_symbol (vec_len self.old.grammar.rules)) }
+        ensures rule { OnOk result (AddsRule self.old self.new rule) }
+    {
         let place = self.grammar.rules.len();
         let symbol = rule_symbol(place)?;
-        let key = String::from_str(self.alloc, name.as_str())?;
-        let _ = self.rules.insert(key, place)?;
-        self.grammar.rules.push(TypedRule {
-            name,
-            span,
-            form,
-            value,
-            prods,
-        })?;
+        let name = String::from_str(self.alloc, rule.name.as_str())?;
+        let _ = self.rules.insert(name, place)?;
+        self.grammar.rules.push(rule)?;
         Ok(symbol)
     }
 
-    // Adds these productions to a rule that is written.
-    fn add_prods(&mut self, name: Span, prods: Vec<TypedProd>) -> Result<(), TypedFault> {
+    // Adds these productions to the rule whose name is here.
+    fn add_prods(&mut self, name: Span, prods: Vec<TypedProd>) -> Result<(), Refusal>
+        requires { IsSound self.old }
+        ensures { OnOk result (AppendsProds self.old self.new name prods.items) }
+    {
         self.groups = 0;
-        let place = self
-            .rules
-            .get(word_at(self.text, name))
-            .ok_or(TypedFault::UnknownRule(name))?;
-        if let Some(rule) = self.grammar.rules.get_mut(*place) {
-            for prod in prods {
-                rule.prods.push(prod)?;
-            }
-        }
+        let Some(place) = self.rules.get(word_at(self.text, name)) else {
+            return Err(Refusal::UnknownRule(name));
+        };
+        let rule = &mut self.grammar.rules[*place];
+        let mut prods = prods;
+        rule.prods.append(&mut prods)?;
         Ok(())
     }
 
-    // The type that is declared for a rule, or this one.
-    fn value_or(&self, rule: &str, otherwise: &str) -> Result<String, AllocError> {
-        let place = self.types.get(rule).copied();
-        let value = match place.and_then(|place| self.values.get(place)) {
-            Some(value) => word_at(self.text, *value),
-            None => otherwise,
-        };
-        String::from_str(self.alloc, value)
+    // The grammar, if each name that a declaration has for a rule is one.
+    fn finish(self, start: Option<Span>) -> Result<TypedGrammar, TypedFault>
+        requires { IsSound self }
+        ensures rules { IfOk result (λ g. g.rules ≡ self.entry.grammar.rules) }
+        ensures tokens { IfOk result (λ g. g.tokens ≡ self.entry.grammar.tokens) }
+        ensures start { IfOk result (λ g. IsStart self.entry.text.now start (rule_names self.entry.grammar) g.start) }
+    {
+        for (rule, place) in &self.types.places {
+            if let (false, Some(value)) = (
+                self.rules.contains_key(*rule),
+                self.types.values.get(*place),
+            ) {
+                return Err(TypedFault::Grammar(GrammarFault::UnknownRule(*value)));
+            }
+        }
+        if self.grammar.rules.is_empty() {
+            return Err(TypedFault::Grammar(GrammarFault::NoRules));
+        }
+        let start = self.start_rule(start)?;
+        let Expander { grammar, .. } = self;
+        Ok(TypedGrammar { start, ..grammar })
     }
 
-    // The grammar, if each name that a declaration has for a rule is one.
-    fn finish(self, start: Option<Span>) -> Result<TypedGrammar, TypedFault> {
-        let Expander {
-            text,
-            grammar,
-            rules,
-            values,
-            types,
-            ..
-        } = self;
-        let mut grammar = grammar;
-        for (rule, place) in &types {
-            if let (false, Some(value)) = (rules.contains_key(*rule), values.get(*place)) {
-                return Err(TypedFault::UnknownRule(*value));
-            }
+    // The start rule: the one whose name is here, or the first one.
+    fn start_rule(&self, start: Option<Span>) -> Result<RIdx<u32>, Refusal>
+        requires { IsSound self.now }
+        ensures { IfOk result (IsStart self.now.text.now start (rule_names self.now.grammar)) }
+    {
+        let Some(name) = start else {
+            return Ok(RIdx(1));
+        };
+        match self.rules.get(word_at(self.text, name)) {
+            Some(place) => rule_number(*place),
+            None => Err(Refusal::UnknownRule(name)),
         }
-        if grammar.rules.is_empty() {
-            return Err(TypedFault::NoRules);
-        }
-        if let Some(word) = start {
-            let place = rules
-                .get(word_at(text, word))
-                .ok_or(TypedFault::UnknownRule(word))?;
-            if let Symbol::Rule(ridx) = rule_symbol(*place)? {
-                grammar.start = ridx;
-            }
-        }
-        Ok(grammar)
     }
 }
 
 // The symbol of the rule at this place.
-fn rule_symbol(place: usize) -> Result<Symbol<u32>, TypedFault> {
+fn rule_symbol(place: usize) -> Result<Symbol<u32>, Refusal>
+    ensures { IfOk result (λ symbol. symbol ≡ spec.rule_symbol place) }
+{
+    Ok(Symbol::Rule(rule_number(place)?))
+}
+
+// The number of the rule at this place.
+fn rule_number(place: usize) -> Result<RIdx<u32>, Refusal>
+    ensures { IfOk result (λ rule. rule.0 ≡ place + 1) }
+{
     match u32::try_from(place)
         .ok()
         .and_then(|place| place.checked_add(1))
     {
-        Some(number) => Ok(Symbol::Rule(RIdx(number))),
-        None => Err(TypedFault::TooMany),
+        Some(number) => Ok(RIdx(number)),
+        None => Err(Refusal::TooMany),
     }
 }
 

@@ -1,7 +1,7 @@
 //! Typed grammars as they are written. Words are places in the text; of what is in quotes or brackets, that within them.
 use lrpar_grammar::span::Span;
 
-/// How many groups may be in one another.
+/// How many groups may be in one another: the notation refuses more, so that what goes down a file needs a bounded stack.
 pub const MAX_DEPTH: usize = 100;
 
 /// A symbol as it is written.
@@ -69,7 +69,7 @@ pub struct Label {
 #[cycle(alternatives)]
 #[derive(Drop)]
 pub struct Part {
-    /// The symbol, or what stands for one.
+    /// What is there.
     pub item: Item,
     /// The name of its value.
     pub name: Option<Span>,

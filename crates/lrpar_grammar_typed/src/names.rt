@@ -1,10 +1,10 @@
-//! Names of what is made of a grammar: of rules for lists, and of tokens whose texts are signs.
+//! Names of what is made of a grammar: of rules for lists, and of tokens whose texts are no words.
 use crate::typed::{Form, TypedGrammar};
 use lrpar_grammar::span::Symbol;
 use std::alloc::{AllocError, Global};
 
-// The names of signs.
-const SIGNS: [(char, &str); 32] = [
+// The names of characters.
+const CHAR_NAMES: [(char, &str); 32] = [
     ('!', "bang"),
     ('"', "double_quote"),
     ('#', "hash"),
@@ -80,31 +80,31 @@ fn push_named(
     name.push_str(end)
 }
 
-/// Appends the word that a token is called by in code: its text, where signs are named, as `left_paren`.
+/// Appends the word that a token is called by in code: its text, in which each other character than a letter or a digit has a name, as `left_paren`.
 pub fn push_word(name: &mut String, text: &str) -> Result<(), AllocError> {
     let mut is_open = false;
-    for sign in text.chars() {
-        if sign.is_ascii_alphanumeric() || sign == '_' {
+    for letter in text.chars() {
+        if letter.is_ascii_alphanumeric() || letter == '_' {
             if is_open {
                 name.push('_')?;
             }
             is_open = false;
-            name.push(sign)?;
+            name.push(letter)?;
         } else {
             if !name.is_empty() && !name.ends_with('_') {
                 name.push('_')?;
             }
-            push_sign(name, sign)?;
+            push_char_name(name, letter)?;
             is_open = true;
         }
     }
     Ok(())
 }
 
-// Appends the name of a sign.
-fn push_sign(name: &mut String, sign: char) -> Result<(), AllocError> {
-    match SIGNS.iter().find(|named| named.0 == sign) {
+// Appends the name of a character.
+fn push_char_name(name: &mut String, letter: char) -> Result<(), AllocError> {
+    match CHAR_NAMES.iter().find(|named| named.0 == letter) {
         Some(named) => name.push_str(named.1),
-        None => write!(name, "u{number:x}", number = u32::from(sign)),
+        None => write!(name, "u{number:x}", number = u32::from(letter)),
     }
 }

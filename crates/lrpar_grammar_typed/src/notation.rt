@@ -151,7 +151,7 @@ impl Actions for Reader {
 
     fn file(
         &self,
-        _at: &At<'_, '_, '_>,
+        _at: At<'_, '_>,
         declarations: Vec<Declaration>,
         rules: Vec<Rule>,
     ) -> Result<File, NotationFault> {
@@ -161,25 +161,17 @@ impl Actions for Reader {
         })
     }
 
-    fn declare_use(
-        &self,
-        _at: &At<'_, '_, '_>,
-        path: Token<u32>,
-    ) -> Result<Declaration, NotationFault> {
+    fn declare_use(&self, _at: At<'_, '_>, path: Token<u32>) -> Result<Declaration, NotationFault> {
         Ok(Declaration::Use(within(path.span(), 4)))
     }
 
-    fn declare_start(
-        &self,
-        _at: &At<'_, '_, '_>,
-        name: Span,
-    ) -> Result<Declaration, NotationFault> {
+    fn declare_start(&self, _at: At<'_, '_>, name: Span) -> Result<Declaration, NotationFault> {
         Ok(Declaration::Start(name))
     }
 
     fn declare_tokens(
         &self,
-        _at: &At<'_, '_, '_>,
+        _at: At<'_, '_>,
         symbols: Vec<Mention>,
     ) -> Result<Declaration, NotationFault> {
         Ok(Declaration::Tokens(symbols))
@@ -187,7 +179,7 @@ impl Actions for Reader {
 
     fn declare_type(
         &self,
-        at: &At<'_, '_, '_>,
+        at: At<'_, '_>,
         value: Token<u32>,
         rules: Vec<Span>,
     ) -> Result<Declaration, NotationFault> {
@@ -196,7 +188,7 @@ impl Actions for Reader {
 
     fn rule(
         &self,
-        _at: &At<'_, '_, '_>,
+        _at: At<'_, '_>,
         name: Span,
         alternatives: Vec<Alternative>,
     ) -> Result<Rule, NotationFault> {
@@ -205,7 +197,7 @@ impl Actions for Reader {
 
     fn alternative(
         &self,
-        at: &At<'_, '_, '_>,
+        at: At<'_, '_>,
         parts: Vec<Part>,
         label: Option<Label>,
     ) -> Result<Alternative, NotationFault> {
@@ -216,13 +208,13 @@ impl Actions for Reader {
         })
     }
 
-    fn label(&self, _at: &At<'_, '_, '_>, name: Span) -> Result<Label, NotationFault> {
+    fn label(&self, _at: At<'_, '_>, name: Span) -> Result<Label, NotationFault> {
         Ok(Label { name, kind: None })
     }
 
     fn label_of_kind(
         &self,
-        at: &At<'_, '_, '_>,
+        at: At<'_, '_>,
         name: Span,
         kind: Token<u32>,
     ) -> Result<Label, NotationFault> {
@@ -232,23 +224,18 @@ impl Actions for Reader {
         })
     }
 
-    fn part(&self, _at: &At<'_, '_, '_>, item: Item) -> Result<Part, NotationFault> {
+    fn part(&self, _at: At<'_, '_>, item: Item) -> Result<Part, NotationFault> {
         Ok(Part { item, name: None })
     }
 
-    fn named_part(
-        &self,
-        _at: &At<'_, '_, '_>,
-        item: Item,
-        name: Span,
-    ) -> Result<Part, NotationFault> {
+    fn named_part(&self, _at: At<'_, '_>, item: Item, name: Span) -> Result<Part, NotationFault> {
         Ok(Part {
             item,
             name: Some(name),
         })
     }
 
-    fn symbol_item(&self, at: &At<'_, '_, '_>, symbol: Mention) -> Result<Item, NotationFault> {
+    fn symbol_item(&self, at: At<'_, '_>, symbol: Mention) -> Result<Item, NotationFault> {
         Ok(Item {
             atom: Atom::Symbol(symbol),
             repeats: Vec::new(at.alloc),
@@ -257,11 +244,7 @@ impl Actions for Reader {
         })
     }
 
-    fn group(
-        &self,
-        at: &At<'_, '_, '_>,
-        alternatives: Vec<Alternative>,
-    ) -> Result<Item, NotationFault> {
+    fn group(&self, at: At<'_, '_>, alternatives: Vec<Alternative>) -> Result<Item, NotationFault> {
         let depth = depth_of(&alternatives);
         if depth >= MAX_DEPTH {
             return Err(NotationFault::TooDeep(at.range.span()));
@@ -276,7 +259,7 @@ impl Actions for Reader {
 
     fn repeated(
         &self,
-        at: &At<'_, '_, '_>,
+        at: At<'_, '_>,
         mut item: Item,
         repeat: Repeat,
     ) -> Result<Item, NotationFault> {
@@ -285,45 +268,41 @@ impl Actions for Reader {
         Ok(item)
     }
 
-    fn zero_or_more(&self, _at: &At<'_, '_, '_>) -> Result<Repeat, NotationFault> {
+    fn zero_or_more(&self, _at: At<'_, '_>) -> Result<Repeat, NotationFault> {
         Ok(Repeat::ZeroOrMore)
     }
 
-    fn one_or_more(&self, _at: &At<'_, '_, '_>) -> Result<Repeat, NotationFault> {
+    fn one_or_more(&self, _at: At<'_, '_>) -> Result<Repeat, NotationFault> {
         Ok(Repeat::OneOrMore)
     }
 
-    fn optional(&self, _at: &At<'_, '_, '_>) -> Result<Repeat, NotationFault> {
+    fn optional(&self, _at: At<'_, '_>) -> Result<Repeat, NotationFault> {
         Ok(Repeat::Optional)
     }
 
-    fn separated(&self, _at: &At<'_, '_, '_>, separator: Mention) -> Result<Repeat, NotationFault> {
+    fn separated(&self, _at: At<'_, '_>, separator: Mention) -> Result<Repeat, NotationFault> {
         Ok(Repeat::Separated(separator))
     }
 
-    fn terminated(
-        &self,
-        _at: &At<'_, '_, '_>,
-        separator: Mention,
-    ) -> Result<Repeat, NotationFault> {
+    fn terminated(&self, _at: At<'_, '_>, separator: Mention) -> Result<Repeat, NotationFault> {
         Ok(Repeat::Terminated(separator))
     }
 
-    fn name(&self, _at: &At<'_, '_, '_>, name: Span) -> Result<Mention, NotationFault> {
+    fn name(&self, _at: At<'_, '_>, name: Span) -> Result<Mention, NotationFault> {
         Ok(Mention {
             name,
             is_quoted: false,
         })
     }
 
-    fn quoted(&self, at: &At<'_, '_, '_>, text: Token<u32>) -> Result<Mention, NotationFault> {
+    fn quoted(&self, at: At<'_, '_>, text: Token<u32>) -> Result<Mention, NotationFault> {
         Ok(Mention {
             name: within(text.span(), 1),
             is_quoted: true,
         })
     }
 
-    fn word(&self, at: &At<'_, '_, '_>, word: Token<u32>) -> Result<Span, NotationFault> {
+    fn word(&self, at: At<'_, '_>, word: Token<u32>) -> Result<Span, NotationFault> {
         Ok(word.span())
     }
 }

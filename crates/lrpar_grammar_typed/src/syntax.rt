@@ -1,9 +1,11 @@
 //! The syntax of a language: made of its grammar by `nimbleparse --rust`. Edit the grammar, and make it again.
 //!
-//! Checksum of the grammar: dbb9c29590084f53
+//! SHA-1 of the grammar: bc151e4baf156ba0209b4c1546d72cfa0f2e88fc
 ghost use Rattle.std.specs.Prelude.{◌<◌, ◌≤◌, ◌↔◌, IfOk, IsTrue, length};
-ghost use Rattle.lrpar_typed.specs.Rows.{AreOfRow, AreRowsOf, IsOfRow, IsRuleNext, IsTaken, TakesRow};
-ghost use Rattle.lrpar_grammar_typed.specs.Syntax.{rule_of};
+ghost use Rattle.lrpar_typed.specs.Rows.{AllHold, AreOfRow, AreRowsOf, IsOfRow, IsRuleNext, IsTaken, TakesRow};
+ghost use Rattle.lrpar_typed.specs.TypedParse.{ValueHolds};
+ghost use Rattle.lrpar_grammar_typed.specs.Syntax.{HoldsOf, rule_of};
+ghost use Rattle.lrpar_grammar_typed.specs.declared.syntax.RuleValue.{RuleValue};
 ghost use Rattle.lrpar_grammar_typed.specs.declared.syntax.TheConstants.{ROWS};
 
 use crate::file::{Alternative, Declaration, File, Item, Label, Mention, Part, Repeat, Rule};
@@ -153,9 +155,9 @@ pub(crate) mod tokens {
 
 /// The allocator, the lexer, and where a production is.
 #[derive(Clone, Copy)]
-pub(crate) struct At<'a, 'rules, 'text> {
+pub(crate) struct At<'a, 'text> {
     pub(crate) alloc: Global,
-    pub(crate) lexer: &'a RuleLexer<'rules, 'text>,
+    pub(crate) lexer: &'a RuleLexer<'a, 'text>,
     pub(crate) range: lrpar_typed::TextRange,
 }
 
@@ -164,113 +166,142 @@ pub(crate) trait Actions {
     /// Why a text has no value.
     type Error: Drop + From<lrpar_typed::ParseFault> + From<AllocError>;
 
+    /// What holds of each value: an action may use it of what it is passed, and shows it of its value. So it holds of the value of a parse.
+    /// Values of one type are those of the first rule that has it. Who claims nothing of values leaves it out.
+    ghost holds: { Self → RuleValue → Type 0 } = { λ _ _. Unit {0} };
+
     /// `File: HEADER_option Declaration_list '%%' Rule_list`
     fn file(
         &self,
-        at: &At<'_, '_, '_>,
+        at: At<'_, '_>,
         declarations: Vec<Declaration>,
         rules: Vec<Rule>,
-    ) -> Result<File, Self::Error>;
+    ) -> Result<File, Self::Error>
+        requires { HoldsOf (holds self.now) (RuleValue.DeclarationList declarations) × HoldsOf (holds self.now) (RuleValue.RuleList rules) }
+        ensures { IfOk result (λ made. HoldsOf (holds self.now) (RuleValue.File made)) };
 
     /// `Declaration: 'USE'`
-    fn declare_use(
-        &self,
-        at: &At<'_, '_, '_>,
-        path: Token<u32>,
-    ) -> Result<Declaration, Self::Error>;
+    fn declare_use(&self, at: At<'_, '_>, path: Token<u32>) -> Result<Declaration, Self::Error>
+        ensures { IfOk result (λ made. HoldsOf (holds self.now) (RuleValue.Declaration made)) };
 
     /// `Declaration: '%start' Name`
-    fn declare_start(&self, at: &At<'_, '_, '_>, name: Span) -> Result<Declaration, Self::Error>;
+    fn declare_start(&self, at: At<'_, '_>, name: Span) -> Result<Declaration, Self::Error>
+        requires { HoldsOf (holds self.now) (RuleValue.Name name) }
+        ensures { IfOk result (λ made. HoldsOf (holds self.now) (RuleValue.Declaration made)) };
 
     /// `Declaration: '%token' Symbol_some`
     fn declare_tokens(
         &self,
-        at: &At<'_, '_, '_>,
+        at: At<'_, '_>,
         symbols: Vec<Mention>,
-    ) -> Result<Declaration, Self::Error>;
+    ) -> Result<Declaration, Self::Error>
+        requires { HoldsOf (holds self.now) (RuleValue.SymbolSome symbols) }
+        ensures { IfOk result (λ made. HoldsOf (holds self.now) (RuleValue.Declaration made)) };
 
     /// `Declaration: '%type' 'TYPE' Name_some`
     fn declare_type(
         &self,
-        at: &At<'_, '_, '_>,
+        at: At<'_, '_>,
         value: Token<u32>,
         rules: Vec<Span>,
-    ) -> Result<Declaration, Self::Error>;
+    ) -> Result<Declaration, Self::Error>
+        requires { HoldsOf (holds self.now) (RuleValue.NameSome rules) }
+        ensures { IfOk result (λ made. HoldsOf (holds self.now) (RuleValue.Declaration made)) };
 
     /// `Rule: Name ':' Alternative_by_or ';'`
     fn rule(
         &self,
-        at: &At<'_, '_, '_>,
+        at: At<'_, '_>,
         name: Span,
         alternatives: Vec<Alternative>,
-    ) -> Result<Rule, Self::Error>;
+    ) -> Result<Rule, Self::Error>
+        requires { HoldsOf (holds self.now) (RuleValue.Name name) × HoldsOf (holds self.now) (RuleValue.AlternativeByOr alternatives) }
+        ensures { IfOk result (λ made. HoldsOf (holds self.now) (RuleValue.Rule made)) };
 
     /// `Alternative: Part_list Label_option`
     fn alternative(
         &self,
-        at: &At<'_, '_, '_>,
+        at: At<'_, '_>,
         parts: Vec<Part>,
         label: Option<Label>,
-    ) -> Result<Alternative, Self::Error>;
+    ) -> Result<Alternative, Self::Error>
+        requires { HoldsOf (holds self.now) (RuleValue.PartList parts) × HoldsOf (holds self.now) (RuleValue.LabelOption label) }
+        ensures { IfOk result (λ made. HoldsOf (holds self.now) (RuleValue.Alternative made)) };
 
     /// `Label: '#' Name`
-    fn label(&self, at: &At<'_, '_, '_>, name: Span) -> Result<Label, Self::Error>;
+    fn label(&self, at: At<'_, '_>, name: Span) -> Result<Label, Self::Error>
+        requires { HoldsOf (holds self.now) (RuleValue.Name name) }
+        ensures { IfOk result (λ made. HoldsOf (holds self.now) (RuleValue.Label made)) };
 
     /// `Label: '#' Name '(' 'PATH' ')'`
     fn label_of_kind(
         &self,
-        at: &At<'_, '_, '_>,
+        at: At<'_, '_>,
         name: Span,
         kind: Token<u32>,
-    ) -> Result<Label, Self::Error>;
+    ) -> Result<Label, Self::Error>
+        requires { HoldsOf (holds self.now) (RuleValue.Name name) }
+        ensures { IfOk result (λ made. HoldsOf (holds self.now) (RuleValue.Label made)) };
 
     /// `Part: Item`
-    fn part(&self, at: &At<'_, '_, '_>, item: Item) -> Result<Part, Self::Error>;
+    fn part(&self, at: At<'_, '_>, item: Item) -> Result<Part, Self::Error>
+        requires { HoldsOf (holds self.now) (RuleValue.Item item) }
+        ensures { IfOk result (λ made. HoldsOf (holds self.now) (RuleValue.Part made)) };
 
     /// `Part: Item '[' Name ']'`
-    fn named_part(&self, at: &At<'_, '_, '_>, item: Item, name: Span) -> Result<Part, Self::Error>;
+    fn named_part(&self, at: At<'_, '_>, item: Item, name: Span) -> Result<Part, Self::Error>
+        requires { HoldsOf (holds self.now) (RuleValue.Item item) × HoldsOf (holds self.now) (RuleValue.Name name) }
+        ensures { IfOk result (λ made. HoldsOf (holds self.now) (RuleValue.Part made)) };
 
     /// `Item: Symbol`
-    fn symbol_item(&self, at: &At<'_, '_, '_>, symbol: Mention) -> Result<Item, Self::Error>;
+    fn symbol_item(&self, at: At<'_, '_>, symbol: Mention) -> Result<Item, Self::Error>
+        requires { HoldsOf (holds self.now) (RuleValue.Symbol symbol) }
+        ensures { IfOk result (λ made. HoldsOf (holds self.now) (RuleValue.Item made)) };
 
     /// `Item: '(' Alternative_by_or ')'`
-    fn group(
-        &self,
-        at: &At<'_, '_, '_>,
-        alternatives: Vec<Alternative>,
-    ) -> Result<Item, Self::Error>;
+    fn group(&self, at: At<'_, '_>, alternatives: Vec<Alternative>) -> Result<Item, Self::Error>
+        requires { HoldsOf (holds self.now) (RuleValue.AlternativeByOr alternatives) }
+        ensures { IfOk result (λ made. HoldsOf (holds self.now) (RuleValue.Item made)) };
 
     /// `Item: Item Repeat`
-    fn repeated(
-        &self,
-        at: &At<'_, '_, '_>,
-        item: Item,
-        repeat: Repeat,
-    ) -> Result<Item, Self::Error>;
+    fn repeated(&self, at: At<'_, '_>, item: Item, repeat: Repeat) -> Result<Item, Self::Error>
+        requires { HoldsOf (holds self.now) (RuleValue.Item item) × HoldsOf (holds self.now) (RuleValue.Repeat repeat) }
+        ensures { IfOk result (λ made. HoldsOf (holds self.now) (RuleValue.Item made)) };
 
     /// `Repeat: '*'`
-    fn zero_or_more(&self, at: &At<'_, '_, '_>) -> Result<Repeat, Self::Error>;
+    fn zero_or_more(&self, at: At<'_, '_>) -> Result<Repeat, Self::Error>
+        ensures { IfOk result (λ made. HoldsOf (holds self.now) (RuleValue.Repeat made)) };
 
     /// `Repeat: '+'`
-    fn one_or_more(&self, at: &At<'_, '_, '_>) -> Result<Repeat, Self::Error>;
+    fn one_or_more(&self, at: At<'_, '_>) -> Result<Repeat, Self::Error>
+        ensures { IfOk result (λ made. HoldsOf (holds self.now) (RuleValue.Repeat made)) };
 
     /// `Repeat: '?'`
-    fn optional(&self, at: &At<'_, '_, '_>) -> Result<Repeat, Self::Error>;
+    fn optional(&self, at: At<'_, '_>) -> Result<Repeat, Self::Error>
+        ensures { IfOk result (λ made. HoldsOf (holds self.now) (RuleValue.Repeat made)) };
 
     /// `Repeat: '%' Symbol`
-    fn separated(&self, at: &At<'_, '_, '_>, separator: Mention) -> Result<Repeat, Self::Error>;
+    fn separated(&self, at: At<'_, '_>, separator: Mention) -> Result<Repeat, Self::Error>
+        requires { HoldsOf (holds self.now) (RuleValue.Symbol separator) }
+        ensures { IfOk result (λ made. HoldsOf (holds self.now) (RuleValue.Repeat made)) };
 
     /// `Repeat: '%?' Symbol`
-    fn terminated(&self, at: &At<'_, '_, '_>, separator: Mention) -> Result<Repeat, Self::Error>;
+    fn terminated(&self, at: At<'_, '_>, separator: Mention) -> Result<Repeat, Self::Error>
+        requires { HoldsOf (holds self.now) (RuleValue.Symbol separator) }
+        ensures { IfOk result (λ made. HoldsOf (holds self.now) (RuleValue.Repeat made)) };
 
     /// `Symbol: Name`
-    fn name(&self, at: &At<'_, '_, '_>, name: Span) -> Result<Mention, Self::Error>;
+    fn name(&self, at: At<'_, '_>, name: Span) -> Result<Mention, Self::Error>
+        requires { HoldsOf (holds self.now) (RuleValue.Name name) }
+        ensures { IfOk result (λ made. HoldsOf (holds self.now) (RuleValue.Symbol made)) };
 
     /// `Symbol: 'QUOTED'`
-    fn quoted(&self, at: &At<'_, '_, '_>, text: Token<u32>) -> Result<Mention, Self::Error>;
+    fn quoted(&self, at: At<'_, '_>, text: Token<u32>) -> Result<Mention, Self::Error>
+        ensures { IfOk result (λ made. HoldsOf (holds self.now) (RuleValue.Symbol made)) };
 
     /// `Name: 'NAME'`
-    fn word(&self, at: &At<'_, '_, '_>, word: Token<u32>) -> Result<Span, Self::Error>;
+    fn word(&self, at: At<'_, '_>, word: Token<u32>) -> Result<Span, Self::Error>
+        ensures { IfOk result (λ made. HoldsOf (holds self.now) (RuleValue.Name made)) };
 }
 
 /// The value of a rule.
@@ -367,6 +398,8 @@ impl<'a, 'rules, 'text, A: Actions> Typed<u32, Token<u32>, RuleLexer<'rules, 'te
 
     ghost gives = { λ _ _ _ _. Unit {0} };
 
+    ghost holds = { λ acting. HoldsOf (A.holds acting.actions.now) };
+
     fn takes(
         &self,
         pidx: lrpar_typed::PIdx<u32>,
@@ -386,8 +419,10 @@ impl<'a, 'rules, 'text, A: Actions> Typed<u32, Token<u32>, RuleLexer<'rules, 'te
     ) -> Result<RuleValue, A::Error>
         requires within { production < length ROWS }
         requires fits { AreOfRow (λ n. n) ⟦<Token<u32> as Lexeme<u32>>⟧.parts rule_of ROWS production args.old }
+        requires hold { AllHold (HoldsOf (A.holds self.now.actions.now)) args.old.left }
         ensures rule { IsOfRow rule_of ROWS production result }
         ensures gives { Unit {0} }
+        ensures holds { IfOk result (HoldsOf (A.holds self.now.actions.now)) }
     {
         let at = At {
             alloc,
@@ -395,29 +430,31 @@ impl<'a, 'rules, 'text, A: Actions> Typed<u32, Token<u32>, RuleLexer<'rules, 'te
             range: lrpar_typed::TextRange::from(args.span()),
         };
         if production < 8 {
-            make_from_0(self.actions, &at, production, args)
+            make_from_0(self.actions, at, production, args)
         } else if production < 16 {
-            make_from_8(self.actions, &at, production, args)
+            make_from_8(self.actions, at, production, args)
         } else if production < 24 {
-            make_from_16(self.actions, &at, production, args)
+            make_from_16(self.actions, at, production, args)
         } else if production < 32 {
-            make_from_24(self.actions, &at, production, args)
+            make_from_24(self.actions, at, production, args)
         } else {
-            make_from_32(self.actions, &at, production, args)
+            make_from_32(self.actions, at, production, args)
         }
     }
 }
 
 // The values of productions 0 to 7.
-fn make_from_0<'rules, 'text, A: Actions>(
+fn make_from_0<'text, A: Actions>(
     actions: &A,
-    at: &At<'_, 'rules, 'text>,
+    at: At<'_, 'text>,
     production: usize,
-    args: &mut RuleArgs<'_, 'rules, 'text, A::Error>,
+    args: &mut RuleArgs<'_, '_, 'text, A::Error>,
 ) -> Result<RuleValue, A::Error>
     requires high { production < 8 }
     requires fits { AreOfRow (λ n. n) ⟦<Token<u32> as Lexeme<u32>>⟧.parts rule_of ROWS production args.old }
-    ensures { IsOfRow rule_of ROWS production result }
+    requires hold { AllHold (HoldsOf (A.holds actions.now)) args.old.left }
+    ensures rule { IsOfRow rule_of ROWS production result }
+    ensures holds { IfOk result (HoldsOf (A.holds actions.now)) }
 {
     match production {
         // File: HEADER_option Declaration_list '%%' Rule_list
@@ -485,16 +522,18 @@ fn make_from_0<'rules, 'text, A: Actions>(
 }
 
 // The values of productions 8 to 15.
-fn make_from_8<'rules, 'text, A: Actions>(
+fn make_from_8<'text, A: Actions>(
     actions: &A,
-    at: &At<'_, 'rules, 'text>,
+    at: At<'_, 'text>,
     production: usize,
-    args: &mut RuleArgs<'_, 'rules, 'text, A::Error>,
+    args: &mut RuleArgs<'_, '_, 'text, A::Error>,
 ) -> Result<RuleValue, A::Error>
     requires low { 8 ≤ production }
     requires high { production < 16 }
     requires fits { AreOfRow (λ n. n) ⟦<Token<u32> as Lexeme<u32>>⟧.parts rule_of ROWS production args.old }
-    ensures { IsOfRow rule_of ROWS production result }
+    requires hold { AllHold (HoldsOf (A.holds actions.now)) args.old.left }
+    ensures rule { IsOfRow rule_of ROWS production result }
+    ensures holds { IfOk result (HoldsOf (A.holds actions.now)) }
 {
     match production {
         // Label: '#' Name '(' 'PATH' ')'
@@ -560,16 +599,18 @@ fn make_from_8<'rules, 'text, A: Actions>(
 }
 
 // The values of productions 16 to 23.
-fn make_from_16<'rules, 'text, A: Actions>(
+fn make_from_16<'text, A: Actions>(
     actions: &A,
-    at: &At<'_, 'rules, 'text>,
+    at: At<'_, 'text>,
     production: usize,
-    args: &mut RuleArgs<'_, 'rules, 'text, A::Error>,
+    args: &mut RuleArgs<'_, '_, 'text, A::Error>,
 ) -> Result<RuleValue, A::Error>
     requires low { 16 ≤ production }
     requires high { production < 24 }
     requires fits { AreOfRow (λ n. n) ⟦<Token<u32> as Lexeme<u32>>⟧.parts rule_of ROWS production args.old }
-    ensures { IsOfRow rule_of ROWS production result }
+    requires hold { AllHold (HoldsOf (A.holds actions.now)) args.old.left }
+    ensures rule { IsOfRow rule_of ROWS production result }
+    ensures holds { IfOk result (HoldsOf (A.holds actions.now)) }
 {
     match production {
         // Repeat: '?'
@@ -622,16 +663,18 @@ fn make_from_16<'rules, 'text, A: Actions>(
 }
 
 // The values of productions 24 to 31.
-fn make_from_24<'rules, 'text, A: Actions>(
+fn make_from_24<'text, A: Actions>(
     actions: &A,
-    at: &At<'_, 'rules, 'text>,
+    at: At<'_, 'text>,
     production: usize,
-    args: &mut RuleArgs<'_, 'rules, 'text, A::Error>,
+    args: &mut RuleArgs<'_, '_, 'text, A::Error>,
 ) -> Result<RuleValue, A::Error>
     requires low { 24 ≤ production }
     requires high { production < 32 }
     requires fits { AreOfRow (λ n. n) ⟦<Token<u32> as Lexeme<u32>>⟧.parts rule_of ROWS production args.old }
-    ensures { IsOfRow rule_of ROWS production result }
+    requires hold { AllHold (HoldsOf (A.holds actions.now)) args.old.left }
+    ensures rule { IsOfRow rule_of ROWS production result }
+    ensures holds { IfOk result (HoldsOf (A.holds actions.now)) }
 {
     match production {
         // Declaration_list:
@@ -677,16 +720,18 @@ fn make_from_24<'rules, 'text, A: Actions>(
 }
 
 // The values of productions 32 to 37.
-fn make_from_32<'rules, 'text, A: Actions>(
+fn make_from_32<'text, A: Actions>(
     actions: &A,
-    at: &At<'_, 'rules, 'text>,
+    at: At<'_, 'text>,
     production: usize,
-    args: &mut RuleArgs<'_, 'rules, 'text, A::Error>,
+    args: &mut RuleArgs<'_, '_, 'text, A::Error>,
 ) -> Result<RuleValue, A::Error>
     requires low { 32 ≤ production }
     requires high { production < 38 }
     requires fits { AreOfRow (λ n. n) ⟦<Token<u32> as Lexeme<u32>>⟧.parts rule_of ROWS production args.old }
-    ensures { IsOfRow rule_of ROWS production result }
+    requires hold { AllHold (HoldsOf (A.holds actions.now)) args.old.left }
+    ensures rule { IsOfRow rule_of ROWS production result }
+    ensures holds { IfOk result (HoldsOf (A.holds actions.now)) }
 {
     match production {
         // Alternative_by_or: Alternative
@@ -924,7 +969,7 @@ pub(crate) type Parsed<ValueT, ErrorT> = Result<
     ErrorT,
 >;
 
-/// Parses a text to the value of `File`.
+/// Parses a text to the value of `File`. What holds of values by the actions holds of it.
 pub(crate) fn parse_file<R: Recoverer<u32, Token<u32>> + Drop, A: Actions>(
     alloc: Global,
     parser: &lrpar_typed::RTParserBuilder<'_, u32, TokenTypes<u32>, R>,
@@ -932,6 +977,7 @@ pub(crate) fn parse_file<R: Recoverer<u32, Token<u32>> + Drop, A: Actions>(
     actions: &A,
 ) -> Parsed<File, A::Error>
     requires { AreRowsOf ROWS 1 parser.now.checked.grammar }
+    ensures { IfOk result (ValueHolds (λ v. HoldsOf (A.holds actions.now) (RuleValue.File v))) }
 {
     let (value, errors) = lrpar_typed::parse_typed(parser, alloc, lexer, &Acting { actions })?;
     match value {

@@ -1,7 +1,14 @@
 //! Typed grammars as they are expanded: rules with types, and productions with what makes their values.
+ghost use Rattle.std.specs.Prelude.{◌≡◌, ◌+◌, ◌<◌, ◌^◌, ◌++◌, IfOk, OnOk, length, map, vec_len};
+ghost use Rattle.lrpar_grammar_reader.specs.Parts.{prod_of};
+ghost use Rattle.lrpar_grammar_typed.specs.PartsOf.{AreProductionsOf, AreRulesOf, AreTokensOf, IsProdPartOf, production_of};
+ghost use Rattle.lrpar_grammar_typed.specs.Words.{IsWordAt};
+
 use crate::file::Label;
+use lrpar_grammar::grammar::GrammarFault;
 use lrpar_grammar::span::{RIdx, Span, Symbol, TIdx};
 use lrpar_grammar_reader::parts::{GrammarParts, ProdPart, RulePart, TokenPart};
+use lrpar_lexer::part_of;
 use std::alloc::{AllocError, Global};
 use thiserror::Error;
 
@@ -105,18 +112,10 @@ pub enum Making {
 /// Why a typed grammar as it is written has no meaning.
 #[derive(Clone, Debug, Drop, PartialEq, Eq, Error)]
 pub enum TypedFault {
-    /// No rule is written.
-    #[error("no rules")]
-    NoRules,
-    /// A name that is no rule, where one must be, or neither a rule nor a declared token.
-    #[error("unknown rule at byte {at}", at = .0.start())]
-    UnknownRule(Span),
-    /// A token has the name of a rule.
-    #[error("token is a rule at byte {at}", at = .0.start())]
-    TokenIsRule(Span),
-    /// A second `%start`.
-    #[error("repeated %start at byte {at}", at = .0.start())]
-    RepeatedStart(Span),
+    /// What may be wrong with any grammar: no rules, a name that is no rule and no declared token, a token with the name of a rule, a second
+    /// `%start`, or too many rules or tokens.
+    #[error("{0}")]
+    Grammar(#[from] GrammarFault),
     /// A second `%type` of a rule.
     #[error("repeated %type at byte {at}", at = .0.start())]
     RepeatedType(Span),
@@ -126,9 +125,6 @@ pub enum TypedFault {
     /// Groups are in too many groups.
     #[error("too many groups in one another at byte {at}", at = .0.start())]
     TooDeep(Span),
-    /// There are more rules or tokens than can be numbered.
-    #[error("too many rules or tokens")]
-    TooMany,
     /// An allocation failed.
     #[error("out of memory")]
     Memory(#[from(alloc)] AllocError),
@@ -174,54 +170,47 @@ impl TypedGrammar {
         }
     }
 
-    /// The parts of the grammar.
-    pub fn parts(&self, alloc: Global) -> Result<GrammarParts<u32>, AllocError> {
-        let mut rules = Vec::with_capacity(alloc, self.rules.len())?;
-        let mut prods = Vec::new(alloc);
-        for (place, rule) in self.rules.iter().enumerate() {
-            let name = String::from_str(alloc, rule.name.as_str())?;
-            rules.push(RulePart {
-                name,
-                span: rule.span,
-            })?;
-            let number = u32::try_from(place).unwrap_or(u32::MAX).saturating_add(1);
-            for prod in &rule.prods {
-                prods.push(prod_part(alloc, RIdx(number), prod)?)?;
-            }
-        }
+    /// The parts of the grammar: its rules, tokens and productions, without types and values.
+    pub fn parts(&self, alloc: Global) -> Result<GrammarParts<u32>, AllocError>
+        ensures rules { IfOk result (λ parts. AreRulesOf self.now.rules.items parts.rules.items) }
+        ensures tokens { IfOk result (λ parts. AreTokensOf self.now.tokens.items parts.tokens.items) }
+        ensures prods { vec_len self.now.rules < 2 ^ 32 → IfOk result (λ parts. AreProductionsOf self.now.rules.items parts.prods.items) }
+        ensures start { IfOk result (λ parts. parts.start ≡ self.now.start) }
+    {
         Ok(GrammarParts {
-            rules,
+            rules: rule_parts(alloc, &self.rules)?,
             tokens: token_parts(alloc, &self.tokens)?,
-            prods,
+            prods: prod_parts(alloc, &self.rules)?,
             start: self.start,
         })
     }
 }
 
 /// The word at a place of the text.
-pub fn word_at(text: &str, span: Span) -> &str {
-    text.get(span.start()..span.end()).unwrap_or("").trim()
+pub fn word_at(text: &str, span: Span) -> &str
+    ensures { IsWordAt text.now span result.now }
+{
+    part_of(text, span).trim()
 }
 
-// The part of a production.
-fn prod_part(
-    alloc: Global,
-    rule: RIdx<u32>,
-    prod: &TypedProd,
-) -> Result<ProdPart<u32>, AllocError> {
-    let mut symbols = Vec::with_capacity(alloc, prod.symbols.len())?;
-    for symbol in &prod.symbols {
-        symbols.push((symbol.symbol, symbol.span))?;
+// The parts of rules.
+fn rule_parts(alloc: Global, rules: &[TypedRule]) -> Result<Vec<RulePart>, AllocError>
+    ensures { IfOk result (λ parts. AreRulesOf rules.now parts.items) }
+{
+    let mut parts = Vec::with_capacity(alloc, rules.len())?;
+    for rule in rules {
+        parts.push(RulePart {
+            name: String::from_str(alloc, rule.name.as_str())?,
+            span: rule.span,
+        })?;
     }
-    Ok(ProdPart {
-        rule,
-        symbols,
-        span: prod.span,
-    })
+    Ok(parts)
 }
 
 // The parts of tokens.
-fn token_parts(alloc: Global, tokens: &[TypedToken]) -> Result<Vec<TokenPart>, AllocError> {
+fn token_parts(alloc: Global, tokens: &[TypedToken]) -> Result<Vec<TokenPart>, AllocError>
+    ensures { IfOk result (λ parts. AreTokensOf tokens.now parts.items) }
+{
     let mut parts = Vec::with_capacity(alloc, tokens.len())?;
     for token in tokens {
         parts.push(TokenPart {
@@ -231,4 +220,53 @@ fn token_parts(alloc: Global, tokens: &[TypedToken]) -> Result<Vec<TokenPart>, A
         })?;
     }
     Ok(parts)
+}
+
+// The parts of the productions of rules.
+fn prod_parts(alloc: Global, rules: &[TypedRule]) -> Result<Vec<ProdPart<u32>>, AllocError>
+    ensures { length rules.now < 2 ^ 32 → IfOk result (λ parts. AreProductionsOf rules.now parts.items) }
+{
+    let mut parts = Vec::new(alloc);
+    for (place, rule) in rules.iter().enumerate() {
+        push_prods(alloc, &mut parts, RIdx(rule_number(place)), &rule.prods)?;
+    }
+    Ok(parts)
+}
+
+// The number of the rule at a place; past what can be numbered, the last number.
+fn rule_number(place: usize) -> u32
+    ensures { place + 1 < 2 ^ 32 → result ≡ place + 1 }
+{
+    u32::try_from(place).unwrap_or(u32::MAX).saturating_add(1)
+}
+
+// Appends the parts of the productions of this rule.
+fn push_prods(
+    alloc: Global,
+    parts: &mut Vec<ProdPart<u32>>,
+    rule: RIdx<u32>,
+    prods: &[TypedProd],
+) -> Result<(), AllocError>
+    ensures { OnOk result (map (prod_of (λ n. n)) parts.new.items
+        ≡ map (prod_of (λ n. n)) parts.old.items ++ map (production_of rule.0) prods.now) }
+{
+    for prod in prods {
+        parts.push(prod_part(alloc, rule, prod)?)?;
+    }
+    Ok(())
+}
+
+// The part of a production of this rule.
+fn prod_part(alloc: Global, rule: RIdx<u32>, prod: &TypedProd) -> Result<ProdPart<u32>, AllocError>
+    ensures { IfOk result (IsProdPartOf rule prod.now) }
+{
+    let mut symbols = Vec::with_capacity(alloc, prod.symbols.len())?;
+    for symbol in &prod.symbols {
+        symbols.push((symbol.symbol, symbol.span))?;
+    }
+    Ok(ProdPart {
+        rule,
+        symbols,
+        span: prod.span,
+    })
 }

@@ -81,10 +81,16 @@ pub record IsRow (rows : List (List ℕ)) (p r : ℕ) (symbols : List GrammarSym
   pub within : p < length rows
   pub same : row_at rows p ≡ rule_kind r ∷ map kind_of symbols
 
--- a value is of the rule, unless it is an error
-abbrev pub IsOfRule : {V E : Type 0} → (V → ℕ) → ℕ → Result V E → Type 0
-IsOfRule rule r (Ok v) = rule v ≡ r
-IsOfRule rule r (Err e) = Unit {0}
+-- a value is of the rule, and what holds of values holds of it, unless it is an error
+abbrev pub IsOfRule : {V E : Type 0} → (V → ℕ) → (V → Type 0) → ℕ → Result V E → Type 0
+IsOfRule rule holds r (Ok v) = (rule v ≡ r) × holds v
+IsOfRule rule holds r (Err e) = Unit {0}
+
+-- what holds of values holds of each value among the arguments
+abbrev pub AllHold : {X V : Type 0} → (V → Type 0) → List (AStackType X V) → Type 0
+AllHold holds [] = Unit {0}
+AllHold holds (Lexeme x ∷ args) = AllHold holds args
+AllHold holds (ActionType v ∷ args) = holds v × AllHold holds args
 
 -- the rows are the productions of the grammar but the start production, and this is its start rule
 pub record AreRowsOf (rows : List (List ℕ)) (start : ℕ) (g : Grammar) : Type 0 where
@@ -112,5 +118,5 @@ abbrev pub IsOfRow : {V E : Type 0} → (V → ℕ) → List (List ℕ) → ℕ 
 IsOfRow rule rows p result = IfOk result (λ v. rule_kind (rule v) ≡ rule_at rows p)
 
 -- the arguments of code fit the production of code, which is a row
-abbrev pub FitRow : {S X V E : Type 0} → (S → ℕ) → (X → LexemeParts S) → (V → ℕ) → List (List ℕ) → PIdx S → RIdx S → List (AStackType X (Result V E)) → Type 0
-FitRow index parts rule rows prod r args = AreArguments (token_by index parts) (IsOfRule rule) (IsRow rows (index prod.0) (index r.0)) args
+abbrev pub FitRow : {S X V E : Type 0} → (S → ℕ) → (X → LexemeParts S) → (V → ℕ) → (V → Type 0) → List (List ℕ) → PIdx S → RIdx S → List (AStackType X (Result V E)) → Type 0
+FitRow index parts rule holds rows prod r args = AreArguments (token_by index parts) (IsOfRule rule holds) (IsRow rows (index prod.0) (index r.0)) args

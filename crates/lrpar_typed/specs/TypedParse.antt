@@ -15,10 +15,10 @@ use Rattle.lrpar_parse.specs.Values.{GivesOrCarries, ParsesToValue}
 use Rattle.lrpar_parse.specs.declared.fault.ParseFault.{ParseFault}
 use Rattle.lrpar_typed.specs.Rows.{AreRowsOf, IsOfRule}
 
--- the tree, with nothing before it, folds to the value, which is of the start rule, or to the error
-abbrev pub IsTypedValue : {X V E L : Type 0} → (X → Extent) → (V → ℕ) → (ℕ → ValueArguments L X V → Result V E → Type 0) → Grammar → L → Tree X → Result V E → Type 0
-IsTypedValue span rule gives g lexer tree value =
-    IsActedValue span (GivesOrCarries gives) (IsOfRule rule) g lexer (tt {0}) tree value
+-- the tree, with nothing before it, folds to the value, which is of the start rule and holds, or to the error
+abbrev pub IsTypedValue : {X V E L : Type 0} → (X → Extent) → (V → ℕ) → (V → Type 0) → (ℕ → ValueArguments L X V → Result V E → Type 0) → Grammar → L → Tree X → Result V E → Type 0
+IsTypedValue span rule holds gives g lexer tree value =
+    IsActedValue span (GivesOrCarries gives) (IsOfRule rule holds) g lexer (tt {0}) tree value
 
 -- the rows are the productions of the parser's grammar, and this is its start rule
 abbrev pub HasRows : {R : Type 0} → List (List ℕ) → ℕ → Parser R → Type 0
@@ -26,10 +26,14 @@ HasRows rows start parser = AreRowsOf rows start parser.checked.grammar
 
 -- a parse to such a value
 abbrev pub GetsTyped : {S X R C : Type 0} → (S → ℕ) → (X → LexemeParts S) → (R → Asked X → List (List PlainStep) → Type 0) → Parser R → (List (Result X C) → Type 0)
-    → {V E K L Z : Type 0} → (ParseFault → E → Type 0) → (V → ℕ) → (ℕ → ValueArguments K X V → Result V E → Type 0) → K → Result (Option V × Vec (LexParseError S L X C) Z) E → Type 0
-GetsTyped index parts allows parser lexes converts rule gives lexer result =
-    ParsesToValue (subject index parts allows parser) lexes converts (IsTypedValue (span_by parts) rule gives parser.checked.grammar lexer) result
+    → {V E K L Z : Type 0} → (ParseFault → E → Type 0) → (V → ℕ) → (V → Type 0) → (ℕ → ValueArguments K X V → Result V E → Type 0) → K → Result (Option V × Vec (LexParseError S L X C) Z) E → Type 0
+GetsTyped index parts allows parser lexes converts rule holds gives lexer result =
+    ParsesToValue (subject index parts allows parser) lexes converts (IsTypedValue (span_by parts) rule holds gives parser.checked.grammar lexer) result
 
 -- the value, if there is one, is of the start rule
 abbrev pub IsOfStart : {V A : Type 0} → (V → ℕ) → ℕ → Option V × A → Type 0
 IsOfStart rule start answer = IfSome answer.0 (λ v. rule v ≡ start)
+
+-- what holds of values holds of the value, if there is one
+abbrev pub ValueHolds : {V A : Type 0} → (V → Type 0) → Option V × A → Type 0
+ValueHolds holds answer = IfSome answer.0 holds

@@ -3,7 +3,7 @@ ghost use Rattle.std.specs.Prelude.{◌<◌, ◌↔◌, ℕ, List, Result, IfOk,
 ghost use Rattle.lrpar_parse.specs.Arguments.{Answers};
 ghost use Rattle.lrpar_parse.specs.ValueArguments.{ValueArguments};
 ghost use Rattle.lrpar_parse.specs.Values.{GivesOrCarries};
-ghost use Rattle.lrpar_typed.specs.Rows.{AreOfRow, FitRow, IsOfRow, IsOfRule, IsRow, TakesRow};
+ghost use Rattle.lrpar_typed.specs.Rows.{AllHold, AreOfRow, FitRow, IsOfRow, IsOfRule, IsRow, TakesRow};
 
 use lrpar_grammar::span::{PIdx, RIdx, Span, StorageIndex, Symbol};
 use lrpar_parse::failures::{first_failure, has_failure};
@@ -34,6 +34,10 @@ pub trait Typed<StorageT: StorageIndex, LexemeT: Lexeme<StorageT>, LexerT> {
     /// The results that `value` may have, by production and arguments.
     ghost gives: { Self → ℕ → ValueArguments LexerT LexemeT Self.Value → Result Self.Value Self.Error → Type 0 };
 
+    /// What holds of each value: `value` may use it of the arguments, and shows it of the result. So it holds of the value of a parse. Who
+    /// claims nothing of values leaves it out.
+    ghost holds: { Self → Self.Value → Type 0 } = { λ _ _. Unit {0} };
+
     /// Whether the rows have the production of this number, this rule and these symbols.
     fn takes(
         &self,
@@ -55,8 +59,10 @@ pub trait Typed<StorageT: StorageIndex, LexemeT: Lexeme<StorageT>, LexerT> {
     ) -> Result<Self::Value, Self::Error>
         requires within { production < length rows }
         requires fits { AreOfRow StorageT.index LexemeT.parts rule rows production args.old }
+        requires hold { AllHold (holds self.now) args.old.left }
         ensures rule { IsOfRow rule rows production result }
-        ensures gives { gives self.now production args.old result };
+        ensures gives { gives self.now production args.old result }
+        ensures holds { IfOk result (holds self.now) };
 }
 
 /// The actions that make typed values: the value of a production with an error among its arguments is the first such error.
@@ -78,7 +84,7 @@ impl<
 
     ghost taken = { λ _ p r symbols. IsRow T.rows p r symbols };
 
-    ghost fact = { λ _ r v. IsOfRule T.rule r v };
+    ghost fact = { λ typing r v. IsOfRule T.rule (T.holds typing.typed.now) r v };
 
     ghost answers = { λ typing. GivesOrCarries (T.gives typing.typed.now) };
 
@@ -103,8 +109,8 @@ impl<
         args: Vec<AStackType<LexemeT, Result<T::Value, T::Error>>>,
         param: &(),
     ) -> Result<Result<T::Value, T::Error>, AllocError>
-        requires { FitRow StorageT.index LexemeT.parts T.rule T.rows pidx ridx args.items }
-        ensures fact { IfOk result (IsOfRule T.rule (StorageT.index ridx.0)) }
+        requires { FitRow StorageT.index LexemeT.parts T.rule (T.holds self.now.typed.now) T.rows pidx ridx args.items }
+        ensures fact { IfOk result (IsOfRule T.rule (T.holds self.now.typed.now) (StorageT.index ridx.0)) }
         ensures answers { IfOk result (Answers StorageT.index (GivesOrCarries (T.gives self.now.typed.now)) pidx ridx lexer.now span args param.now) }
     {
         if has_failure(&args) {

@@ -101,13 +101,13 @@ fn numbered(alloc: Global, name: String, args: &[Arg]) -> Result<String, AllocEr
     Ok(numbered)
 }
 
-// Whether a name is this one, perhaps with a number or a line after it.
+// Whether a name is this one, perhaps with a number or an underscore after it.
 fn is_numbered(name: &str, stem: &str) -> bool {
     match name.strip_prefix(stem) {
         Some(rest) => rest
             .trim_start_matches('_')
             .chars()
-            .all(|sign| sign.is_ascii_digit()),
+            .all(|digit| digit.is_ascii_digit()),
         None => false,
     }
 }

@@ -6,7 +6,9 @@ mod args;
 mod names;
 mod plan;
 mod rows;
+mod rules;
 mod syntax;
+mod template;
 mod values;
 
 pub use plan::CodeFault;

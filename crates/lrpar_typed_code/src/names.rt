@@ -10,23 +10,59 @@ const KEYWORDS: [&str; 53] = [
     "type", "typeof", "unsafe", "unsized", "use", "virtual", "where", "while", "yield",
 ];
 
-// Variables that the code has beside arguments.
-const VARIABLES: [&str; 5] = ["actions", "args", "at", "made", "production"];
+// Names that the code has beside those of arguments.
+const TAKEN: [&str; 9] = [
+    "actions",
+    "args",
+    "assumption",
+    "at",
+    "ground",
+    "holds",
+    "made",
+    "production",
+    "result",
+];
+
+// Words that a clause has in quotes, if they are names.
+const QUOTED: [&str; 22] = [
+    "abbrev",
+    "axiom",
+    "coe",
+    "com",
+    "data",
+    "deriving",
+    "elim",
+    "fcoe",
+    "hcom",
+    "infix",
+    "infixl",
+    "infixr",
+    "module",
+    "mutual",
+    "open",
+    "package",
+    "record",
+    "ruleset",
+    "tcoe",
+    "unfold",
+    "unfoldable",
+    "unfolding",
+];
 
 /// A name as those of functions are: `AddSetting` as `add_setting`.
 pub(crate) fn snake(alloc: Global, name: &str) -> Result<String, AllocError> {
     let mut snake = String::new(alloc);
     let mut is_inside = false;
-    for sign in name.chars() {
-        if sign.is_ascii_uppercase() {
+    for letter in name.chars() {
+        if letter.is_ascii_uppercase() {
             if is_inside {
                 snake.push('_')?;
             }
             is_inside = false;
         } else {
-            is_inside = sign != '_';
+            is_inside = letter != '_';
         }
-        snake.push(sign.to_ascii_lowercase())?;
+        snake.push(letter.to_ascii_lowercase())?;
     }
     Ok(snake)
 }
@@ -35,16 +71,16 @@ pub(crate) fn snake(alloc: Global, name: &str) -> Result<String, AllocError> {
 pub(crate) fn camel(alloc: Global, name: &str) -> Result<String, AllocError> {
     let mut camel = String::new(alloc);
     let mut is_start = true;
-    for sign in name.chars() {
-        if sign == '_' {
+    for letter in name.chars() {
+        if letter == '_' {
             is_start = true;
         } else {
-            let sign = if is_start {
-                sign.to_ascii_uppercase()
+            let letter = if is_start {
+                letter.to_ascii_uppercase()
             } else {
-                sign
+                letter
             };
-            camel.push(sign)?;
+            camel.push(letter)?;
             is_start = false;
         }
     }
@@ -54,21 +90,31 @@ pub(crate) fn camel(alloc: Global, name: &str) -> Result<String, AllocError> {
 /// The name of an action: one that is no keyword.
 pub(crate) fn action_name(name: String) -> Result<String, AllocError> {
     if KEYWORDS.contains(&name.as_str()) {
-        return with_sign(name);
+        return with_underscore(name);
     }
     Ok(name)
 }
 
-/// The name of an argument: one that is no keyword, and no other variable of the code.
+/// The name of an argument: one that is no keyword, and that the code has for nothing else.
 pub(crate) fn free_name(name: String) -> Result<String, AllocError> {
-    if VARIABLES.contains(&name.as_str()) {
-        return with_sign(name);
+    if TAKEN.contains(&name.as_str()) {
+        return with_underscore(name);
     }
     action_name(name)
 }
 
-// The name with a line after it.
-fn with_sign(mut name: String) -> Result<String, AllocError> {
+// The name with an underscore after it.
+fn with_underscore(mut name: String) -> Result<String, AllocError> {
     name.push('_')?;
     Ok(name)
+}
+
+/// Appends a name as a clause has it.
+pub(crate) fn push_in_clause(out: &mut String, name: &str) -> Result<(), AllocError> {
+    if QUOTED.contains(&name) {
+        out.push('«')?;
+        out.push_str(name)?;
+        return out.push('»');
+    }
+    out.push_str(name)
 }

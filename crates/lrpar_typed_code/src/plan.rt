@@ -1,7 +1,8 @@
 //! What the code of each production does.
 use crate::args::{Arg, args_of};
 use crate::names::{action_name, camel, snake};
-use lrpar_grammar::span::{Span, Symbol};
+use crate::rules::{PlannedRule, plan_rules};
+use lrpar_grammar::span::{RIdx, Span, Symbol};
 use lrpar_grammar_typed::file::Label;
 use lrpar_grammar_typed::typed::{Making, TypedGrammar, TypedProd, TypedRule, word_at};
 use std::alloc::{AllocError, Global};
@@ -14,7 +15,7 @@ pub enum CodeFault {
     /// An earlier production with this label has other arguments, or a value of another type.
     #[error("the label at byte {at} is that of another action", at = .0.start())]
     OtherAction(Span),
-    /// The name of a rule is that of an earlier one in code, where case and lines don't count.
+    /// The name of a rule is that of an earlier one in code, where case and underscores don't count.
     #[error("the name of the rule at byte {at} is that of another one in code", at = .0.start())]
     SameName(Span),
     /// An allocation failed.
@@ -26,7 +27,11 @@ pub enum CodeFault {
 #[derive(Drop)]
 pub(crate) struct Plan {
     /// In the order of the grammar.
+    pub(crate) rules: Vec<PlannedRule>,
+    /// In the order of the grammar.
     pub(crate) prods: Vec<PlannedProd>,
+    /// How many productions there are.
+    pub(crate) count: String,
     /// In the order of their first productions.
     pub(crate) actions: Vec<Action>,
 }
@@ -34,9 +39,11 @@ pub(crate) struct Plan {
 /// What the code of a production does.
 #[derive(Drop)]
 pub(crate) struct PlannedProd {
+    /// Its number.
+    pub(crate) number: String,
     /// The production, as `Rule: Symbol 'token'`.
     pub(crate) spelled: String,
-    /// The variant of its values.
+    /// The place of its rule.
     pub(crate) rule: usize,
     /// Its arguments, from left to right.
     pub(crate) args: Vec<Arg>,
@@ -57,12 +64,23 @@ pub(crate) enum Call {
 #[derive(Drop)]
 pub(crate) struct Action {
     pub(crate) name: String,
-    /// What it is passed after where it is, each as `name: Type`.
-    pub(crate) params: Vec<String>,
+    /// What it is passed after where it is.
+    pub(crate) params: Vec<Param>,
+    /// The place of the rule of its value.
+    pub(crate) rule: usize,
     /// The type of its value.
     pub(crate) value: String,
     /// The productions with this action.
     pub(crate) spelled: Vec<String>,
+}
+
+/// A parameter of an action.
+#[derive(Drop)]
+pub(crate) struct Param {
+    pub(crate) name: String,
+    pub(crate) value: String,
+    /// The place of the rule of its value, if it has one.
+    pub(crate) rule: Option<usize>,
 }
 
 /// Plans the code of a grammar.
@@ -76,24 +94,29 @@ pub(crate) fn make_plan<'a>(
         alloc,
         text,
         grammar,
-        prods: Vec::new(alloc),
         actions: Vec::new(alloc),
-        numbers: BTreeMap::new(alloc),
+        places: BTreeMap::new(alloc),
     };
+    let mut prods: Vec<PlannedProd> = Vec::new(alloc);
     for (number, rule) in grammar.rules.iter().enumerate() {
         for (place, prod) in rule.prods.iter().enumerate() {
-            let args = args_of(alloc, text, grammar, prod)?;
-            let call = planner.make_call(rule, place, prod, &args)?;
-            planner.prods.push(PlannedProd {
-                spelled: spelled(alloc, grammar, rule, prod)?,
-                rule: number,
-                args,
-                call,
-            })?;
+            let mut prod = planner.make_prod(number, rule, place, prod)?;
+            prod.number = number_of(alloc, prods.len())?;
+            prods.push(prod)?;
         }
     }
-    let Planner { prods, actions, .. } = planner;
-    Ok(Plan { prods, actions })
+    let Planner { actions, .. } = planner;
+    Ok(Plan {
+        rules: plan_rules(alloc, grammar)?,
+        count: number_of(alloc, prods.len())?,
+        prods,
+        actions,
+    })
+}
+
+// A number, as text.
+fn number_of(alloc: Global, number: usize) -> Result<String, AllocError> {
+    format!(in alloc; "{number}")
 }
 
 // Refuses rules that have one name in code.
@@ -115,80 +138,112 @@ struct Planner<'a> {
     alloc: Global,
     text: &'a str,
     grammar: &'a TypedGrammar,
-    prods: Vec<PlannedProd>,
     actions: Vec<Action>,
-    // The number of each action by its name.
-    numbers: BTreeMap<String, usize>,
+    // The place of each action by its name.
+    places: BTreeMap<String, usize>,
 }
 
 impl<'a> Planner<'a> {
-    // What makes the value of the production at this place of its rule.
-    fn make_call(
+    // What the code of the production at this place of its rule does.
+    fn make_prod(
         &mut self,
+        number: usize,
+        rule: &TypedRule,
+        place: usize,
+        prod: &TypedProd,
+    ) -> Result<PlannedProd, CodeFault> {
+        let args = args_of(self.alloc, self.text, self.grammar, prod)?;
+        let spelled = spelled(self.alloc, self.grammar, rule, prod)?;
+        let call = match value_of(self.grammar, rule, prod.making, &args) {
+            Some(value) => Call::Value(String::from_str(self.alloc, value)?),
+            None => {
+                let action = self.action_of(number, rule, place, prod, &args)?;
+                self.call_action(action, spelled.as_str(), prod)?
+            }
+        };
+        Ok(PlannedProd {
+            number: String::new(self.alloc),
+            spelled,
+            rule: number,
+            args,
+            call,
+        })
+    }
+
+    // The action of a production: that of its label, or else one that is named by the rule and the place.
+    fn action_of(
+        &self,
+        number: usize,
         rule: &TypedRule,
         place: usize,
         prod: &TypedProd,
         args: &[Arg],
-    ) -> Result<Call, CodeFault> {
-        match prod.making {
-            Making::Action(Some(label)) => {
-                let name = String::from_str(self.alloc, word_at(self.text, label.name))?;
-                let name = action_name(name)?;
-                self.call_action(rule, name, Some(label), prod, args)
+    ) -> Result<Action, AllocError> {
+        let name = match label_of(prod) {
+            Some(label) => String::from_str(self.alloc, word_at(self.text, label.name))?,
+            None => {
+                let rule = snake(self.alloc, rule.name.as_str())?;
+                let (rule, place) = (rule.as_str(), place.saturating_add(1));
+                format!(in self.alloc; "{rule}_{place}")?
             }
-            Making::Action(None) => match self.only_value(rule, args)? {
-                Some(value) => Ok(Call::Value(value)),
-                None => {
-                    let mut name = snake(self.alloc, rule.name.as_str())?;
-                    write!(name, "_{number}", number = place.saturating_add(1))?;
-                    self.call_action(rule, name, None, prod, args)
-                }
-            },
-            making => Ok(Call::Value(String::from_str(self.alloc, value_of(making))?)),
-        }
-    }
-
-    // The value of a production without a label that needs no action: `()`, or its only argument, if that has the rule's type.
-    fn only_value(&self, rule: &TypedRule, args: &[Arg]) -> Result<Option<String>, AllocError> {
-        if rule.value.as_str() == "()" {
-            return Ok(Some(String::from_str(self.alloc, "()")?));
-        }
-        let mut passed = args.iter().filter(|arg| arg.is_passed);
-        let (Some(only), None) = (passed.next(), passed.next()) else {
-            return Ok(None);
         };
-        if self.grammar.type_of(only.symbol) != rule.value.as_str() {
-            return Ok(None);
-        }
-        Ok(Some(String::from_str(self.alloc, only.name.as_str())?))
-    }
-
-    // A call of the action of this name, which is added if there is none yet.
-    fn call_action(
-        &mut self,
-        rule: &TypedRule,
-        name: String,
-        label: Option<Label>,
-        prod: &TypedProd,
-        args: &[Arg],
-    ) -> Result<Call, CodeFault> {
-        let kind = label.and_then(|label| label.kind);
-        let action = Action {
-            name: String::from_str(self.alloc, name.as_str())?,
-            params: self.params(kind, args)?,
-            value: String::from_str(self.alloc, rule.value.as_str())?,
-            spelled: Vec::new(self.alloc),
-        };
-        let spelled = spelled(self.alloc, self.grammar, rule, prod)?;
-        let place = label.map_or(prod.span, |label| label.name);
-        self.add_action(action, spelled, place)?;
-        let mut passed = Vec::new(self.alloc);
-        if let Some(kind) = kind {
-            passed.push(String::from_str(self.alloc, word_at(self.text, kind))?)?;
+        let mut params = Vec::with_capacity(self.alloc, args.len())?;
+        if let Some(kind) = label_of(prod).and_then(|label| label.kind) {
+            params.push(self.kind_param(word_at(self.text, kind))?)?;
         }
         for arg in args.iter().filter(|arg| arg.is_passed) {
-            passed.push(String::from_str(self.alloc, arg.name.as_str())?)?;
+            params.push(self.param_of(arg)?)?;
         }
+        Ok(Action {
+            name: action_name(name)?,
+            params,
+            rule: number,
+            value: String::from_str(self.alloc, rule.value.as_str())?,
+            spelled: Vec::new(self.alloc),
+        })
+    }
+
+    // The parameter for a constant.
+    fn kind_param(&self, path: &str) -> Result<Param, AllocError> {
+        let value = path.rsplit_once("::").map_or(path, |parts| parts.0);
+        Ok(Param {
+            name: String::from_str(self.alloc, "kind")?,
+            value: String::from_str(self.alloc, value)?,
+            rule: None,
+        })
+    }
+
+    // The parameter for an argument.
+    fn param_of(&self, arg: &Arg) -> Result<Param, AllocError> {
+        let rule = match arg.symbol {
+            Symbol::Rule(RIdx(rule)) => (rule as usize).checked_sub(1),
+            Symbol::Token(_) => None,
+        };
+        Ok(Param {
+            name: String::from_str(self.alloc, arg.name.as_str())?,
+            value: String::from_str(self.alloc, self.grammar.type_of(arg.symbol))?,
+            rule,
+        })
+    }
+
+    // A call of the action, which is a new one or has to be as it was.
+    fn call_action(
+        &mut self,
+        action: Action,
+        spelled: &str,
+        prod: &TypedProd,
+    ) -> Result<Call, CodeFault> {
+        let mut passed = Vec::with_capacity(self.alloc, action.params.len())?;
+        let label = label_of(prod);
+        for param in &action.params {
+            passed.push(String::from_str(self.alloc, param.name.as_str())?)?;
+        }
+        if let (Some(kind), Some(first)) = (label.and_then(|it| it.kind), passed.first_mut()) {
+            *first = String::from_str(self.alloc, word_at(self.text, kind))?;
+        }
+        let name = String::from_str(self.alloc, action.name.as_str())?;
+        let spelled = String::from_str(self.alloc, spelled)?;
+        self.add_action(action, spelled, label.map_or(prod.span, |label| label.name))?;
         Ok(Call::Action(name, passed))
     }
 
@@ -197,57 +252,64 @@ impl<'a> Planner<'a> {
         &mut self,
         mut action: Action,
         spelled: String,
-        place: Span,
+        span: Span,
     ) -> Result<(), CodeFault> {
-        if let Some(number) = self.numbers.get(action.name.as_str()) {
-            return match self.actions.get_mut(*number) {
+        if let Some(place) = self.places.get(action.name.as_str()) {
+            return match self.actions.get_mut(*place) {
                 Some(found) if is_same(found, &action) => Ok(found.spelled.push(spelled)?),
-                _ => Err(CodeFault::OtherAction(place)),
+                _ => Err(CodeFault::OtherAction(span)),
             };
         }
-        let key = String::from_str(self.alloc, action.name.as_str())?;
-        let _ = self.numbers.insert(key, self.actions.len())?;
+        let name = String::from_str(self.alloc, action.name.as_str())?;
+        let _ = self.places.insert(name, self.actions.len())?;
         action.spelled.push(spelled)?;
         self.actions.push(action)?;
         Ok(())
     }
+}
 
-    // What an action takes, each as `name: Type`.
-    fn params(&self, kind: Option<Span>, args: &[Arg]) -> Result<Vec<String>, AllocError> {
-        let mut params = Vec::new(self.alloc);
-        if let Some(kind) = kind {
-            let path = word_at(self.text, kind);
-            let of = path.rsplit_once("::").map_or(path, |parts| parts.0);
-            let mut param = String::new(self.alloc);
-            write!(param, "kind: {of}")?;
-            params.push(param)?;
-        }
-        for arg in args.iter().filter(|arg| arg.is_passed) {
-            let name = arg.name.as_str();
-            let value = self.grammar.type_of(arg.symbol);
-            let mut param = String::new(self.alloc);
-            write!(param, "{name}: {value}")?;
-            params.push(param)?;
-        }
-        Ok(params)
+// The label of a production.
+fn label_of(prod: &TypedProd) -> Option<Label> {
+    match prod.making {
+        Making::Action(label) => label,
+        _ => None,
     }
 }
 
 // Whether the actions take the same, and have values of the same type.
 fn is_same(action: &Action, other: &Action) -> bool {
-    action.value == other.value && action.params == other.params
+    action.value == other.value
+        && action.params.len() == other.params.len()
+        && action.params.iter().zip(&other.params).all(|(param, same)| param.name == same.name
+            && param.value == same.value)
 }
 
-// The value of a list or an option.
-fn value_of(making: Making) -> &'static str {
+// The value of a production that needs no action: a list, an option, or, without a label, `()` or the only argument, if that has the type of
+// the rule.
+fn value_of<'a>(
+    grammar: &TypedGrammar,
+    rule: &TypedRule,
+    making: Making,
+    args: &'a [Arg],
+) -> Option<&'a str> {
     match making {
-        Making::Action(_) => "()",
-        Making::Empty => "Vec::new(at.alloc)",
-        Making::First => "lrpar_typed::one_item(at.alloc, item)?",
-        Making::Push => "lrpar_typed::with_item(list, item)?",
-        Making::Nothing => "None",
-        Making::Just => "Some(item)",
-        Making::Same => "list",
+        Making::Action(Some(_)) => None,
+        Making::Action(None) if rule.value.as_str() == "()" => Some("()"),
+        Making::Action(None) => {
+            let mut passed = args.iter().filter(|arg| arg.is_passed);
+            match (passed.next(), passed.next()) {
+                (Some(only), None) if grammar.type_of(only.symbol) == rule.value.as_str() => {
+                    Some(only.name.as_str())
+                }
+                _ => None,
+            }
+        }
+        Making::Empty => Some("Vec::new(at.alloc)"),
+        Making::First => Some("lrpar_typed::one_item(at.alloc, item)?"),
+        Making::Push => Some("lrpar_typed::with_item(list, item)?"),
+        Making::Nothing => Some("None"),
+        Making::Just => Some("Some(item)"),
+        Making::Same => Some("list"),
     }
 }
 
@@ -262,13 +324,13 @@ fn spelled(
     spelled.push(':')?;
     for symbol in &prod.symbols {
         spelled.push(' ')?;
-        push_shown(&mut spelled, grammar, symbol.symbol)?;
+        push_symbol(&mut spelled, grammar, symbol.symbol)?;
     }
     Ok(spelled)
 }
 
 /// Appends a symbol as it is in the text of a grammar.
-pub(crate) fn push_shown(
+pub(crate) fn push_symbol(
     out: &mut String,
     grammar: &TypedGrammar,
     symbol: Symbol<u32>,
@@ -276,11 +338,14 @@ pub(crate) fn push_shown(
     let name = grammar.name(symbol);
     match symbol {
         Symbol::Rule(_) => out.push_str(name),
-        Symbol::Token(_) => {
-            let quote = if name.contains('\'') { '"' } else { '\'' };
-            out.push(quote)?;
-            out.push_str(name)?;
-            out.push(quote)
-        }
+        Symbol::Token(_) => push_quoted(out, name),
     }
+}
+
+/// Appends the name of a token in quotes.
+pub(crate) fn push_quoted(out: &mut String, name: &str) -> Result<(), AllocError> {
+    let quote = if name.contains('\'') { '"' } else { '\'' };
+    out.push(quote)?;
+    out.push_str(name)?;
+    out.push(quote)
 }

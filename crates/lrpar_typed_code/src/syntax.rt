@@ -1,16 +1,18 @@
 //! The code of a grammar, and its spec.
 use crate::actions::write_actions;
-use crate::names::{camel, snake};
 use crate::plan::{CodeFault, make_plan};
 use crate::rows::{write_grammar, write_rows, write_tokens};
-use crate::values::{Setting, write_makers, write_takers, write_typed, write_values};
-use lrpar_grammar::span::{RIdx, Symbol};
+use crate::rules::{PlannedRule, plan_rules};
+use crate::template::push_filled;
+use crate::values::{write_makers, write_takers, write_typed, write_values};
+use lrpar_grammar::span::RIdx;
 use lrpar_grammar_typed::typed::{TypedGrammar, word_at};
+use sha1::Sha1;
 use std::alloc::{AllocError, Global};
 
 /// The code of a grammar: the file `src/syntax.rt` of the crate of this name. `text` is the text of the grammar.
 ///
-/// `Err`: one label is that of two actions, or an allocation failed.
+/// `Err`: one label is that of two actions, two rules have one name in code, or an allocation failed.
 pub fn rust_of(
     alloc: Global,
     name: &str,
@@ -18,67 +20,86 @@ pub fn rust_of(
     grammar: &TypedGrammar,
 ) -> Result<String, CodeFault> {
     let plan = make_plan(alloc, text, grammar)?;
-    let life = life_of(grammar);
-    let setting = Setting {
-        alloc,
-        grammar,
-        life,
+    let RIdx(start) = grammar.start;
+    let Some(start) = plan.rules.get((start as usize).saturating_sub(1)) else {
+        return Ok(String::new(alloc));
     };
+    let life = life_of(grammar);
     let mut out = String::new(alloc);
     write_head(&mut out, name, text, grammar)?;
     write_grammar(&mut out, grammar)?;
     write_tokens(&mut out, alloc, grammar)?;
     write_actions(&mut out, alloc, &plan, life)?;
-    write_values(&mut out, setting)?;
-    write_rows(&mut out, grammar)?;
-    write_typed(&mut out, setting, &plan)?;
-    write_makers(&mut out, setting, &plan)?;
-    write_takers(&mut out, setting)?;
-    write_parse(&mut out, alloc, grammar, life)?;
+    write_values(&mut out, &plan.rules, life)?;
+    write_rows(&mut out, alloc, grammar)?;
+    write_typed(&mut out, &plan, start, life)?;
+    write_makers(&mut out, alloc, &plan, life)?;
+    write_takers(&mut out, alloc, &plan.rules, life)?;
+    write_parse(&mut out, start, plan.rules.len(), life)?;
     Ok(out)
 }
+
+// The head of the spec.
+const SPEC: &str = "\
+-- The rules of values, and what holds of values: made of a grammar.
+use Rattle.std.specs.Prelude.{ℕ, IfSome}
+use Rattle.std.specs.List.{All}
+use Rattle.@name@.specs.declared.syntax.RuleValue.{RuleValue}
+use Rattle.@name@.specs.declared.syntax.RuleValue.TheVariants.{";
 
 /// The spec that the code of a grammar needs: the file `specs/Syntax.antt` of the crate of this name, which its `specs/Lib.antt` names.
 /// `Err`: an allocation failed.
 pub fn spec_of(alloc: Global, name: &str, grammar: &TypedGrammar) -> Result<String, AllocError> {
+    let rules = plan_rules(alloc, grammar)?;
     let mut out = String::new(alloc);
-    writeln!(out, "-- The rules of values: made of a grammar.")?;
-    writeln!(out, "use Rattle.std.specs.Prelude.{{ℕ}}")?;
-    writeln!(
-        out,
-        "use Rattle.{name}.specs.declared.syntax.RuleValue.{{RuleValue}}"
-    )?;
-    write!(
-        out,
-        "use Rattle.{name}.specs.declared.syntax.RuleValue.TheVariants.{{"
-    )?;
-    for (place, rule) in grammar.rules.iter().enumerate() {
-        if place > 0 {
-            out.push_str(", ")?;
-        }
-        out.push_str(camel(alloc, rule.name.as_str())?.as_str())?;
+    push_filled(&mut out, SPEC, &[("name", name)])?;
+    let mut start = "";
+    for rule in &rules {
+        out.push_str(start)?;
+        out.push_str(rule.camel.as_str())?;
+        start = ", ";
     }
     out.push_str("}\n\n-- the rule of a value\nabbrev pub rule_of : RuleValue → ℕ\n")?;
-    for (place, rule) in grammar.rules.iter().enumerate() {
-        let rule = camel(alloc, rule.name.as_str())?;
-        let number = place.saturating_add(1);
-        writeln!(out, "rule_of ({rule} v) = {number}", rule = rule.as_str())?;
+    for rule in &rules {
+        let words = [
+            ("rule", rule.camel.as_str()),
+            ("number", rule.number.as_str()),
+        ];
+        push_filled(&mut out, "rule_of (@rule@ v) = @number@\n", &words)?;
+    }
+    out.push_str(
+        "
+-- what holds of a value, by what actions show: of a list, what holds of its items, and of an option, what holds of what is there
+abbrev pub HoldsOf : (RuleValue → Type 0) → RuleValue → Type 0
+",
+    )?;
+    for rule in &rules {
+        let fact = rule.fact.as_ref().map_or("Unit {0}", |fact| fact.as_str());
+        let words = [("rule", rule.camel.as_str()), ("fact", fact)];
+        push_filled(&mut out, "HoldsOf holds (@rule@ v) = @fact@\n", &words)?;
     }
     Ok(out)
 }
 
 // The lifetime of values, if they borrow from the text.
 fn life_of(grammar: &TypedGrammar) -> &'static str {
-    if grammar
+    let borrows = grammar
         .rules
         .iter()
-        .any(|rule| rule.value.as_str().contains("'text"))
-    {
-        "<'text>"
-    } else {
-        ""
-    }
+        .any(|rule| rule.value.as_str().contains("'text"));
+    if borrows { "<'text>" } else { "" }
 }
+
+// The ghost imports.
+const GHOSTS: &str = "
+ghost use Rattle.std.specs.Prelude.{◌<◌, ◌≤◌, ◌↔◌, IfOk, IsTrue, length};
+ghost use Rattle.lrpar_typed.specs.Rows.{AllHold, AreOfRow, AreRowsOf, IsOfRow, IsRuleNext, IsTaken, TakesRow};
+ghost use Rattle.lrpar_typed.specs.TypedParse.{ValueHolds};
+ghost use Rattle.@name@.specs.Syntax.{HoldsOf, rule_of};
+ghost use Rattle.@name@.specs.declared.syntax.RuleValue.{RuleValue};
+ghost use Rattle.@name@.specs.declared.syntax.TheConstants.{ROWS};
+
+";
 
 // Writes the head of the file.
 fn write_head(
@@ -87,21 +108,18 @@ fn write_head(
     text: &str,
     grammar: &TypedGrammar,
 ) -> Result<(), AllocError> {
-    let sum = checksum(text);
-    writeln!(
-        out,
+    out.push_str(
         "\
 //! The syntax of a language: made of its grammar by `nimbleparse --rust`. Edit the grammar, and make it again.
 //!
-//! Checksum of the grammar: {sum:016x}
-ghost use Rattle.std.specs.Prelude.{{◌<◌, ◌≤◌, ◌↔◌, IfOk, IsTrue, length}};
-ghost use Rattle.lrpar_typed.specs.Rows.{{AreOfRow, AreRowsOf, IsOfRow, IsRuleNext, IsTaken, TakesRow}};
-ghost use Rattle.{name}.specs.Syntax.{{rule_of}};
-ghost use Rattle.{name}.specs.declared.syntax.TheConstants.{{ROWS}};
-"
+//! SHA-1 of the grammar: ",
     )?;
+    for byte in Sha1::digest(text.as_bytes()) {
+        write!(out, "{byte:02x}")?;
+    }
+    push_filled(out, GHOSTS, &[("name", name)])?;
     for path in &grammar.uses {
-        writeln!(out, "use {path};", path = word_at(text, *path))?;
+        push_filled(out, "use @path@;\n", &[("path", word_at(text, *path))])?;
     }
     out.push_str(
         "\
@@ -113,62 +131,32 @@ use std::alloc::{AllocError, Global};
     )
 }
 
-// A checksum of the text: FNV-1a of its bytes, with 64 bits.
-fn checksum(text: &str) -> u64 {
-    let mut sum: u64 = 0xcbf2_9ce4_8422_2325;
-    for byte in text.as_bytes() {
-        sum = (sum ^ u64::from(*byte)).wrapping_mul(0x0000_0100_0000_01b3);
-    }
-    sum
-}
-
-// Writes the table and the parse.
-fn write_parse(
-    out: &mut String,
-    alloc: Global,
-    grammar: &TypedGrammar,
-    life: &str,
-) -> Result<(), AllocError> {
-    let RIdx(start) = grammar.start;
-    let symbol = Symbol::Rule(grammar.start);
-    let rule = grammar.name(symbol);
-    let value = grammar.type_of(symbol);
-    let snake = snake(alloc, rule)?;
-    let snake = snake.as_str();
-    let camel = camel(alloc, rule)?;
-    let camel = camel.as_str();
-    let (borrow, text) = if life.is_empty() {
-        ("", "'_")
-    } else {
-        ("'text, ", "'text")
-    };
-    writeln!(
-        out,
-        "\
+// The table and the parse.
+const PARSE: &str = "\
 /// Whether the grammar of a table has these productions, no others, and this start rule.
 pub(crate) fn has_syntax(checked: &lrpar_typed::ParserData<u32>) -> bool
-    ensures {{ IsTrue result ↔ AreRowsOf ROWS {start} checked.now.grammar }}
-{{
-    lrpar_typed::are_rows_of(&ROWS, {start}, checked.grm())
-}}
+    ensures { IsTrue result ↔ AreRowsOf ROWS @start@ checked.now.grammar }
+{
+    lrpar_typed::are_rows_of(&ROWS, @start@, checked.grm())
+}
 
 /// A table whose grammar has these productions.
 #[derive(Drop)]
-pub(crate) struct Table {{
+pub(crate) struct Table {
     pub(crate) checked: lrpar_typed::ParserData<u32>,
-    ghost fits: {{ AreRowsOf ROWS {start} checked.grammar }},
-}}
+    ghost fits: { AreRowsOf ROWS @start@ checked.grammar },
+}
 
-impl Table {{
+impl Table {
     /// The table, if its grammar has these productions, no others, and this start rule.
-    pub(crate) fn new(checked: lrpar_typed::ParserData<u32>) -> Option<Table> {{
-        if has_syntax(&checked) {{
-            Some(Table {{ checked }})
-        }} else {{
+    pub(crate) fn new(checked: lrpar_typed::ParserData<u32>) -> Option<Table> {
+        if has_syntax(&checked) {
+            Some(Table { checked })
+        } else {
             None
-        }}
-    }}
-}}
+        }
+    }
+}
 
 /// The value of a text, if it has one, and its errors; or why there is neither.
 pub(crate) type Parsed<ValueT, ErrorT> = Result<
@@ -179,22 +167,54 @@ pub(crate) type Parsed<ValueT, ErrorT> = Result<
     ErrorT,
 >;
 
-/// Parses a text to the value of `{rule}`.
-pub(crate) fn parse_{snake}<{borrow}R: Recoverer<u32, Token<u32>> + Drop, A: Actions{life}>(
+/// Parses a text to the value of `@name@`. What holds of values by the actions holds of it.
+pub(crate) fn parse_@snake@<@borrow@R: Recoverer<u32, Token<u32>> + Drop, A: Actions@life@>(
     alloc: Global,
     parser: &lrpar_typed::RTParserBuilder<'_, u32, TokenTypes<u32>, R>,
-    lexer: &RuleLexer<'_, {text}>,
+    lexer: &RuleLexer<'_, @text@>,
     actions: &A,
-) -> Parsed<{value}, A::Error>
-    requires {{ AreRowsOf ROWS {start} parser.now.checked.grammar }}
-{{
-    let (value, errors) = lrpar_typed::parse_typed(parser, alloc, lexer, &Acting {{ actions }})?;
-    match value {{
-        Some(RuleValue::{camel}(value)) => Ok((Some(value), errors)),
-        None => Ok((None, errors)),"
-    )?;
-    if grammar.rules.len() > 1 {
-        writeln!(out, "        _ => unreachable!(),")?;
-    }
-    writeln!(out, "    }}\n}}")
+) -> Parsed<@value@, A::Error>
+    requires { AreRowsOf ROWS @start@ parser.now.checked.grammar }
+    ensures { IfOk result (ValueHolds (λ v. HoldsOf (A.holds actions.now) (RuleValue.@rule@ v))) }
+{
+    let (value, errors) = lrpar_typed::parse_typed(parser, alloc, lexer, &Acting { actions })?;
+    match value {
+        Some(RuleValue::@rule@(value)) => Ok((Some(value), errors)),
+        None => Ok((None, errors)),
+@others@    }
+}
+";
+
+// Writes the table and the parse.
+fn write_parse<'x>(
+    out: &mut String,
+    start: &'x PlannedRule,
+    rule_count: usize,
+    life: &'x str,
+) -> Result<(), AllocError> {
+    let (borrow, text) = if life.is_empty() {
+        ("", "'_")
+    } else {
+        ("'text, ", "'text")
+    };
+    let others = if rule_count > 1 {
+        "        _ => unreachable!(),\n"
+    } else {
+        ""
+    };
+    push_filled(
+        out,
+        PARSE,
+        &[
+            ("start", start.number.as_str()),
+            ("name", start.name.as_str()),
+            ("rule", start.camel.as_str()),
+            ("snake", start.snake.as_str()),
+            ("value", start.value.as_str()),
+            ("borrow", borrow),
+            ("text", text),
+            ("life", life),
+            ("others", others),
+        ],
+    )
 }

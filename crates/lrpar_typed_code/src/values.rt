@@ -1,9 +1,8 @@
 //! The values of rules, and what makes those of productions.
-use crate::args::symbol_name;
-use crate::names::{camel, snake};
 use crate::plan::{Call, Plan, PlannedProd};
+use crate::rules::PlannedRule;
+use crate::template::push_filled;
 use lrpar_grammar::span::{RIdx, Symbol};
-use lrpar_grammar_typed::typed::TypedGrammar;
 use std::alloc::{AllocError, Global};
 
 // How many productions a function has.
@@ -12,87 +11,64 @@ const CHUNK: usize = 8;
 // How long the arguments of a call on one line may be.
 const MAX_ARGS: usize = 60;
 
-/// A grammar, and whether its values borrow from the text.
-#[derive(Clone, Copy)]
-pub(crate) struct Setting<'a> {
-    pub(crate) alloc: Global,
-    pub(crate) grammar: &'a TypedGrammar,
-    /// `<'text>`, or nothing.
-    pub(crate) life: &'static str,
-}
+// How long the line of a signature may be.
+const MAX_LINE: usize = 100;
 
-impl<'a> Setting<'a> {
-    // The lifetimes of arguments.
-    fn lives(&self) -> &'static str {
-        if self.life.is_empty() {
-            "'_, '_, '_"
-        } else {
-            "'_, '_, 'text"
-        }
-    }
-}
-
-/// Writes the enum of values, and what the impl is of.
-pub(crate) fn write_values(out: &mut String, setting: Setting<'_>) -> Result<(), AllocError> {
-    let life = setting.life;
-    writeln!(out, "/// The value of a rule.")?;
-    writeln!(out, "#[derive(Drop)]")?;
-    writeln!(out, "pub(crate) enum RuleValue{life} {{")?;
-    for rule in &setting.grammar.rules {
-        let name = camel(setting.alloc, rule.name.as_str())?;
-        writeln!(
-            out,
-            "    {name}({value}),",
-            name = name.as_str(),
-            value = rule.value.as_str()
-        )?;
-    }
-    writeln!(out, "}}\n")?;
-    writeln!(
-        out,
-        "\
+// What comes after the enum of values.
+const ACTING: &str = "\
 // The arguments of a production.
 type RuleArgs<'a, 'rules, 'text, ErrorT> = lrpar_typed::Args<
     'a,
     RuleLexer<'rules, 'text>,
     Token<u32>,
-    RuleValue{life},
+    RuleValue@life@,
     ErrorT,
 >;
 
 // The values by these actions.
 #[derive(Drop)]
-struct Acting<'a, A> {{
+struct Acting<'a, A> {
     actions: &'a A,
-}}
-"
-    )
 }
 
-/// Writes the impl of `Typed`.
-pub(crate) fn write_typed(
+";
+
+/// Writes the enum of values, and what the impl is of.
+pub(crate) fn write_values(
     out: &mut String,
-    setting: Setting<'_>,
-    plan: &Plan,
+    rules: &[PlannedRule],
+    life: &str,
 ) -> Result<(), AllocError> {
-    let life = setting.life;
-    let RIdx(start) = setting.grammar.start;
-    writeln!(
-        out,
-        "\
-impl<'a, 'rules, 'text, A: Actions{life}> Typed<u32, Token<u32>, RuleLexer<'rules, 'text>>
-    for Acting<'a, A> {{
-    type Value = RuleValue{life};
+    let head = "/// The value of a rule.\n#[derive(Drop)]\npub(crate) enum RuleValue@life@ {\n";
+    push_filled(out, head, &[("life", life)])?;
+    for rule in rules {
+        let words = [
+            ("rule", rule.camel.as_str()),
+            ("value", rule.value.as_str()),
+        ];
+        push_filled(out, "    @rule@(@value@),\n", &words)?;
+    }
+    out.push_str("}\n\n")?;
+    push_filled(out, ACTING, &[("life", life)])
+}
+
+// The impl of `Typed` up to the choice of a function.
+const TYPED: &str = "\
+impl<'a, 'rules, 'text, A: Actions@life@> Typed<u32, Token<u32>, RuleLexer<'rules, 'text>>
+    for Acting<'a, A> {
+    type Value = RuleValue@life@;
 
     type Error = A::Error;
 
-    ghost rows = {{ ROWS }};
+    ghost rows = { ROWS };
 
-    ghost start = {{ {start} }};
+    ghost start = { @start@ };
 
-    ghost rule = {{ rule_of }};
+    ghost rule = { rule_of };
 
-    ghost gives = {{ λ _ _ _ _. Unit {{0}} }};
+    ghost gives = { λ _ _ _ _. Unit {0} };
+
+    ghost holds = { λ acting. HoldsOf (A.holds acting.actions.now) };
 
     fn takes(
         &self,
@@ -100,164 +76,204 @@ impl<'a, 'rules, 'text, A: Actions{life}> Typed<u32, Token<u32>, RuleLexer<'rule
         ridx: lrpar_typed::RIdx<u32>,
         symbols: &[lrpar_typed::Symbol<u32>],
     ) -> bool
-        ensures {{ IsTrue result ↔ TakesRow (λ n. n) ROWS pidx ridx symbols.now }}
-    {{
+        ensures { IsTrue result ↔ TakesRow (λ n. n) ROWS pidx ridx symbols.now }
+    {
         lrpar_typed::has_row(&ROWS, pidx, ridx, symbols)
-    }}
+    }
 
     fn value(
         &self,
         alloc: Global,
         production: usize,
         args: &mut RuleArgs<'_, 'rules, 'text, A::Error>,
-    ) -> Result<RuleValue{life}, A::Error>
-        requires within {{ production < length ROWS }}
-        requires fits {{ {FITS} }}
-        ensures rule {{ IsOfRow rule_of ROWS production result }}
-        ensures gives {{ Unit {{0}} }}
-    {{
-        let at = At {{
+    ) -> Result<RuleValue@life@, A::Error>
+        requires within { production < length ROWS }
+        requires fits { AreOfRow (λ n. n) ⟦<Token<u32> as Lexeme<u32>>⟧.parts rule_of ROWS production args.old }
+        requires hold { AllHold (HoldsOf (A.holds self.now.actions.now)) args.old.left }
+        ensures rule { IsOfRow rule_of ROWS production result }
+        ensures gives { Unit {0} }
+        ensures holds { IfOk result (HoldsOf (A.holds self.now.actions.now)) }
+    {
+        let at = At {
             alloc,
             lexer: args.lexer(),
             range: lrpar_typed::TextRange::from(args.span()),
-        }};"
-    )?;
-    write_choice(out, plan.prods.len())?;
+        };
+";
+
+/// Writes the impl of `Typed`.
+pub(crate) fn write_typed<'x>(
+    out: &mut String,
+    plan: &'x Plan,
+    start: &'x PlannedRule,
+    life: &'x str,
+) -> Result<(), AllocError> {
+    let start = start.number.as_str();
+    push_filled(out, TYPED, &[("life", life), ("start", start)])?;
+    write_choice(out, plan)?;
     out.push_str("    }\n}\n\n")
 }
 
-// That arguments are those of the production.
-const FITS: &str =
-    "AreOfRow (λ n. n) ⟦<Token<u32> as Lexeme<u32>>⟧.parts rule_of ROWS production args.old";
-
 // Writes the choice of the function that has the production.
-fn write_choice(out: &mut String, count: usize) -> Result<(), AllocError> {
-    if count <= CHUNK {
-        return out.push_str("        make_from_0(self.actions, &at, production, args)\n");
+fn write_choice(out: &mut String, plan: &Plan) -> Result<(), AllocError> {
+    if plan.prods.len() <= CHUNK {
+        return out.push_str("        make_from_0(self.actions, at, production, args)\n");
     }
     out.push_str("        ")?;
-    for low in (0..count).step_by(CHUNK) {
-        let high = low.saturating_add(CHUNK);
-        if high < count {
-            write!(out, "if production < {high} ")?;
-        }
-        writeln!(out, "{{")?;
-        writeln!(
-            out,
-            "            make_from_{low}(self.actions, &at, production, args)"
-        )?;
-        out.push_str(if high < count {
-            "        } else "
+    for (place, prods) in plan.prods.chunks(CHUNK).enumerate() {
+        let next = place.saturating_add(1).saturating_mul(CHUNK);
+        let (low, next) = (first_number(prods), plan.prods.get(next));
+        let template = if next.is_some() {
+            "if production < @next@ {\n            make_from_@low@(self.actions, at, production, args)\n        } else "
         } else {
-            "        }\n"
-        })?;
+            "{\n            make_from_@low@(self.actions, at, production, args)\n        }\n"
+        };
+        let next = next.map_or("", |next| next.number.as_str());
+        push_filled(out, template, &[("low", low), ("next", next)])?;
     }
     Ok(())
 }
+
+// The number of the first production.
+fn first_number(prods: &[PlannedProd]) -> &str {
+    prods.first().map_or("", |prod| prod.number.as_str())
+}
+
+// The signature of a function that has the productions from one number to another one.
+const MAKER: &str = "\
+// The values of productions @low@ to @last@.
+fn make_from_@low@<'text, A: Actions@life@>(
+    actions: &A,
+    at: At<'_, 'text>,
+    production: usize,
+    args: &mut RuleArgs<'_, '_, 'text, A::Error>,
+) -> Result<RuleValue@life@, A::Error>
+";
+
+// What comes after the first number in its contract.
+const MAKER_CLAUSES: &str = "    requires high { production < @next@ }
+    requires fits { AreOfRow (λ n. n) ⟦<Token<u32> as Lexeme<u32>>⟧.parts rule_of ROWS production args.old }
+    requires hold { AllHold (HoldsOf (A.holds actions.now)) args.old.left }
+    ensures rule { IsOfRow rule_of ROWS production result }
+    ensures holds { IfOk result (HoldsOf (A.holds actions.now)) }
+{
+    match production {
+";
 
 /// Writes the functions that make the values of productions.
 pub(crate) fn write_makers(
     out: &mut String,
-    setting: Setting<'_>,
+    alloc: Global,
     plan: &Plan,
+    life: &str,
 ) -> Result<(), AllocError> {
-    let mut low: usize = 0;
-    for prods in plan.prods.chunks(CHUNK) {
-        let high = low.saturating_add(prods.len());
-        write_maker_head(out, setting.life, low, high)?;
-        for (place, prod) in prods.iter().enumerate() {
-            writeln!(out, "        // {spelled}", spelled = prod.spelled.as_str())?;
-            write_maker(out, setting, low.saturating_add(place), prod)?;
+    for (place, prods) in plan.prods.chunks(CHUNK).enumerate() {
+        let next = place.saturating_add(1).saturating_mul(CHUNK);
+        write_maker_head(out, plan, prods, next, life)?;
+        for prod in prods {
+            write_maker(out, alloc, plan, prod)?;
         }
         out.push_str("        _ => unreachable!(),\n    }\n}\n\n")?;
-        low = high;
     }
     Ok(())
 }
 
-// Writes the head of the function that has the productions from one number to another one.
-fn write_maker_head(
+// Writes the head of the function that has these productions. `next` is the place of the one after them.
+fn write_maker_head<'x>(
     out: &mut String,
-    life: &str,
-    low: usize,
-    high: usize,
+    plan: &'x Plan,
+    prods: &'x [PlannedProd],
+    next: usize,
+    life: &'x str,
 ) -> Result<(), AllocError> {
-    writeln!(
-        out,
-        "// The values of productions {low} to {last}.",
-        last = high.saturating_sub(1)
-    )?;
-    writeln!(
-        out,
-        "\
-fn make_from_{low}<'rules, 'text, A: Actions{life}>(
-    actions: &A,
-    at: &At<'_, 'rules, 'text>,
-    production: usize,
-    args: &mut RuleArgs<'_, 'rules, 'text, A::Error>,
-) -> Result<RuleValue{life}, A::Error>"
-    )?;
-    if low > 0 {
-        writeln!(out, "    requires low {{ {low} ≤ production }}")?;
+    let low = first_number(prods);
+    let last = prods.last().map_or("", |prod| prod.number.as_str());
+    let next = match plan.prods.get(next) {
+        Some(prod) => prod.number.as_str(),
+        None => plan.count.as_str(),
+    };
+    push_filled(out, MAKER, &[("low", low), ("last", last), ("life", life)])?;
+    if low != "0" {
+        push_filled(
+            out,
+            "    requires low { @low@ ≤ production }\n",
+            &[("low", low)],
+        )?;
     }
-    writeln!(
-        out,
-        "    requires high {{ production < {high} }}
-    requires fits {{ {FITS} }}
-    ensures {{ IsOfRow rule_of ROWS production result }}
-{{
-    match production {{"
-    )
+    push_filled(out, MAKER_CLAUSES, &[("next", next)])
 }
 
 // Writes what makes the value of a production.
-fn write_maker(
+fn write_maker<'x>(
     out: &mut String,
-    setting: Setting<'_>,
-    number: usize,
-    prod: &PlannedProd,
+    alloc: Global,
+    plan: &'x Plan,
+    prod: &'x PlannedProd,
 ) -> Result<(), AllocError> {
-    let rule = match setting.grammar.rules.get(prod.rule) {
-        Some(rule) => camel(setting.alloc, rule.name.as_str())?,
-        None => String::new(setting.alloc),
+    let rule = match plan.rules.get(prod.rule) {
+        Some(rule) => rule.camel.as_str(),
+        None => "",
     };
-    let rule = rule.as_str();
+    let words = [
+        ("spelled", prod.spelled.as_str()),
+        ("number", prod.number.as_str()),
+    ];
+    push_filled(out, "        // @spelled@\n        @number@ => ", &words)?;
     if let (true, Call::Value(value)) = (prod.args.is_empty(), &prod.call) {
-        let value = value.as_str();
-        return writeln!(out, "        {number} => Ok(RuleValue::{rule}({value})),");
+        return push_filled(
+            out,
+            "Ok(RuleValue::@rule@(@value@)),\n",
+            &[("rule", rule), ("value", value.as_str())],
+        );
     }
-    writeln!(out, "        {number} => {{")?;
+    out.push_str("{\n")?;
     for arg in &prod.args {
-        write!(out, "            let {name} = ", name = arg.name.as_str())?;
-        write_taking(out, setting, arg.symbol)?;
+        let words = [("name", arg.name.as_str())];
+        push_filled(out, "            let @name@ = ", &words)?;
+        write_taking(out, &plan.rules, arg.symbol)?;
     }
-    match &prod.call {
-        Call::Value(value) => {
-            writeln!(
-                out,
-                "            Ok(RuleValue::{rule}({value}))",
-                value = value.as_str()
-            )?;
-        }
-        Call::Action(action, passed) => {
-            write_call(out, setting.alloc, action.as_str(), passed)?;
-            writeln!(out, "            Ok(RuleValue::{rule}(made))")?;
-        }
-    }
+    write_result(out, alloc, rule, &prod.call)?;
     out.push_str("        }\n")
 }
 
 // Writes the call that takes the argument of a symbol.
 fn write_taking(
     out: &mut String,
-    setting: Setting<'_>,
+    rules: &[PlannedRule],
     symbol: Symbol<u32>,
 ) -> Result<(), AllocError> {
     match symbol {
         Symbol::Token(_) => out.push_str("lrpar_typed::next_lexeme(args);\n"),
-        Symbol::Rule(_) => {
-            let name = symbol_name(setting.alloc, setting.grammar, symbol)?;
-            writeln!(out, "next_{name}(args);", name = name.as_str())
+        Symbol::Rule(RIdx(number)) => {
+            let place = (number as usize).saturating_sub(1);
+            let name = rules.get(place).map_or("", |rule| rule.snake.as_str());
+            push_filled(out, "next_@name@(args);\n", &[("name", name)])
+        }
+    }
+}
+
+// Writes what makes the value, once the arguments are there.
+fn write_result<'x>(
+    out: &mut String,
+    alloc: Global,
+    rule: &'x str,
+    call: &'x Call,
+) -> Result<(), AllocError> {
+    match call {
+        Call::Value(value) => {
+            push_filled(
+                out,
+                "            Ok(RuleValue::@rule@(@value@))\n",
+                &[("rule", rule), ("value", value.as_str())],
+            )
+        }
+        Call::Action(action, passed) => {
+            write_call(out, alloc, action.as_str(), passed)?;
+            push_filled(
+                out,
+                "            Ok(RuleValue::@rule@(made))\n",
+                &[("rule", rule)],
+            )
         }
     }
 }
@@ -271,45 +287,59 @@ fn write_call(
 ) -> Result<(), AllocError> {
     let mut line = String::from_str(alloc, "at")?;
     for arg in passed {
-        write!(line, ", {arg}", arg = arg.as_str())?;
+        push_filled(&mut line, ", @arg@", &[("arg", arg.as_str())])?;
     }
+    push_filled(
+        out,
+        "            let made = actions.@action@(",
+        &[("action", action)],
+    )?;
     if line.len() <= MAX_ARGS {
-        let args = line.as_str();
-        return writeln!(out, "            let made = actions.{action}({args})?;");
+        out.push_str(line.as_str())?;
+        return out.push_str(")?;\n");
     }
-    writeln!(out, "            let made = actions.{action}(")?;
-    writeln!(out, "                at,")?;
+    out.push_str("\n                at,\n")?;
     for arg in passed {
-        writeln!(out, "                {arg},", arg = arg.as_str())?;
+        push_filled(out, "                @arg@,\n", &[("arg", arg.as_str())])?;
     }
-    writeln!(out, "            )?;")
+    out.push_str("            )?;\n")
 }
 
+// What a function does that takes the value of a rule.
+const TAKER: &str = "
+    requires { IsRuleNext rule_of @number@ args.old.left }
+    ensures { IsTaken args.old (RuleValue.@rule@ result) args.new }
+{
+    match lrpar_typed::next_value(args) {
+        RuleValue::@rule@(value) => value,
+@others@    }
+}
+
+";
+
 /// Writes the functions that take the values of rules.
-pub(crate) fn write_takers(out: &mut String, setting: Setting<'_>) -> Result<(), AllocError> {
-    let is_only = setting.grammar.rules.len() == 1;
-    let are_used = used_rules(setting.alloc, setting.grammar)?;
-    for (place, rule) in setting.grammar.rules.iter().enumerate() {
-        let number = place.saturating_add(1);
-        if !are_used.get(place).copied().unwrap_or(false) {
-            continue;
-        }
-        let snake = snake(setting.alloc, rule.name.as_str())?;
-        let camel = camel(setting.alloc, rule.name.as_str())?;
-        write_taker_head(out, setting, snake.as_str(), rule.value.as_str())?;
-        let camel = camel.as_str();
-        writeln!(
+pub(crate) fn write_takers(
+    out: &mut String,
+    alloc: Global,
+    rules: &[PlannedRule],
+    life: &str,
+) -> Result<(), AllocError> {
+    let others = if rules.len() > 1 {
+        "        _ => unreachable!(),\n"
+    } else {
+        ""
+    };
+    for rule in rules.iter().filter(|rule| rule.is_used) {
+        write_taker_head(out, alloc, rule, life)?;
+        push_filled(
             out,
-            "    requires {{ IsRuleNext rule_of {number} args.old.left }}
-    ensures {{ IsTaken args.old (RuleValue.{camel} result) args.new }}
-{{
-    match lrpar_typed::next_value(args) {{
-        RuleValue::{camel}(value) => value,"
+            TAKER,
+            &[
+                ("number", rule.number.as_str()),
+                ("rule", rule.camel.as_str()),
+                ("others", others),
+            ],
         )?;
-        if !is_only {
-            writeln!(out, "        _ => unreachable!(),")?;
-        }
-        out.push_str("    }\n}\n\n")?;
     }
     Ok(())
 }
@@ -317,51 +347,29 @@ pub(crate) fn write_takers(out: &mut String, setting: Setting<'_>) -> Result<(),
 // Writes the signature of a function that takes the value of a rule: on a line, if it is short enough.
 fn write_taker_head(
     out: &mut String,
-    setting: Setting<'_>,
-    name: &str,
-    value: &str,
+    alloc: Global,
+    rule: &PlannedRule,
+    life: &str,
 ) -> Result<(), AllocError> {
-    let lives = setting.lives();
-    let life = if setting.life.is_empty() {
-        ""
+    let (borrow, text) = if life.is_empty() {
+        ("", "'_")
     } else {
-        "'text, "
+        ("'text, ", "'text")
     };
-    let mut line = String::new(setting.alloc);
-    write!(
-        line,
-        "fn next_{name}<{life}ErrorT: Drop>(args: &mut RuleArgs<{lives}, ErrorT>) -> {value}"
-    )?;
-    if line.len() <= 100 {
-        return writeln!(out, "{line}", line = line.as_str());
+    let words = [
+        ("name", rule.snake.as_str()),
+        ("value", rule.value.as_str()),
+        ("borrow", borrow),
+        ("text", text),
+    ];
+    let template =
+        "fn next_@name@<@borrow@ErrorT: Drop>(args: &mut RuleArgs<'_, '_, @text@, ErrorT>) -> @value@";
+    let mut line = String::new(alloc);
+    push_filled(&mut line, template, &words)?;
+    if line.len() <= MAX_LINE {
+        return out.push_str(line.as_str());
     }
-    writeln!(out, "fn next_{name}<{life}ErrorT: Drop>(")?;
-    writeln!(out, "    args: &mut RuleArgs<{lives}, ErrorT>,")?;
-    writeln!(out, ") -> {value}")
-}
-
-// Of each rule, whether a production has it among its symbols.
-fn used_rules(alloc: Global, grammar: &TypedGrammar) -> Result<Vec<bool>, AllocError> {
-    let mut are_used = Vec::new(alloc);
-    for _ in &grammar.rules {
-        are_used.push(false)?;
-    }
-    for rule in &grammar.rules {
-        for prod in &rule.prods {
-            for symbol in &prod.symbols {
-                note_used(&mut are_used, symbol.symbol);
-            }
-        }
-    }
-    Ok(are_used)
-}
-
-// Notes that a symbol is used.
-fn note_used(are_used: &mut [bool], symbol: Symbol<u32>) {
-    if let Symbol::Rule(RIdx(number)) = symbol {
-        let place = (number as usize).saturating_sub(1);
-        if let Some(is_used) = are_used.get_mut(place) {
-            *is_used = true;
-        }
-    }
+    let template =
+        "fn next_@name@<@borrow@ErrorT: Drop>(\n    args: &mut RuleArgs<'_, '_, @text@, ErrorT>,\n) -> @value@";
+    push_filled(out, template, &words)
 }

@@ -11,6 +11,7 @@ use program_files::streams::Status;
 use std::alloc::{AllocError, Global};
 use std::fs;
 use std::io::Write;
+use std::path::Path;
 use std::rt::Files;
 
 // Where the code and its spec are in the folder of a crate.
@@ -66,38 +67,34 @@ const NO_NAME: &str = "cannot tell the crate's name by this path: add --crate NA
 // What is made of a grammar.
 #[derive(Clone, Copy)]
 struct Made<'a> {
-    // With the sign at its end, or nothing.
-    folder: &'a str,
+    folder: Path<'a>,
     code: &'a str,
     grammar: &'a TypedGrammar,
     name: &'a str,
 }
 
-// The folder of the crate that has the file at this path, with the sign at its end, or nothing.
-fn crate_folder(path: &str) -> &str {
-    let folder = folder_of(path);
-    match folder.strip_suffix("src/") {
-        Some(around) if around.is_empty() || around.ends_with('/') => around,
-        _ => folder,
+// The folder of the crate that has the file at this path.
+fn crate_folder(path: &str) -> Path<'_> {
+    let folder = folder_of(Path::new(path));
+    if folder.file_name() == Some("src") {
+        folder_of(folder)
+    } else {
+        folder
     }
 }
 
-// The path up to the last sign between folders.
-fn folder_of(path: &str) -> &str {
-    match path.rfind('/') {
-        Some(place) => path.get(..place.saturating_add(1)).unwrap_or(""),
-        None => "",
-    }
+// The folder of a file or of a folder.
+fn folder_of(path: Path<'_>) -> Path<'_> {
+    path.parent().unwrap_or(path)
 }
 
 // The name of a crate by its folder, if it can be one.
-fn crate_name(folder: &str) -> Option<&str> {
-    let inner = folder.strip_suffix('/')?;
-    let name = inner.rsplit_once('/').map_or(inner, |parts| parts.1);
-    let is_name = name.starts_with(|sign: char| sign.is_ascii_lowercase())
-        && name.chars().all(|sign| sign.is_ascii_lowercase()
-            || sign.is_ascii_digit()
-            || sign == '_');
+fn crate_name(folder: Path<'_>) -> Option<&str> {
+    let name = folder.file_name()?;
+    let is_name = name.starts_with(|letter: char| letter.is_ascii_lowercase())
+        && name.chars().all(|letter| letter.is_ascii_lowercase()
+            || letter.is_ascii_digit()
+            || letter == '_');
     if is_name { Some(name) } else { None }
 }
 
@@ -129,12 +126,13 @@ fn write_files<R: Files>(rt: &R, alloc: Global, made: Made<'_>) -> Result<Status
 fn write_file<R: Files>(
     rt: &R,
     alloc: Global,
-    folder: &str,
+    folder: Path<'_>,
     name: &str,
     text: &str,
 ) -> Result<(), Fault> {
-    let path = format!(in alloc; "{folder}{name}")?;
-    match fs::write(rt, path.as_str(), text) {
+    let path = folder.join(alloc, name)?;
+    let path = path.as_str();
+    match fs::write(rt, path, text) {
         Ok(()) => Ok(()),
         Err(_) => Err(Fault::Words(format!(in alloc; "cannot write {path}")?)),
     }
@@ -157,13 +155,14 @@ fn check_files<R: Files, O: Write>(
 fn check_file<R: Files, O: Write>(
     rt: &R,
     alloc: Global,
-    folder: &str,
+    folder: Path<'_>,
     name: &str,
     text: &str,
     out: &mut O,
 ) -> Result<bool, Fault> {
-    let path = format!(in alloc; "{folder}{name}")?;
-    let found = text_if_readable(rt, alloc, path.as_str())?;
+    let path = folder.join(alloc, name)?;
+    let path = path.as_str();
+    let found = text_if_readable(rt, alloc, path)?;
     let is_same = match &found {
         Some(found) => found.as_str() == text,
         None => false,

@@ -270,9 +270,10 @@ fn write_notes<O: Write, E: Write>(
         return Ok(());
     }
     let shows_tokens = notes.asked.shows_states || built.stable.conflicts().is_some();
-    let shown = match shows_tokens {
-        true => notes.shown_grammar(alloc, built.grm)?,
-        false => None,
+    let shown = if shows_tokens {
+        notes.shown_grammar(alloc, built.grm)?
+    } else {
+        None
     };
     let built = match &shown {
         Some(grm) => Built { grm, ..built },

@@ -1,7 +1,7 @@
 //! Typed grammars: what they are, or what is wrong with them.
 use crate::printer::Printer;
 use crate::show::{fault_of_report, push_reports};
-use lrpar_grammar::grammar::{GrammarFault, YaccGrammar};
+use lrpar_grammar::grammar::YaccGrammar;
 use lrpar_grammar::span::Span;
 use lrpar_grammar_typed::expand::expand;
 use lrpar_grammar_typed::notation::{LEXER, NAMES, Notation, NotationFault};
@@ -118,28 +118,19 @@ fn wording_of(alloc: Global, notation: &Notation) -> Result<Wording<u32>, AllocE
 
 // The report of a typed grammar without a meaning.
 fn typed_report(alloc: Global, text: &str, fault: &TypedFault) -> Result<Report, AllocError> {
-    let fault = match fault {
-        TypedFault::NoRules => GrammarFault::NoRules,
-        TypedFault::UnknownRule(span) => GrammarFault::UnknownRule(*span),
-        TypedFault::TokenIsRule(span) => GrammarFault::TokenIsRule(*span),
-        TypedFault::TooMany => GrammarFault::StorageTooSmall,
-        TypedFault::Memory(_) => GrammarFault::Memory,
-        TypedFault::RepeatedStart(span) => GrammarFault::RepeatedStart(*span),
+    match fault {
+        TypedFault::Grammar(fault) => grammar_report(alloc, text, fault),
+        TypedFault::Memory(_) => Err(AllocError),
         TypedFault::RepeatedType(span) => {
-            return report_at(
-                alloc,
-                "repeated type",
-                *span,
-                "an earlier %type has this rule",
-            );
+            let label = "an earlier %type has this rule";
+            report_at(alloc, "repeated type", *span, label)
         }
         TypedFault::TakenName(span) => {
             let label = "the rule for this would have the name of another one";
-            return report_at(alloc, "taken name", *span, label);
+            report_at(alloc, "taken name", *span, label)
         }
-        TypedFault::TooDeep(span) => return deep_report(alloc, *span),
-    };
-    grammar_report(alloc, text, &fault)
+        TypedFault::TooDeep(span) => deep_report(alloc, *span),
+    }
 }
 
 /// The report of an error at a place.

@@ -15,7 +15,7 @@ impl<'text> Actions<'text> for Queries {
 
     fn named_query(
         &self,
-        at: &At<'_, '_, 'text>,
+        at: At<'_, 'text>,
         name: Token<u32>,
         mut query: Query<'text>,
     ) -> Result<Query<'text>, Failed> {
@@ -25,7 +25,7 @@ impl<'text> Actions<'text> for Queries {
 
     fn query(
         &self,
-        at: &At<'_, '_, 'text>,
+        at: At<'_, 'text>,
         name: Token<u32>,
         stages: Vec<Stage<'text>>,
     ) -> Result<Query<'text>, Failed> {
@@ -36,29 +36,25 @@ impl<'text> Actions<'text> for Queries {
         })
     }
 
-    fn filter(
-        &self,
-        _at: &At<'_, '_, 'text>,
-        condition: Expr<'text>,
-    ) -> Result<Stage<'text>, Failed> {
+    fn filter(&self, _at: At<'_, 'text>, condition: Expr<'text>) -> Result<Stage<'text>, Failed> {
         Ok(Stage::Where(condition))
     }
 
     fn select(
         &self,
-        _at: &At<'_, '_, 'text>,
+        _at: At<'_, 'text>,
         columns: Vec<Expr<'text>>,
     ) -> Result<Stage<'text>, Failed> {
         Ok(Stage::Select(columns))
     }
 
-    fn take(&self, at: &At<'_, '_, 'text>, count: Token<u32>) -> Result<Stage<'text>, Failed> {
+    fn take(&self, at: At<'_, 'text>, count: Token<u32>) -> Result<Stage<'text>, Failed> {
         Ok(Stage::Take(name_of(at, count)))
     }
 
     fn binary(
         &self,
-        at: &At<'_, '_, 'text>,
+        at: At<'_, 'text>,
         kind: Operator,
         left: Expr<'text>,
         right: Expr<'text>,
@@ -68,34 +64,34 @@ impl<'text> Actions<'text> for Queries {
         Ok(Expr::Binary(kind, at.range, left, right))
     }
 
-    fn column(&self, at: &At<'_, '_, 'text>, name: Token<u32>) -> Result<Expr<'text>, Failed> {
+    fn column(&self, at: At<'_, 'text>, name: Token<u32>) -> Result<Expr<'text>, Failed> {
         Ok(Expr::Atom(Atom::Column, at.lexer.text(&name)))
     }
 
     fn call(
         &self,
-        at: &At<'_, '_, 'text>,
+        at: At<'_, 'text>,
         name: Token<u32>,
         arguments: Vec<Expr<'text>>,
     ) -> Result<Expr<'text>, Failed> {
         Ok(Expr::Call(name_of(at, name), arguments))
     }
 
-    fn number(&self, at: &At<'_, '_, 'text>, digits: Token<u32>) -> Result<Expr<'text>, Failed> {
+    fn number(&self, at: At<'_, 'text>, digits: Token<u32>) -> Result<Expr<'text>, Failed> {
         Ok(Expr::Atom(Atom::Number, at.lexer.text(&digits)))
     }
 
-    fn text(&self, at: &At<'_, '_, 'text>, text: Token<u32>) -> Result<Expr<'text>, Failed> {
+    fn text(&self, at: At<'_, 'text>, text: Token<u32>) -> Result<Expr<'text>, Failed> {
         Ok(Expr::Atom(Atom::Text, at.lexer.text(&text)))
     }
 
-    fn null(&self, _at: &At<'_, '_, 'text>) -> Result<Expr<'text>, Failed> {
+    fn null(&self, _at: At<'_, 'text>) -> Result<Expr<'text>, Failed> {
         Ok(Expr::Null)
     }
 }
 
 // A lexeme, as a part of the text.
-fn name_of<'text>(at: &At<'_, '_, 'text>, lexeme: Token<u32>) -> Name<'text> {
+fn name_of<'text>(at: At<'_, 'text>, lexeme: Token<u32>) -> Name<'text> {
     Name {
         text: at.lexer.text(&lexeme),
         range: TextRange::from(lexeme.span()),
