@@ -11,6 +11,9 @@ const CHUNK: usize = 8;
 // How long the arguments of a call on one line may be.
 const MAX_ARGS: usize = 60;
 
+// How long they may be together with the name of the action.
+const MAX_CALL: usize = 65;
+
 // How long the line of a signature may be.
 const MAX_LINE: usize = 100;
 
@@ -294,7 +297,8 @@ fn write_call(
         "            let made = actions.@action@(",
         &[("action", action)],
     )?;
-    if line.len() <= MAX_ARGS {
+    let call_len = action.len().saturating_add(line.len());
+    if line.len() <= MAX_ARGS && call_len <= MAX_CALL {
         out.push_str(line.as_str())?;
         return out.push_str(")?;\n");
     }
