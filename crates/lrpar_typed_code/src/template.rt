@@ -1,7 +1,7 @@
 //! Templates of code.
 use std::alloc::AllocError;
 
-/// Appends a template. A name between two `@` stands for the word of that name.
+/// Appends a template, with the word of each name in place of that name between two `@`.
 pub(crate) fn push_filled(
     out: &mut String,
     template: &str,
