@@ -10,6 +10,7 @@ pub use lrpar_grammar::{grammar, lines};
 pub use lrpar_parse::generictree::action_generictree;
 pub use lrpar_parse::{RTParserBuilder, parser};
 pub use lrpar_parse_errors::{LexParseError, ParseError, ParseRepair, errors};
+pub use lrpar_parse_flat_trees::syntax_tree::SyntaxTree;
 pub use lrpar_parse_lexemes::{
     InputLexer, LexError, Lexeme, Lexer, LexerTypes, NonStreamingLexer, lex_api,
 };

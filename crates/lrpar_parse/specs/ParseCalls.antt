@@ -1,13 +1,16 @@
 -- What the calls of a parser return. `index` gives the number of a value of the storage type, `parts` the parts of a lexeme, `allows` says
 -- which answers the recoverer may give, and `lexes` which answers the lexer allows.
 use Rattle.std.specs.Prelude.{ℕ, List, Option, Result, Vec}
+use Rattle.lrpar_grammar_places.specs.Facts.{LexemeFacts}
 use Rattle.lrpar_grammar_places.specs.Span.{Extent}
 use Rattle.lrpar_grammar_places.specs.declared.span.RIdx.{RIdx}
+use Rattle.lrpar_grammar.specs.Tree.{Tree}
 use Rattle.lrpar_parse_errors.specs.declared.errors.LexParseError.{LexParseError}
 use Rattle.lrpar_parse_lexemes.specs.Lexemes.{LexemeParts}
 use Rattle.lrpar_parse_lexemes.specs.Views.{facts_by, span_by}
 use Rattle.lrpar_parse_repair.specs.Asked.{Asked}
 use Rattle.lrpar_parse_repair.specs.Sequences.{PlainStep}
+use Rattle.lrpar_parse_flat_trees.specs.Flat.{IsTreeBy}
 use Rattle.lrpar_parse_run.specs.Building.{Building}
 use Rattle.lrpar_parse_run.specs.End.{IsOfTree}
 use Rattle.lrpar_parse_run.specs.Folds.{Folds}
@@ -42,6 +45,10 @@ module _ {S X R C : Type 0} (index : S → ℕ) (parts : X → LexemeParts S) (a
   -- a parse to the tree
   abbrev pub GetsTree : {L Z : Type 0} → Result (Option (Node X S) × Vec (LexParseError S L X C) Z) ParseFault → Type 0
   GetsTree result = ParsesTo (subject index parts allows parser) lexes (Folds IsTerm (IsNonterm index) parser.checked.grammar) result
+
+  -- a parse to the tree, with the parts of each lexeme in its place
+  abbrev pub GetsSyntaxTree : {L Z : Type 0} → Result (Option (Tree LexemeFacts) × Vec (LexParseError S L X C) Z) ParseFault → Type 0
+  GetsSyntaxTree result = ParsesTo (subject index parts allows parser) lexes (IsTreeBy (facts_by index parts)) result
 
   -- a parse to an entry that represents the tree
   abbrev pub GetsEntry : {E L Z : Type 0} → Building X E → Result (Option E × Vec (LexParseError S L X C) Z) ParseFault → Type 0

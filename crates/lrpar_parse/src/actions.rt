@@ -85,6 +85,8 @@ impl<
 > Build<StorageT, LexemeT> for Acting<'a, LexerT, A, A::ParamT> {
     type Entry = Placed<AStackType<LexemeT, A::ActionT>>;
 
+    type Entries = Vec<Placed<AStackType<LexemeT, A::ActionT>>>;
+
     ghost builds = { λ b. record {
       can_build = λ g. TakesAll (A.taken b.actions.now) g;
       suits = λ s e. IsArgument (token_by StorageT.index LexemeT.parts) (A.fact b.actions.now) s e.argument;
@@ -93,11 +95,16 @@ impl<
       rises = λ es n. Rise 0 (spans_of es) n;
     } };
 
-    fn shift(&self, lexeme: LexemeT) -> Self::Entry {
-        Placed {
+    fn shift(
+        &self,
+        lexeme: LexemeT,
+        entries: &mut Vec<Placed<AStackType<LexemeT, A::ActionT>>>,
+    ) -> Result<(), AllocError> {
+        entries.push(Placed {
             span: lexeme.span(),
             argument: AStackType::Lexeme(lexeme),
-        }
+        })?;
+        Ok(())
     }
 
     fn reduce(
@@ -107,7 +114,7 @@ impl<
         pidx: &PIdx<StorageT>,
         count: usize,
         entries: &mut Vec<Placed<AStackType<LexemeT, A::ActionT>>>,
-    ) -> Result<Placed<AStackType<LexemeT, A::ActionT>>, AllocError> {
+    ) -> Result<(), AllocError> {
         let (before, own) = entries.split_at(entries.len() - count);
         let span = span_of(before, own);
         let ridx = grm.prod_to_rule(*pidx);
@@ -115,10 +122,11 @@ impl<
         let value = self
             .actions
             .act(alloc, *pidx, ridx, self.lexer, span, args, self.param)?;
-        Ok(Placed {
+        entries.push(Placed {
             span,
             argument: AStackType::ActionType(value),
-        })
+        })?;
+        Ok(())
     }
 
     ghost rising = { λ b g. placed_rise (span_by LexemeT.parts) (acts_by (A.answers b.actions.now) g b.lexer.now b.param.now) };

@@ -6,7 +6,7 @@ ghost use Rattle.lrpar_parse_run.specs.Entries.{HasValueEntry};
 ghost use Rattle.lrpar_parse_run.specs.declared.values.AStackType.TheVariants.{ActionType};
 ghost use Rattle.lrpar_parse.specs.ExpectedAnswer.{AreValid};
 ghost use Rattle.lrpar_parse.specs.Parser.{IsUnchanged, IsWithShifts, with_recoverer};
-ghost use Rattle.lrpar_parse.specs.ParseCalls.{ExpectsNext, GetsErrors, GetsActed, GetsEntry, GetsGiven, GetsMapped, GetsTree, RunsTo};
+ghost use Rattle.lrpar_parse.specs.ParseCalls.{ExpectsNext, GetsErrors, GetsActed, GetsEntry, GetsGiven, GetsMapped, GetsSyntaxTree, GetsTree, RunsTo};
 
 use crate::actions::Acting;
 pub use crate::actions::Actions;
@@ -24,6 +24,11 @@ pub use crate::values::Values;
 use lrpar_grammar::grammar::YaccGrammar;
 use lrpar_grammar::span::{PIdx, RIdx, StorageIndex};
 pub use lrpar_parse_errors::{LexParseError, ParseError, ParseRepair, PpFault};
+pub use lrpar_parse_flat_trees::children::Children;
+use lrpar_parse_flat_trees::flat_trees::FlatTrees;
+pub use lrpar_parse_flat_trees::kind::SyntaxKind;
+pub use lrpar_parse_flat_trees::syntax_node::SyntaxNode;
+pub use lrpar_parse_flat_trees::syntax_tree::SyntaxTree;
 use lrpar_parse_lexemes::lex_api::{LexerTypes, NonStreamingLexer};
 use lrpar_parse_lexemes::placed::Placed;
 use lrpar_parse_repair::repair::{NoRecovery, Recoverer};
@@ -46,7 +51,7 @@ type Answer<StorageT, LexerTypesT, V> = (Option<V>, Vec<LexParseError<StorageT, 
 ///
 /// `new` makes a parser without repairs, which ends at its first error; `recoverer` and `shifts` change that. Each parse call takes a
 /// lexer. `parse_map` makes a value with two functions, and `parse_actions` with an action for each production; `parse_generictree` makes
-/// the parse tree; `parse_noaction` returns the errors alone. A parser can parse any number of times.
+/// the parse tree, and `parse_tree` the same in one list; `parse_noaction` returns the errors alone. A parser can parse any number of times.
 #[derive(Drop)]
 pub struct RTParserBuilder<
     'a,
@@ -289,6 +294,22 @@ impl<
         ensures parse { GetsTree StorageT.index LexerTypesT.LexemeT.parts R.allows self.now (L.allows lexer.now) result }
     {
         self.parse_to_entry(alloc, lexer, &Trees)
+    }
+
+    /// Parses the lexemes that the lexer returns, and makes their parse tree as one list of nodes, which has productions where
+    /// `parse_generictree` has rules. The lexer is called once. The errors and each `Err` are as for `parse_map`.
+    ///
+    /// No node takes memory of its own: there is one list, with 16 bytes a node if the storage type has 32 bits. `Err(Memory)` also means
+    /// that a lexeme ends past byte 2^32 - 1, or that there are about as many nodes.
+    pub fn parse_tree<'input, L: NonStreamingLexer<'input, LexerTypesT>>(
+        &self,
+        alloc: Global,
+        lexer: &L,
+    ) -> Result<Answer<StorageT, LexerTypesT, SyntaxTree<StorageT>>, ParseFault>
+        // Out of memory, or the lexer allows an answer, and the result is that of the parse over this answer.
+        ensures parse { GetsSyntaxTree StorageT.index LexerTypesT.LexemeT.parts R.allows self.now (L.allows lexer.now) result }
+    {
+        self.parse_to_entry(alloc, lexer, &FlatTrees)
     }
 
     /// Parses the lexemes that the lexer returns, for the errors alone. The lexer is called once. The errors and each `Err` are as for

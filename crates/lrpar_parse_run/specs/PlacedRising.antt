@@ -1,5 +1,5 @@
 -- Entries with their spans keep the order of their starts.
-use Rattle.std.proofs.Common.{◌≡◌, ◌≤◌, ℕ, List, [], ◌∷◌, ◌++◌, None, Option, Some, ap, arith, refl}
+use Rattle.std.proofs.Common.{◌≡◌, ◌≤◌, ℕ, List, [], ◌∷◌, ◌++◌, None, Option, Some, arith, refl}
 use Rattle.std.specs.List.{last_or}
 use Rattle.lrpar_grammar_places.specs.Span.{Extent}
 use Rattle.lrpar_parse_lexemes.specs.PlacedSpans.{Rise, span_before, span_over, spans_of}
@@ -23,7 +23,7 @@ rise_within low (x ∷ xs) high rise =
     omega arith
 
 -- one part more at the end
-rise_one : (low mid : ℕ) (xs : List Extent) (y : Extent) (high : ℕ) → Rise low xs mid → mid ≤ y.start → y.start ≤ high → Rise low (xs ++ y ∷ []) high
+pub rise_one : (low mid : ℕ) (xs : List Extent) (y : Extent) (high : ℕ) → Rise low xs mid → mid ≤ y.start → y.start ≤ high → Rise low (xs ++ y ∷ []) high
 rise_one low mid xs y high front above below = rise_both low mid xs (y ∷ []) high front (λ least. (omega arith, below))
 
 -- the start of the last entry is that of the span before what comes next
@@ -32,7 +32,7 @@ last_start_is before [] = refl
 last_start_is before (e ∷ es) = last_start_is (Some e) es
 
 -- the span of a node starts no earlier than the span before it, and no later than the bound
-over_start : (mid : ℕ) (before : Extent) (parts : List Extent) (high : ℕ) → mid ≡ before.start → Rise mid parts high → (mid ≤ (span_over before parts).start) × ((span_over before parts).start ≤ high)
+pub over_start : (mid : ℕ) (before : Extent) (parts : List Extent) (high : ℕ) → mid ≡ before.start → Rise mid parts high → (mid ≤ (span_over before parts).start) × ((span_over before parts).start ≤ high)
 over_start mid before [] high is rise = (omega (arith, is), omega (arith, is, rise))
 over_start mid before (x ∷ xs) high is rise = (rise.0, rise_within x.start xs high rise.1)
 

@@ -7,6 +7,7 @@ use Rattle.lrpar_grammar_places.specs.declared.span.StIdx.{StIdx}
 use Rattle.lrpar_grammar.specs.Grammar.{Grammar, GrammarSymbol, Nonterminal, rule_of, prod_len}
 use Rattle.lrpar_grammar.specs.Tree.{Tree, Forest, Leaf, Branch, Nil, Cons}
 use Rattle.lrpar_table_rows.specs.Table.{Table}
+use Rattle.lrpar_parse_run.specs.Building.{Building, IsShifted}
 use Rattle.lrpar_table_stacks.specs.Path.{IsPath}
 use Rattle.lrpar_table_stacks.specs.Reduction.{Reduces}
 use Rattle.lrpar_table_stacks.specs.Stack.{top_of}
@@ -36,10 +37,10 @@ IsStateAt index stacks at state = slice_get stacks.states at ≡ Some (index sta
 abbrev pub KeepsStates : {E : Type 0} → Stacked E → Stacked E → Type 0
 KeepsStates old new = new.states ≡ old.states
 
--- a state is pushed, with the entry of the symbol that led to it; `index` gives the number of a value of the storage type
-pub record IsPushed {S E : Type 0} (index : S → ℕ) (state : StIdx S) (entry : E) (old new : Stacked E) : Type 0 where
-  pub states : new.states ≡ old.states ++ index state.0 ∷ []
-  pub entries : new.entries ≡ old.entries ++ entry ∷ []
+-- a state is pushed, with an entry of lexeme x, whose token is t
+pub record IsPushed {X E : Type 0} (builds : Building X E) (state t : ℕ) (x : X) (old new : Stacked E) : Type 0 where
+  pub states : new.states ≡ old.states ++ state ∷ []
+  pub entries : IsShifted builds t x old.entries new.entries
 
 -- the n elements on top of a stack
 abbrev pub on_top : {E : Type 0} → ℕ → List E → List E

@@ -22,7 +22,7 @@ impl<'a, StorageT: StorageIndex, LexemeT: Lexeme<StorageT>, B: Build<StorageT, L
         &self,
         alloc: Global,
         lexemes: &[LexemeT],
-        stack: &mut Stack<StorageT, B::Entry>,
+        stack: &mut Stack<StorageT, B::Entries>,
         place: usize,
     ) -> Result<Option<usize>, AllocError>
         requires { IsRunAt StorageT.index LexemeT.parts B.builds self.now lexemes.now stack.old place }

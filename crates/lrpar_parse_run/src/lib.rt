@@ -3,6 +3,7 @@
 #![tactic(auto)]
 
 pub mod building;
+pub mod entries;
 mod far;
 pub mod nothing;
 pub mod reducing;

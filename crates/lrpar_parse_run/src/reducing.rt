@@ -21,7 +21,7 @@ pub struct Reducing<
     alloc: Global,
     grm: &'a YaccGrammar<StorageT>,
     build: &'a B,
-    stack: &'a mut Stack<StorageT, B::Entry>,
+    stack: &'a mut Stack<StorageT, B::Entries>,
     lexemes: PhantomData<LexemeT>,
 }
 
@@ -38,7 +38,7 @@ impl<'a, StorageT: StorageIndex, LexemeT: Lexeme<StorageT>, B: Build<StorageT, L
         alloc: Global,
         grm: &'a YaccGrammar<StorageT>,
         build: &'a B,
-        stack: &'a mut Stack<StorageT, B::Entry>,
+        stack: &'a mut Stack<StorageT, B::Entries>,
     ) -> Self
         ensures { built result ≡ record { grammar = grm.now; build = build.now; stack = stack.old; lender = stack.entry.ghost_name } }
     {

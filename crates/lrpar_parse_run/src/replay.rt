@@ -23,7 +23,7 @@ impl<'a, StorageT: StorageIndex, LexemeT: Lexeme<StorageT>, B: Build<StorageT, L
         &self,
         alloc: Global,
         lexemes: &[LexemeT],
-        stack: &mut Stack<StorageT, B::Entry>,
+        stack: &mut Stack<StorageT, B::Entries>,
         place: usize,
         steps: &[RepairStep<StorageT>],
     ) -> Result<usize, AllocError>
@@ -44,7 +44,7 @@ impl<'a, StorageT: StorageIndex, LexemeT: Lexeme<StorageT>, B: Build<StorageT, L
         &self,
         alloc: Global,
         lexemes: &[LexemeT],
-        stack: &mut Stack<StorageT, B::Entry>,
+        stack: &mut Stack<StorageT, B::Entries>,
         place: usize,
         step: RepairStep<StorageT>,
     ) -> Result<usize, AllocError>
@@ -71,7 +71,7 @@ impl<'a, StorageT: StorageIndex, LexemeT: Lexeme<StorageT>, B: Build<StorageT, L
     fn feed(
         &self,
         alloc: Global,
-        stack: &mut Stack<StorageT, B::Entry>,
+        stack: &mut Stack<StorageT, B::Entries>,
         lexeme: LexemeT,
     ) -> Result<(), AllocError>
         requires ready { IsReady B.builds self.now stack.old }

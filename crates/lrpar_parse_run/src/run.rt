@@ -43,7 +43,7 @@ impl<'a, StorageT: StorageIndex, LexemeT: Lexeme<StorageT>, B: Build<StorageT, L
     pub fn feed_lexeme(
         &self,
         alloc: Global,
-        stack: &mut Stack<StorageT, B::Entry>,
+        stack: &mut Stack<StorageT, B::Entries>,
         lexeme: LexemeT,
     ) -> Result<bool, AllocError>
         requires ready { IsReady B.builds self.now stack.old }
@@ -53,7 +53,7 @@ impl<'a, StorageT: StorageIndex, LexemeT: Lexeme<StorageT>, B: Build<StorageT, L
     {
         match self.settle(alloc, stack, TIdx(lexeme.tok_id()))? {
             Action::Shift(state) => {
-                stack.push(state, self.build.shift(lexeme))?;
+                stack.shift(self.build, state, lexeme)?;
                 Ok(true)
             }
             Action::Error => Ok(false),
@@ -65,7 +65,7 @@ impl<'a, StorageT: StorageIndex, LexemeT: Lexeme<StorageT>, B: Build<StorageT, L
     pub fn settle(
         &self,
         alloc: Global,
-        stack: &mut Stack<StorageT, B::Entry>,
+        stack: &mut Stack<StorageT, B::Entries>,
         token: TIdx<StorageT>,
     ) -> Result<Action<StorageT>, AllocError>
         requires ready { IsReady B.builds self.now stack.old }

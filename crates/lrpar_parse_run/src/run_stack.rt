@@ -1,11 +1,13 @@
 //! The stacks of a run: the states, and an entry for each state but the lowest.
 ghost use Rattle.std.specs.Prelude.{◌≡◌, ◌<◌, [], ◌∷◌, length, OnErr, OnOk, IfOk};
+ghost use Rattle.lrpar_parse_lexemes.specs.Views.{token_by};
 ghost use Rattle.lrpar_table_stacks.specs.Stack.{states_of};
 ghost use Rattle.lrpar_parse_run.specs.Productions.{CanReduceBy};
 ghost use Rattle.lrpar_parse_run.specs.Reducing.{IsReducedBy, reduced_by};
 ghost use Rattle.lrpar_parse_run.specs.RunStack.{HasBegun, IsPushed, IsStateAt, IsTopState, KeepsStates};
 
 use crate::building::Build;
+use crate::entries::Entries;
 use lrpar_grammar::grammar::YaccGrammar;
 use lrpar_grammar::span::{StIdx, StorageIndex};
 use lrpar_parse_lexemes::lex_api::Lexeme;
@@ -15,21 +17,21 @@ use std::marker::Model;
 
 /// The stacks. Each state but the lowest has the entry of the symbol that led to it.
 #[derive(Drop)]
-pub struct Stack<StorageT: StorageIndex, E: Drop> {
+pub struct Stack<StorageT: StorageIndex, E: Entries> {
     states: Vec<StIdx<StorageT>>,
-    entries: Vec<E>,
+    entries: E,
 }
 
-impl<StorageT: StorageIndex, E: Drop> Model for Stack<StorageT, E> {
+impl<StorageT: StorageIndex, E: Entries> Model for Stack<StorageT, E> {
     ghost use Rattle.lrpar_table_stacks.specs.Stack.{states_of};
     ghost use Rattle.lrpar_parse_run.specs.RunStack.{Stacked};
 
-    ghost Value = { Stacked E };
+    ghost Value = { Stacked E.Entry };
 
-    ghost view = { λ s. record { states = states_of StorageT.index s.states.items; entries = s.entries.items } };
+    ghost view = { λ s. record { states = states_of StorageT.index s.states.items; entries = E.as_list s.entries } };
 }
 
-impl<StorageT: StorageIndex, E: Drop> Stack<StorageT, E> {
+impl<StorageT: StorageIndex, E: Entries> Stack<StorageT, E> {
     /// The stack with one state and no entry. `Err`: out of memory.
     pub fn new(alloc: Global, start: StIdx<StorageT>) -> Result<Self, AllocError>
         ensures { IfOk result (HasBegun StorageT.index start) }
@@ -38,7 +40,7 @@ impl<StorageT: StorageIndex, E: Drop> Stack<StorageT, E> {
         states.push(start)?;
         Ok(Stack {
             states,
-            entries: Vec::new(alloc),
+            entries: E::none(alloc),
         })
     }
 
@@ -72,18 +74,23 @@ impl<StorageT: StorageIndex, E: Drop> Stack<StorageT, E> {
         self.states[at]
     }
 
-    /// Pushes a state, with the entry of the symbol that led to it. `Err`: out of memory.
-    pub fn push(&mut self, state: StIdx<StorageT>, entry: E) -> Result<(), AllocError>
-        ensures { OnOk result (IsPushed StorageT.index state entry self.old self.new) }
+    /// Pushes a state, with the entry of the lexeme that led to it. `Err`: out of memory.
+    pub fn shift<LexemeT: Lexeme<StorageT>, B: Build<StorageT, LexemeT, Entries = E>>(
+        &mut self,
+        build: &B,
+        state: StIdx<StorageT>,
+        lexeme: LexemeT,
+    ) -> Result<(), AllocError>
+        ensures { OnOk result (IsPushed (B.builds build.now) (StorageT.index state.0)
+            (token_by StorageT.index LexemeT.parts lexeme) lexeme self.old self.new) }
     {
         self.states.push(state)?;
-        self.entries.push(entry)?;
-        Ok(())
+        build.shift(lexeme, &mut self.entries)
     }
 
     /// Replaces the entries of the production's symbols by the entry that is built of them, and reduces the states. After an
     /// `Err`, which means out of memory, the states are unchanged, and some of the entries may be gone.
-    pub fn reduce<LexemeT: Lexeme<StorageT>, B: Build<StorageT, LexemeT, Entry = E>>(
+    pub fn reduce<LexemeT: Lexeme<StorageT>, B: Build<StorageT, LexemeT, Entries = E>>(
         &mut self,
         alloc: Global,
         build: &B,
@@ -96,19 +103,16 @@ impl<StorageT: StorageIndex, E: Drop> Stack<StorageT, E> {
         ensures entries { OnOk result (IsReducedBy StorageT.index (B.builds build.now) grm.now by self.old.entries self.new.entries) }
         ensures unchanged { OnErr result (KeepsStates self.old self.new) }
     {
-        let entry = build.reduce(alloc, grm, &by.prod, by.symbols, &mut self.entries)?;
-        self.entries.push(entry)?;
+        build.reduce(alloc, grm, &by.prod, by.symbols, &mut self.entries)?;
         self.states.reduce(by)
     }
 
     /// The entry of a stack that has one only.
-    pub fn into_entry(mut self) -> E
-        requires { (e : E) × (self.entries ≡ e ∷ []) }
+    pub fn into_entry(self) -> E::Entry
+        requires { (e : E.Entry) × (self.entries ≡ e ∷ []) }
         ensures { self.entries ≡ result ∷ [] }
     {
-        match self.entries.pop() {
-            Some(entry) => entry,
-            None => unreachable!(),
-        }
+        let Stack { states: _, entries } = self;
+        entries.into_entry()
     }
 }

@@ -1,9 +1,6 @@
 //! Building the tree of a parse.
-ghost use Rattle.std.specs.Prelude.{◌≤◌, IfOk, OnOk, length};
 ghost use Rattle.lrpar_grammar.specs.Grammar.{rule_of};
 ghost use Rattle.lrpar_parse_run.specs.Nodes.{IsNonterm, IsTerm};
-ghost use Rattle.lrpar_parse_run.specs.Productions.{IsNotStart, IsNontermBy};
-ghost use Rattle.lrpar_parse_run.specs.RunStack.{Pops, on_top};
 
 use crate::building::Build;
 use lrpar_grammar::grammar::YaccGrammar;
@@ -19,6 +16,8 @@ pub struct Trees;
 impl<StorageT: StorageIndex, LexemeT: Lexeme<StorageT>> Build<StorageT, LexemeT> for Trees {
     type Entry = Node<LexemeT, StorageT>;
 
+    type Entries = Vec<Node<LexemeT, StorageT>>;
+
     ghost builds = { λ b. record {
       can_build = λ g. Unit {0};
       suits = λ s e. Unit {0};
@@ -27,8 +26,13 @@ impl<StorageT: StorageIndex, LexemeT: Lexeme<StorageT>> Build<StorageT, LexemeT>
       rises = λ es n. Unit {0};
     } };
 
-    fn shift(&self, lexeme: LexemeT) -> Node<LexemeT, StorageT> {
-        Node::Term { lexeme }
+    fn shift(
+        &self,
+        lexeme: LexemeT,
+        entries: &mut Vec<Node<LexemeT, StorageT>>,
+    ) -> Result<(), AllocError> {
+        entries.push(Node::Term { lexeme })?;
+        Ok(())
     }
 
     fn reduce(
@@ -38,15 +42,11 @@ impl<StorageT: StorageIndex, LexemeT: Lexeme<StorageT>> Build<StorageT, LexemeT>
         pidx: &PIdx<StorageT>,
         count: usize,
         entries: &mut Vec<Node<LexemeT, StorageT>>,
-    ) -> Result<Node<LexemeT, StorageT>, AllocError>
-        requires listed { IsNotStart StorageT.index grm.now pidx.now }
-        requires deep { count ≤ length entries.old.items }
-        ensures kept { OnOk result (Pops count entries.old entries.new) }
-        ensures node { IfOk result (IsNontermBy StorageT.index grm.now pidx.now (on_top count entries.old.items)) }
-    {
+    ) -> Result<(), AllocError> {
         let ridx = grm.prod_to_rule(*pidx);
         let nodes = entries.split_off(entries.len() - count)?;
-        Ok(Node::Nonterm { ridx, nodes })
+        entries.push(Node::Nonterm { ridx, nodes })?;
+        Ok(())
     }
 
     ghost rising = { λ b g. record { with_none = tt; by_leaf = λ es n x e rise low is. tt; by_node = λ kept es n p e rise is. tt } };

@@ -3,8 +3,7 @@ ghost use Rattle.std.specs.Prelude.{◌≤◌, IfOk, OnOk, length};
 ghost use Rattle.lrpar_grammar.specs.Grammar.{rule_of};
 ghost use Rattle.lrpar_parse_run.specs.Entries.{Gives, IsLexemeEntry, IsMadeEntry, SuitsSymbol};
 ghost use Rattle.lrpar_parse_run.specs.Made.{made_by};
-ghost use Rattle.lrpar_parse_run.specs.Productions.{IsNotStart, SuitsRule};
-ghost use Rattle.lrpar_parse_run.specs.RunStack.{AreOfTop, Pops, on_top};
+ghost use Rattle.lrpar_parse_run.specs.RunStack.{AreOfTop, Pops};
 
 use crate::building::Build;
 use crate::top::pop_mapped;
@@ -41,6 +40,8 @@ impl<
 > Build<StorageT, LexemeT> for Functions<'a, V, F, G> {
     type Entry = AStackType<LexemeT, V>;
 
+    type Entries = Vec<AStackType<LexemeT, V>>;
+
     ghost builds = { λ b. record {
       can_build = λ g. F.IsAlwaysCallable b.fterm.now × G.IsAlwaysCallable b.fnonterm.now;
       suits = λ s e. SuitsSymbol s e;
@@ -49,8 +50,13 @@ impl<
       rises = λ es n. Unit {0};
     } };
 
-    fn shift(&self, lexeme: LexemeT) -> Self::Entry {
-        AStackType::Lexeme(lexeme)
+    fn shift(
+        &self,
+        lexeme: LexemeT,
+        entries: &mut Vec<AStackType<LexemeT, V>>,
+    ) -> Result<(), AllocError> {
+        entries.push(AStackType::Lexeme(lexeme))?;
+        Ok(())
     }
 
     fn reduce(
@@ -60,19 +66,12 @@ impl<
         pidx: &PIdx<StorageT>,
         count: usize,
         entries: &mut Vec<AStackType<LexemeT, V>>,
-    ) -> Result<AStackType<LexemeT, V>, AllocError>
-        requires can { F.IsAlwaysCallable self.now.fterm.now × G.IsAlwaysCallable self.now.fnonterm.now }
-        requires listed { IsNotStart StorageT.index grm.now pidx.now }
-        requires deep { count ≤ length entries.old.items }
-        ensures kept { OnOk result (Pops count entries.old entries.new) }
-        ensures node { IfOk result (IsMadeEntry (F.post self.now.fterm.now) (made_by StorageT.index (G.post self.now.fnonterm.now))
-            (rule_of grm.now (StorageT.index pidx.now.0)) (on_top count entries.old.items)) }
-        ensures suit { IfOk result (SuitsRule StorageT.index grm.now pidx.now SuitsSymbol) }
-    {
+    ) -> Result<(), AllocError> {
         let values = pop_values(alloc, self.fterm, count, entries)?;
         let ridx = grm.prod_to_rule(*pidx);
         let value = (self.fnonterm)(ridx, values);
-        Ok(AStackType::ActionType(value))
+        entries.push(AStackType::ActionType(value))?;
+        Ok(())
     }
 
     ghost rising = { λ b g. record { with_none = tt; by_leaf = λ es n x e rise low is. tt; by_node = λ kept es n p e rise is. tt } };

@@ -75,7 +75,7 @@ impl<
     fn resume(
         &self,
         alloc: Global,
-        stack: &mut Stack<StorageT, B::Entry>,
+        stack: &mut Stack<StorageT, B::Entries>,
         stop: usize,
         errors: &mut Vec<LexParseError<StorageT, LexerTypesT>>,
     ) -> Result<Option<usize>, AllocError>
@@ -98,7 +98,7 @@ impl<
     fn record_error(
         &self,
         alloc: Global,
-        stack: &Stack<StorageT, B::Entry>,
+        stack: &Stack<StorageT, B::Entries>,
         place: usize,
         errors: &mut Vec<LexParseError<StorageT, LexerTypesT>>,
     ) -> Result<Vec<Vec<RepairStep<StorageT>>>, AllocError>
@@ -116,7 +116,7 @@ impl<
     fn listed(
         &self,
         alloc: Global,
-        stack: &Stack<StorageT, B::Entry>,
+        stack: &Stack<StorageT, B::Entries>,
         place: usize,
     ) -> Result<Vec<Vec<RepairStep<StorageT>>>, AllocError>
         requires { IsStopOf StorageT.index LexerTypesT.LexemeT.parts self.now stack.now.states place }
@@ -136,7 +136,7 @@ impl<
     fn error(
         &self,
         alloc: Global,
-        stack: &Stack<StorageT, B::Entry>,
+        stack: &Stack<StorageT, B::Entries>,
         place: usize,
         listed: &[Vec<RepairStep<StorageT>>],
     ) -> Result<LexParseError<StorageT, LexerTypesT>, AllocError>

@@ -5,18 +5,18 @@ use Rattle.lrpar_table_rows.specs.Table.{Fails, ShiftTo}
 use Rattle.lrpar_parse_run.proofs.StackedLemmas.{run_stack_shift}
 use Rattle.lrpar_parse_run.proofs.run.Run.feed_lexeme.Goals as goal
 
-pub returns-in_ok-push-in-Shift : goal.returns-in_ok-push-in-Shift
-returns-in_ok-push-in-Shift g c =
+pub returns-in_ok-shift-in-Shift : goal.returns-in_ok-shift-in-Shift
+returns-in_ok-shift-in-Shift g c =
     let index = g.StorageT.StorageIndex.index in
     let d = c.args.self.now.checked.now in
     let settled = c.settle.new.stack in
     let token = (g.LexemeT.Lexeme.parts c.args.lexeme).token in
-    let pushed = c.in_ok-push-in-Shift.ensures in
+    let pushed = c.in_ok-shift-in-Shift.ensures in
     let shifts : top_action d.table (index token) settled.states ≡ ShiftTo (index c.in-Shift.state.0) =
     sym (rw c.tok_id.ensures.token at c.in_ok-state.ensures.action_is) ∙ ap (plain_action index) c.in-Shift.is in
     record {
-      run_stack = run_stack_shift (g.B.Build.builds c.args.self.now.build.now).suits d (index token) _ settled c.push.new.self c.shift.result c.requires.runs
-          c.in_ok-state.ensures.run_stack shifts pushed.states pushed.entries c.shift.ensures.suit;
+      run_stack = run_stack_shift (g.B.Build.builds c.args.self.now.build.now).suits d (index token) _ settled c.shift.new.self pushed.entries.entry c.requires.runs
+          c.in_ok-state.ensures.run_stack shifts pushed.states pushed.entries.of_entries pushed.entries.suit;
       shifts = λ _.
           record {
             mid = settled;
@@ -24,10 +24,10 @@ returns-in_ok-push-in-Shift g c =
             next = index c.in-Shift.state.0;
             shifts = shifts;
             of_states = pushed.states;
-            entry = c.shift.result;
-            made = c.shift.ensures.leaf;
-            suit = c.shift.ensures.suit;
-            of_entries = pushed.entries;
+            entry = pushed.entries.entry;
+            made = pushed.entries.made;
+            suit = pushed.entries.suit;
+            of_entries = pushed.entries.of_entries;
           };
       sticks = λ no. absurd (cc);
     }

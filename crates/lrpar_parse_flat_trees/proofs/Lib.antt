@@ -1,0 +1,6 @@
+pub mod FlatLemmas
+pub mod GrowingLemmas
+pub mod NodeLemmas
+pub mod ChildrenLemmas
+pub mod BuiltLemmas
+pub mod WalkLemmas

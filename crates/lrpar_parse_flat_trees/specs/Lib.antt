@@ -1,0 +1,9 @@
+pub mod Flat
+pub mod FlatLaws
+pub mod TreeCode
+pub mod Packed
+pub mod Growing
+pub mod TreesRising
+pub mod Located
+pub mod Kinds
+pub mod Children

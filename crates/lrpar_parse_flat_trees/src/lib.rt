@@ -1,0 +1,11 @@
+//! Syntax trees: parse trees whose nodes are in one list.
+#![tactic(auto)]
+
+pub mod children;
+pub mod flat_trees;
+pub mod growing;
+pub mod kind;
+pub mod nodes;
+pub mod packed;
+pub mod syntax_node;
+pub mod syntax_tree;
