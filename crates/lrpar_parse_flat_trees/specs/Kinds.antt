@@ -13,7 +13,7 @@ IsKindOf index (Leaf x) (Production prod) = ⊥
 IsKindOf index (Branch p children) (Token token) = ⊥
 IsKindOf index (Branch p children) (Production prod) = index prod.0 ≡ p
 
--- the same of a node of the list
+-- a node of the list is of the token of its lexeme, or of its production
 abbrev pub IsNodeKind : {S : Type 0} → (S → ℕ) → FlatNode → SyntaxKind S → Type 0
 IsNodeKind index (FlatLeaf x) (Token token) = index token.0 ≡ x.token
 IsNodeKind index (FlatLeaf x) (Production prod) = ⊥

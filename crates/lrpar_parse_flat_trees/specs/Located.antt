@@ -13,7 +13,7 @@ pub record Located : Type 0 where
   pub before : Extent
   pub tree : Tree LexemeFacts
 
--- it is stored as these two
+-- a tree and the span before it are stored as these two
 abbrev pub located_code : Coded Located
 located_code = code_by (Extent × Tree LexemeFacts) (coded× extent_code tree_code) (λ l. (l.before, l.tree)) (λ p. record { before = p.0; tree = p.1 }) (λ _. refl)
 

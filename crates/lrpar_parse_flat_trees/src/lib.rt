@@ -1,4 +1,4 @@
-//! Syntax trees: parse trees whose nodes are in one list.
+//! Syntax trees: parse trees with all nodes in one list, and the builder that makes them.
 #![tactic(auto)]
 
 pub mod children;

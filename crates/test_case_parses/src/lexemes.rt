@@ -86,6 +86,14 @@ impl<'a> ListLexer<'a> {
         let text = RuleLexer::new(alloc, &[], input)?;
         Ok(ListLexer { given, text })
     }
+
+    /// Whether a lexeme ends past the byte.
+    pub(crate) fn is_past(&self, byte: usize) -> bool {
+        self.given.iter().any(|given| match given {
+            Given::Lexeme(lexeme) => lexeme.span().end() > byte,
+            Given::NoToken(_) => false,
+        })
+    }
 }
 
 impl<'a> Lexer<TokenTypes> for ListLexer<'a> {

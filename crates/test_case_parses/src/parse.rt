@@ -45,6 +45,8 @@ struct Parsed {
     errors: Printed,
     // Its tree.
     tree: Printed,
+    // Where the rules of the tree lie, if that is noted.
+    places: Printed,
 }
 
 /// What comes of the case.
@@ -118,7 +120,7 @@ fn by_parsers(
 ) {
     let places = RefCell::new(Vec::new(alloc));
     let answer = answer_by(alloc, Call::ParseActions, first, lexer, &places);
-    let expected = answered(alloc, case, first.grammar(), &answer);
+    let expected = answered(alloc, case, first.grammar(), &answer, &places);
     out.append(&expected.errors);
     out.field("tree", expected.tree.so_far());
     push_noted(out, case, first.grammar(), &places);
@@ -131,8 +133,15 @@ fn by_parsers(
 }
 
 // What comes of an answer.
-fn answered(alloc: Global, case: Case<'_, '_>, grm: &YaccGrammar<u32>, answer: &Answer) -> Parsed {
+fn answered(
+    alloc: Global,
+    case: Case<'_, '_>,
+    grm: &YaccGrammar<u32>,
+    answer: &Answer,
+    noted: &Places,
+) -> Parsed {
     let (mut errors, mut tree) = (Printed::new(alloc), Printed::new(alloc));
+    let mut places = Printed::new(alloc);
     match answer {
         Err(ParseFault::Memory) => errors.lack_memory(),
         Err(fault) => errors.line("fault ", fault),
@@ -140,10 +149,17 @@ fn answered(alloc: Global, case: Case<'_, '_>, grm: &YaccGrammar<u32>, answer: &
             push_errors(&mut errors, grm, case.value("hide").is_none(), listed);
             if let Some(value) = value {
                 push_tree(&mut tree, grm, value);
+                if let Ok(noted) = noted.try_borrow() {
+                    push_places(&mut places, grm, &noted);
+                }
             }
         }
     }
-    Parsed { errors, tree }
+    Parsed {
+        errors,
+        tree,
+        places,
+    }
 }
 
 // Adds where the rules lie, if the case asks.
@@ -244,7 +260,8 @@ fn push_tree_text(
     }
 }
 
-// Adds a line if the parse by the call doesn't come to what is expected. A parse to errors alone has no tree.
+// Adds a line if the parse by the call doesn't come to what is expected. A parse to errors alone has no tree, and only calls with actions
+// or spans have places.
 fn push_difference(
     out: &mut Printed,
     alloc: Global,
@@ -256,10 +273,12 @@ fn push_difference(
 ) {
     let places = RefCell::new(Vec::new(alloc));
     let answer = answer_by(alloc, call, parser, lexer, &places);
-    let found = answered(alloc, case, parser.grammar(), &answer);
+    let found = answered(alloc, case, parser.grammar(), &answer, &places);
     let is_same_tree = out.agree(&found.tree, &expected.tree);
     let is_tree_right = is_same_tree || matches!(call, Call::ParseNoaction);
-    if !out.agree(&found.errors, &expected.errors) || !is_tree_right {
+    let has_places = matches!(call, Call::ParseActions | Call::ParseTree);
+    let are_places_right = !has_places || out.agree(&found.places, &expected.places);
+    if !out.agree(&found.errors, &expected.errors) || !is_tree_right || !are_places_right {
         out.text("differs ");
         out.debug(&call);
         out.text("\n");

@@ -2,10 +2,10 @@
 use crate::completed::are_completed;
 use crate::example::{Failed, language, report};
 use crate::expectations::same;
-use lrpar::span::TIdx;
-use lrpar::{Lexeme, Node, ParserData, RTParserBuilder};
-use lrpar_lexer::{LexRule, RuleLexer, Token};
-use std::alloc::{AllocError, Global};
+use lrpar::parser::SyntaxKind;
+use lrpar::{ParserData, RTParserBuilder};
+use lrpar_lexer::{LexRule, RuleLexer};
+use std::alloc::Global;
 use std::process::Abort;
 use std::test::Fail;
 
@@ -16,34 +16,17 @@ fn names<'a>(
     lexer: &RuleLexer<'_, 'a>,
     input: &'a str,
 ) -> Result<Vec<&'a str>, Failed> {
-    let (tree, _) = RTParserBuilder::new(data).parse_generictree(alloc, lexer)?;
+    let (tree, _) = RTParserBuilder::new(data).parse_tree(alloc, lexer)?;
     let mut names = Vec::new(alloc);
     if let (Some(tree), Some(name)) = (&tree, data.grm().token_idx("NAME")) {
-        push_names(tree, name, input, &mut names)?;
-    }
-    Ok(names)
-}
-
-// Appends the names below the node.
-fn push_names<'a>(
-    node: &Node<Token<u32>, u32>,
-    name: TIdx<u32>,
-    input: &'a str,
-    names: &mut Vec<&'a str>,
-) -> Result<(), AllocError> {
-    match node {
-        Node::Term { lexeme } if TIdx(lexeme.tok_id()) == name => {
-            let span = lexeme.span();
-            names.push(input.get(span.start()..span.end()).unwrap_or(""))?;
-        }
-        Node::Term { lexeme: _ } => {}
-        Node::Nonterm { ridx: _, nodes } => {
-            for node in nodes {
-                push_names(node, name, input, names)?;
+        for node in tree.nodes() {
+            if node.kind() == SyntaxKind::Token(name) {
+                let span = node.span();
+                names.push(input.get(span.start()..span.end()).unwrap_or(""))?;
             }
         }
     }
-    Ok(())
+    Ok(names)
 }
 
 /// What may come after the text, a line each.
