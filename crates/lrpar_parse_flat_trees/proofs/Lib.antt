@@ -4,3 +4,5 @@ pub mod NodeLemmas
 pub mod ChildrenLemmas
 pub mod BuiltLemmas
 pub mod WalkLemmas
+pub mod TextLemmas
+pub mod PushingLemmas

@@ -7,3 +7,5 @@ pub mod TreesRising
 pub mod Located
 pub mod Kinds
 pub mod Children
+pub mod FlatText
+pub mod LeftNodes

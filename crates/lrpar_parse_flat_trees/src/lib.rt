@@ -9,3 +9,4 @@ pub mod nodes;
 pub mod packed;
 pub mod syntax_node;
 pub mod syntax_tree;
+mod text;

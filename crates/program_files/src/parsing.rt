@@ -7,10 +7,10 @@ use lrpar_grammar::grammar::YaccGrammar;
 use lrpar_grammar::span::TIdx;
 use lrpar_lexer::{LexRule, Token, TokenTypes, rules_of};
 use lrpar_parse::RTParserBuilder;
+use lrpar_parse::parser::SyntaxTree;
 use lrpar_parse_errors::errors::LexParseError;
 use lrpar_parse_lexemes::lex_api::NonStreamingLexer;
 use lrpar_parse_repair::repair::{FixedRecoverer, Recoverer};
-use lrpar_parse_trees::node::Node;
 use lrpar_table::check::ParserData;
 use std::alloc::{AllocError, Global};
 use std::io::Write;
@@ -18,14 +18,11 @@ use std::io::Write;
 /// A parser of the program.
 pub type Parser<'a> = RTParserBuilder<'a, u32, TokenTypes, FixedRecoverer<u32>>;
 
-/// A tree of the program.
-pub type Tree = Node<Token<u32>, u32>;
-
 /// An error of a parse.
 pub type TextError = LexParseError<u32, TokenTypes>;
 
 /// The tree of a text, if there is one, and the errors.
-pub type Parsed = (Option<Tree>, Vec<TextError>);
+pub type Parsed<TreeT> = (Option<TreeT>, Vec<TextError>);
 
 /// A parser of texts, with the rules of its lexer and what its messages print.
 #[derive(Drop)]
@@ -120,8 +117,8 @@ fn parse_text<'a, L: NonStreamingLexer<'a, TokenTypes>>(
     alloc: Global,
     parser: &Parser<'_>,
     lexer: &L,
-) -> Result<Parsed, Fault> {
-    Ok(parser.parse_generictree(alloc, lexer)?)
+) -> Result<Parsed<SyntaxTree<u32>>, Fault> {
+    Ok(parser.parse_tree(alloc, lexer)?)
 }
 
 // Prints the errors and the tree.
@@ -131,7 +128,7 @@ fn print_parsed<'a, L: NonStreamingLexer<'a, TokenTypes>, O: Write>(
     names: &'a [&'a str],
     lexer: &L,
     input: &str,
-    parsed: &Parsed,
+    parsed: &Parsed<SyntaxTree<u32>>,
     out: &mut O,
 ) -> Result<bool, Fault>
     requires { L.text lexer.now ≡ input.now }
