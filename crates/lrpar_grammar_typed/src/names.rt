@@ -1,4 +1,4 @@
-//! Names of what is made of a grammar: of rules for lists, and of tokens whose texts are no words.
+//! Names of what is generated from a grammar: of rules for lists, and of tokens whose texts are no words.
 use crate::typed::{Form, TypedGrammar};
 use lrpar_grammar::span::Symbol;
 use std::alloc::{AllocError, Global};

@@ -23,8 +23,9 @@ pub(crate) trait Actions@life@ {
     /// Why a text has no value.
     type Error: Drop + From<lrpar_typed::ParseFault> + From<AllocError>;
 
-    /// What holds of each value: an action may use it of what it is passed, and shows it of its value. So it holds of the value of a parse.
-    /// Values of one type are those of the first rule that has it. Who claims nothing of values leaves it out.
+    /// A fact about each value. An action may assume it of its arguments and has to prove it of its result, so it is true of the value of a
+    /// parse. Of a list or an option it is asked of the items. Rules of the same type share the fact of the first of them. Leave it out to
+    /// claim nothing.
     ghost holds: { Self → RuleValue → Type 0 } = { λ _ _. Unit {0} };
 ";
 

@@ -41,7 +41,7 @@ pub fn rust_of(
 
 // The head of the spec.
 const SPEC: &str = "\
--- The rules of values, and what holds of values: made of a grammar.
+-- The rules of values, and what holds of values: generated from a grammar.
 use Rattle.std.specs.Prelude.{ℕ, IfSome}
 use Rattle.std.specs.List.{All}
 use Rattle.@name@.specs.declared.syntax.RuleValue.{RuleValue}
@@ -110,7 +110,7 @@ fn write_head(
 ) -> Result<(), AllocError> {
     out.push_str(
         "\
-//! The syntax of a language: made of its grammar by `nimbleparse --rust`. Edit the grammar, and make it again.
+//! The syntax of a language, generated from its grammar by `nimbleparse --rust`. To change it, edit the grammar and generate it again.
 //!
 //! SHA-1 of the grammar: ",
     )?;
