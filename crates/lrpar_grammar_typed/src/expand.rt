@@ -136,9 +136,9 @@ struct Expander<'a> {
     alloc: Global,
     text: &'a str,
     grammar: TypedGrammar,
-    // The place of each rule, and how many groups it has.
+    // The index of each rule, and the number of groups of each that has some.
     rules: BTreeMap<String, usize>,
-    groups: usize,
+    groups: BTreeMap<&'a str, usize>,
     tokens: BTreeMap<&'a str, u32>,
     types: Types<'a>,
 }
@@ -159,7 +159,7 @@ impl<'a> Expander<'a> {
                 start: RIdx(1),
             },
             rules: BTreeMap::new(alloc),
-            groups: 0,
+            groups: BTreeMap::new(alloc),
             tokens: BTreeMap::new(alloc),
             types,
         }
@@ -345,8 +345,13 @@ impl<'a> Expander<'a> {
         ensures sound { OnOk result (IsSound self.new) }
         ensures extends { OnOk result (Extends self.old self.new) }
     {
-        self.groups = self.groups.saturating_add(1);
-        group_name(self.alloc, word_at(self.text, rule), self.groups)
+        let rule = word_at(self.text, rule);
+        let number = self
+            .groups
+            .get(rule)
+            .map_or(1, |count| count.saturating_add(1));
+        let _ = self.groups.insert(rule, number)?;
+        group_name(self.alloc, rule, number)
     }
 
     // The symbol that is meant.
@@ -525,11 +530,10 @@ impl<'a> Expander<'a> {
         requires { IsSound self.old }
         ensures { OnOk result (AppendsProds self.old self.new name prods.items) }
     {
-        self.groups = 0;
-        let Some(place) = self.rules.get(word_at(self.text, name)) else {
+        let Some(index) = self.rules.get(word_at(self.text, name)) else {
             return Err(Refusal::UnknownRule(name));
         };
-        let rule = &mut self.grammar.rules[*place];
+        let rule = &mut self.grammar.rules[*index];
         let mut prods = prods;
         rule.prods.append(&mut prods)?;
         Ok(())

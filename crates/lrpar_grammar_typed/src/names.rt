@@ -80,11 +80,15 @@ fn push_named(
     name.push_str(end)
 }
 
-/// Appends the word that a token is called by in code: its text, in which each other character than a letter or a digit has a name, as `left_paren`.
+/// Appends the word that a token is called by in code: its text, in which each other character than a letter or a digit has a name, as
+/// `left_paren`. A name doesn't begin with a digit, so that of `0` is `n0`. `Err`: an allocation failed.
 pub fn push_word(name: &mut String, text: &str) -> Result<(), AllocError> {
     let mut is_open = false;
     for letter in text.chars() {
         if letter.is_ascii_alphanumeric() || letter == '_' {
+            if name.is_empty() && letter.is_ascii_digit() {
+                name.push('n')?;
+            }
             if is_open {
                 name.push('_')?;
             }
