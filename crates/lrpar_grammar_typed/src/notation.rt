@@ -216,11 +216,11 @@ impl Actions for Reader {
         &self,
         at: At<'_, '_>,
         name: Span,
-        kind: Token<u32>,
+        constant: Token<u32>,
     ) -> Result<Label, NotationFault> {
         Ok(Label {
             name,
-            kind: Some(kind.span()),
+            kind: Some(constant.span()),
         })
     }
 

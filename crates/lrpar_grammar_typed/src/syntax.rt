@@ -1,6 +1,6 @@
 //! The syntax of a language, generated from its grammar by `nimbleparse --rust`. To change it, edit the grammar and generate it again.
 //!
-//! SHA-1 of the grammar: bc151e4baf156ba0209b4c1546d72cfa0f2e88fc
+//! SHA-1 of the grammar: a56f8575d27ec539a88dbbe506afc80924175f78
 ghost use Rattle.std.specs.Prelude.{◌<◌, ◌≤◌, ◌↔◌, IfOk, IsTrue, length};
 ghost use Rattle.lrpar_typed.specs.Rows.{AllHold, AreOfRow, AreRowsOf, IsOfRow, IsRuleNext, IsTaken, TakesRow};
 ghost use Rattle.lrpar_typed.specs.TypedParse.{ValueHolds};
@@ -239,7 +239,7 @@ pub(crate) trait Actions {
         &self,
         at: At<'_, '_>,
         name: Span,
-        kind: Token<u32>,
+        constant: Token<u32>,
     ) -> Result<Label, Self::Error>
         requires { HoldsOf (holds self.now) (RuleValue.Name name) }
         ensures { IfOk result (λ made. HoldsOf (holds self.now) (RuleValue.Label made)) };
@@ -542,9 +542,9 @@ fn make_from_8<'text, A: Actions>(
             let _hash = lrpar_typed::next_lexeme(args);
             let name = next_name(args);
             let _left_paren = lrpar_typed::next_lexeme(args);
-            let kind = lrpar_typed::next_lexeme(args);
+            let constant = lrpar_typed::next_lexeme(args);
             let _right_paren = lrpar_typed::next_lexeme(args);
-            let made = actions.label_of_kind(at, name, kind)?;
+            let made = actions.label_of_kind(at, name, constant)?;
             Ok(RuleValue::Label(made))
         }
         // Part: Item

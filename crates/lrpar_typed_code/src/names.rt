@@ -11,13 +11,14 @@ const KEYWORDS: [&str; 53] = [
 ];
 
 // Names that the code has beside those of arguments.
-const TAKEN: [&str; 9] = [
+const TAKEN: [&str; 10] = [
     "actions",
     "args",
     "assumption",
     "at",
     "ground",
     "holds",
+    "kind",
     "made",
     "production",
     "result",
@@ -85,6 +86,17 @@ pub(crate) fn camel(alloc: Global, name: &str) -> Result<String, AllocError> {
         }
     }
     Ok(camel)
+}
+
+/// A name in lower case and without underscores, by which names in code are compared.
+pub(crate) fn folded(alloc: Global, name: &str) -> Result<String, AllocError> {
+    let mut folded = String::new(alloc);
+    for letter in name.chars() {
+        if letter != '_' {
+            folded.push(letter.to_ascii_lowercase())?;
+        }
+    }
+    Ok(folded)
 }
 
 /// The name of an action: one that is no keyword.

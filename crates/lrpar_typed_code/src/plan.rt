@@ -1,6 +1,6 @@
 //! What the code of each production does.
 use crate::args::{Arg, args_of};
-use crate::names::{action_name, camel, snake};
+use crate::names::{action_name, folded, snake};
 use crate::rules::{PlannedRule, plan_rules};
 use lrpar_grammar::span::{RIdx, Span, Symbol};
 use lrpar_grammar_typed::file::Label;
@@ -16,7 +16,7 @@ pub enum CodeFault {
     #[error("the label at byte {at} is that of another action", at = .0.start())]
     OtherAction(Span),
     /// The name of a rule is that of an earlier one in code, where case and underscores don't count.
-    #[error("the name of the rule at byte {at} is that of another one in code", at = .0.start())]
+    #[error("the rule at byte {at} has the same name in code as an earlier one", at = .0.start())]
     SameName(Span),
     /// An allocation failed.
     #[error("out of memory")]
@@ -123,7 +123,7 @@ fn number_of(alloc: Global, number: usize) -> Result<String, AllocError> {
 fn check_names(alloc: Global, grammar: &TypedGrammar) -> Result<(), CodeFault> {
     let mut names = BTreeMap::new(alloc);
     for rule in &grammar.rules {
-        let name = camel(alloc, rule.name.as_str())?;
+        let name = folded(alloc, rule.name.as_str())?;
         if names.contains_key(name.as_str()) {
             return Err(CodeFault::SameName(rule.span));
         }

@@ -103,11 +103,11 @@ fn code_report(alloc: Global, fault: &CodeFault) -> Result<Report, AllocError> {
     match fault {
         CodeFault::OtherAction(span) => {
             let label =
-                "an earlier production with it has other arguments, or a value of another type";
+                "an earlier production with this label has other arguments, or another type of value";
             report_at(alloc, "one label for two actions", *span, label)
         }
         CodeFault::SameName(span) => {
-            let label = "in code it has the name of another one";
+            let label = "in code it has the same name as an earlier rule";
             report_at(alloc, "two rules of one name", *span, label)
         }
         CodeFault::Memory(_) => Err(AllocError),
