@@ -82,12 +82,19 @@ impl From<Refusal> for TypedFault {
     }
 }
 
-// The types that are declared, and of each rule the place of its type among them.
+// The types that are declared, in the order of the text, and the index of each by the name of its rule.
 #[derive(Drop)]
 struct Types<'a> {
     text: &'a str,
-    values: Vec<Span>,
-    places: BTreeMap<&'a str, usize>,
+    declared: Vec<DeclaredType>,
+    indexes: BTreeMap<&'a str, usize>,
+}
+
+// Where the type of a rule is, and where the rule's name is beside it.
+#[derive(Clone, Copy)]
+struct DeclaredType {
+    value: Span,
+    rule: Span,
 }
 
 impl<'a> Types<'a> {
@@ -97,33 +104,35 @@ impl<'a> Types<'a> {
         text: &'a str,
         declarations: &[Declaration],
     ) -> Result<Types<'a>, TypedFault> {
-        let mut values = Vec::new(alloc);
-        let mut places = BTreeMap::new(alloc);
+        let mut declared = Vec::new(alloc);
+        let mut indexes = BTreeMap::new(alloc);
         for declaration in declarations {
             if let Declaration::Type(value, rules) = declaration {
-                let place = values.len();
-                values.push(*value)?;
                 for rule in rules {
                     let name = word_at(text, *rule);
-                    if places.contains_key(name) {
+                    if indexes.contains_key(name) {
                         return Err(TypedFault::RepeatedType(*rule));
                     }
-                    let _ = places.insert(name, place)?;
+                    let _ = indexes.insert(name, declared.len())?;
+                    declared.push(DeclaredType {
+                        value: *value,
+                        rule: *rule,
+                    })?;
                 }
             }
         }
         Ok(Types {
             text,
-            values,
-            places,
+            declared,
+            indexes,
         })
     }
 
     // The type that is declared for a rule, or this one.
     fn value_or(&self, alloc: Global, rule: &str, otherwise: &str) -> Result<String, AllocError> {
-        let place = self.places.get(rule).copied();
-        let value = match place.and_then(|place| self.values.get(place)) {
-            Some(value) => word_at(self.text, *value),
+        let index = self.indexes.get(rule).copied();
+        let value = match index.and_then(|index| self.declared.get(index)) {
+            Some(found) => word_at(self.text, found.value),
             None => otherwise,
         };
         String::from_str(alloc, value)
@@ -546,12 +555,9 @@ impl<'a> Expander<'a> {
         ensures tokens { IfOk result (λ g. g.tokens ≡ self.entry.grammar.tokens) }
         ensures start { IfOk result (λ g. IsStart self.entry.text.now start (rule_names self.entry.grammar) g.start) }
     {
-        for (rule, place) in &self.types.places {
-            if let (false, Some(value)) = (
-                self.rules.contains_key(*rule),
-                self.types.values.get(*place),
-            ) {
-                return Err(TypedFault::Grammar(GrammarFault::UnknownRule(*value)));
+        for found in &self.types.declared {
+            if !self.rules.contains_key(word_at(self.text, found.rule)) {
+                return Err(TypedFault::Grammar(GrammarFault::UnknownRule(found.rule)));
             }
         }
         if self.grammar.rules.is_empty() {
