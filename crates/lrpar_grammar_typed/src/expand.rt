@@ -60,8 +60,8 @@ enum Refusal {
     // A list, an option or a group here would have the name of another rule.
     #[error("the name is taken")]
     TakenName(Span),
-    // Groups are in too many groups.
-    #[error("too many groups in one another")]
+    // Groups are nested too deeply.
+    #[error("groups are nested too deeply")]
     TooDeep(Span),
     // An allocation failed.
     #[error("out of memory")]

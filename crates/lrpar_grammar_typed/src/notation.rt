@@ -73,8 +73,8 @@ pub enum NotationFault {
     /// The table isn't that of the actions.
     #[error("the notation's grammar isn't that of its actions")]
     Actions,
-    /// Groups are in too many groups.
-    #[error("too many groups in one another at byte {at}", at = .0.start())]
+    /// Groups are nested too deeply.
+    #[error("groups are nested too deeply at byte {at}", at = .0.start())]
     TooDeep(Span),
     /// The parse has no result.
     #[error("parse: {0}")]
@@ -307,7 +307,7 @@ impl Actions for Reader {
     }
 }
 
-// How many groups are in one another in the alternatives.
+// How deep groups nest in the alternatives.
 fn depth_of(alternatives: &[Alternative]) -> usize {
     let mut depth = 0;
     for alternative in alternatives {

@@ -120,10 +120,10 @@ pub enum TypedFault {
     #[error("repeated %type at byte {at}", at = .0.start())]
     RepeatedType(Span),
     /// A list, an option or a group here would have the name of another rule.
-    #[error("the name is taken of what is at byte {at}", at = .0.start())]
+    #[error("the name of the list, option or group at byte {at} is taken", at = .0.start())]
     TakenName(Span),
-    /// Groups are in too many groups.
-    #[error("too many groups in one another at byte {at}", at = .0.start())]
+    /// Groups are nested too deeply.
+    #[error("groups are nested too deeply at byte {at}", at = .0.start())]
     TooDeep(Span),
     /// An allocation failed.
     #[error("out of memory")]
