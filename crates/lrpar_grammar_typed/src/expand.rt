@@ -2,7 +2,7 @@
 ghost use Rattle.std.specs.Prelude.{◌≡◌, ◌≢◌, ◌+◌, ◌≤◌, [], IfOk, None, OnOk, vec_len, string_bytes};
 ghost use Rattle.lrpar_grammar_typed.specs.Expanding.{AddsRule, AppendsProds, Begins, Extends, IsDeclared, IsExpanded, IsGroupOf, IsSound, IsTokenAt, rule_index};
 ghost use Rattle.lrpar_grammar_typed.specs.Expansion as spec;
-ghost use Rattle.lrpar_grammar_typed.specs.Expansion.{AreAlternatives, AreApart, AreDistinct, AreParts, AreRepeated, FitForm, HaveProdsOfForms, IsAtom, IsDefined, IsExpansionOf, IsMeant, IsOfForm, IsRepeated, IsStart, StandsFor, declared_start, rule_names, start_after, token_names};
+ghost use Rattle.lrpar_grammar_typed.specs.Expansion.{AreAlternatives, AreApart, AreDistinct, AreParts, AreRepeated, FitForm, HaveProdsOfForms, IsAtom, IsDefined, IsExpansionOf, IsItemSymbol, IsMeant, IsOfForm, IsRepeated, IsStart, declared_start, rule_names, start_after, token_names};
 ghost use Rattle.lrpar_grammar_typed.specs.declared.typed.Form.TheVariants.{Written};
 
 use crate::file::{
@@ -317,7 +317,7 @@ impl<'a> Expander<'a> {
         requires { IsSound self.old }
         ensures sound { OnOk result (IsSound self.new) }
         ensures extends { OnOk result (Extends self.old self.new) }
-        ensures symbol { IfOk result (λ symbol. StandsFor self.new.text.now self.new.grammar item.now symbol) }
+        ensures symbol { IfOk result (λ symbol. IsItemSymbol self.new.text.now self.new.grammar item.now symbol) }
     {
         let symbol = self.expand_atom(rule, &item.atom, item.span, depth)?;
         self.repeat(symbol, &item.repeats, item.span)
@@ -372,8 +372,8 @@ impl<'a> Expander<'a> {
     {
         if !mention.is_quoted {
             let name = word_at(self.text, mention.name);
-            if let Some(place) = self.rules.get(name) {
-                return rule_symbol(*place);
+            if let Some(index) = self.rules.get(name) {
+                return rule_symbol(*index);
             }
             if !self.tokens.contains_key(name) {
                 return Err(Refusal::UnknownRule(mention.name));
@@ -459,8 +459,8 @@ impl<'a> Expander<'a> {
         ensures symbol { IfOk result (λ symbol. IsOfForm self.new.grammar form symbol) }
     {
         let name = form_name(self.alloc, &self.grammar, form)?;
-        if let Some(place) = self.rules.get(name.as_str()) {
-            return self.find_form(*place, form, span);
+        if let Some(index) = self.rules.get(name.as_str()) {
+            return self.find_form(*index, form, span);
         }
         let value = form_type(self.alloc, &self.grammar, form)?;
         let value = self
@@ -477,12 +477,12 @@ impl<'a> Expander<'a> {
         })
     }
 
-    // The rule at this place, which has to be of this form.
-    fn find_form(&self, place: usize, form: Form, span: Span) -> Result<Symbol<u32>, Refusal>
+    // The rule with this index, which has to be of this form.
+    fn find_form(&self, index: usize, form: Form, span: Span) -> Result<Symbol<u32>, Refusal>
         ensures { IfOk result (λ symbol. IsOfForm self.now.grammar form symbol) }
     {
-        match self.grammar.rules.get(place) {
-            Some(rule) if rule.form == form => rule_symbol(place),
+        match self.grammar.rules.get(index) {
+            Some(rule) if rule.form == form => rule_symbol(index),
             _ => Err(Refusal::TakenName(span)),
         }
     }
@@ -526,10 +526,10 @@ impl<'a> Expander<'a> {
         ensures symbol { IfOk result (λ symbol. symbol ≡ spec.rule_symbol (vec_len self.old.grammar.rules)) }
         ensures rule { OnOk result (AddsRule self.old self.new rule) }
     {
-        let place = self.grammar.rules.len();
-        let symbol = rule_symbol(place)?;
+        let index = self.grammar.rules.len();
+        let symbol = rule_symbol(index)?;
         let name = String::from_str(self.alloc, rule.name.as_str())?;
-        let _ = self.rules.insert(name, place)?;
+        let _ = self.rules.insert(name, index)?;
         self.grammar.rules.push(rule)?;
         Ok(symbol)
     }
@@ -577,26 +577,26 @@ impl<'a> Expander<'a> {
             return Ok(RIdx(1));
         };
         match self.rules.get(word_at(self.text, name)) {
-            Some(place) => rule_number(*place),
+            Some(index) => rule_number(*index),
             None => Err(Refusal::UnknownRule(name)),
         }
     }
 }
 
-// The symbol of the rule at this place.
-fn rule_symbol(place: usize) -> Result<Symbol<u32>, Refusal>
-    ensures { IfOk result (λ symbol. symbol ≡ spec.rule_symbol place) }
+// The symbol of the rule with this index.
+fn rule_symbol(index: usize) -> Result<Symbol<u32>, Refusal>
+    ensures { IfOk result (λ symbol. symbol ≡ spec.rule_symbol index) }
 {
-    Ok(Symbol::Rule(rule_number(place)?))
+    Ok(Symbol::Rule(rule_number(index)?))
 }
 
-// The number of the rule at this place.
-fn rule_number(place: usize) -> Result<RIdx<u32>, Refusal>
-    ensures { IfOk result (λ rule. rule.0 ≡ place + 1) }
+// The number of the rule with this index.
+fn rule_number(index: usize) -> Result<RIdx<u32>, Refusal>
+    ensures { IfOk result (λ rule. rule.0 ≡ index + 1) }
 {
-    match u32::try_from(place)
+    match u32::try_from(index)
         .ok()
-        .and_then(|place| place.checked_add(1))
+        .and_then(|index| index.checked_add(1))
     {
         Some(number) => Ok(RIdx(number)),
         None => Err(Refusal::TooMany),
