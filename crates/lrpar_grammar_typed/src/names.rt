@@ -66,8 +66,8 @@ pub fn form_name(alloc: Global, grammar: &TypedGrammar, form: Form) -> Result<St
     Ok(name)
 }
 
-// Appends the word of a symbol, and what comes after it.
-fn push_named(
+/// Appends the word of a symbol, and what comes after it. `Err`: an allocation failed.
+pub fn push_named(
     name: &mut String,
     grammar: &TypedGrammar,
     symbol: Symbol<u32>,

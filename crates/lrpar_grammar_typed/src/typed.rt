@@ -133,7 +133,7 @@ pub enum TypedFault {
 impl TypedGrammar {
     /// The rule of this number.
     pub fn rule(&self, ridx: RIdx<u32>) -> Option<&TypedRule> {
-        self.rules.get((ridx.0 as usize).checked_sub(1)?)
+        self.rules.get(rule_index(ridx)?)
     }
 
     /// The name of a symbol.
@@ -186,6 +186,14 @@ impl TypedGrammar {
     }
 }
 
+/// The index of the rule of a number; `None` for 0, which no rule has.
+pub fn rule_index(ridx: RIdx<u32>) -> Option<usize>
+    ensures some { IfSome result (λ index. index + 1 ≡ ridx.0) }
+    ensures none { (result ≡ None) ↔ (ridx.0 ≡ 0) }
+{
+    (ridx.0 as usize).checked_sub(1)
+}
+
 /// The word at a place of the text.
 pub fn word_at(text: &str, span: Span) -> &str
     ensures { IsWordAt text.now span result.now }
@@ -227,17 +235,22 @@ fn prod_parts(alloc: Global, rules: &[TypedRule]) -> Result<Vec<ProdPart<u32>>, 
     ensures { length rules.now < 2 ^ 32 → IfOk result (λ parts. AreProductionsOf rules.now parts.items) }
 {
     let mut parts = Vec::new(alloc);
-    for (place, rule) in rules.iter().enumerate() {
-        push_prods(alloc, &mut parts, RIdx(rule_number(place)), &rule.prods)?;
+    for (index, rule) in rules.iter().enumerate() {
+        push_prods(
+            alloc,
+            &mut parts,
+            RIdx(saturated_number(index)),
+            &rule.prods,
+        )?;
     }
     Ok(parts)
 }
 
-// The number of the rule at a place; past what can be numbered, the last number.
-fn rule_number(place: usize) -> u32
-    ensures { place + 1 < 2 ^ 32 → result ≡ place + 1 }
+// The number of the rule with this index; past what can be numbered, the last number.
+fn saturated_number(index: usize) -> u32
+    ensures { index + 1 < 2 ^ 32 → result ≡ index + 1 }
 {
-    u32::try_from(place).unwrap_or(u32::MAX).saturating_add(1)
+    u32::try_from(index).unwrap_or(u32::MAX).saturating_add(1)
 }
 
 // Appends the parts of the productions of this rule.

@@ -146,9 +146,9 @@ fn has_clauses(rules: &[PlannedRule], action: &Action) -> bool {
         || rule_with_fact(rules, Some(action.rule)).is_some()
 }
 
-// The rule at this place, if something may hold of its values.
-fn rule_with_fact(rules: &[PlannedRule], place: Option<usize>) -> Option<&PlannedRule> {
-    let rule = rules.get(place?)?;
+// The rule with this index, if something may hold of its values.
+fn rule_with_fact(rules: &[PlannedRule], index: Option<usize>) -> Option<&PlannedRule> {
+    let rule = rules.get(index?)?;
     if rule.fact.is_some() {
         Some(rule)
     } else {

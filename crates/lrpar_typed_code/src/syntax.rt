@@ -5,8 +5,7 @@ use crate::rows::{write_grammar, write_rows, write_tokens};
 use crate::rules::{PlannedRule, plan_rules};
 use crate::template::push_filled;
 use crate::values::{write_makers, write_takers, write_typed, write_values};
-use lrpar_grammar::span::RIdx;
-use lrpar_grammar_typed::typed::{TypedGrammar, word_at};
+use lrpar_grammar_typed::typed::{TypedGrammar, rule_index, word_at};
 use sha1::Sha1;
 use std::alloc::{AllocError, Global};
 
@@ -20,8 +19,8 @@ pub fn rust_of(
     grammar: &TypedGrammar,
 ) -> Result<String, CodeFault> {
     let plan = make_plan(alloc, text, grammar)?;
-    let RIdx(start) = grammar.start;
-    let Some(start) = plan.rules.get((start as usize).saturating_sub(1)) else {
+    let start = rule_index(grammar.start).and_then(|index| plan.rules.get(index));
+    let Some(start) = start else {
         return Ok(String::new(alloc));
     };
     let life = life_of(grammar);
