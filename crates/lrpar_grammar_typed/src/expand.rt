@@ -21,7 +21,8 @@ use thiserror::Error;
 
 /// The typed grammar that is written. Each list, option and group becomes a rule, named after what it is of: `Expr_list` for `Expr*`.
 ///
-/// `Err`: the first fault, in the order of the text; those of declarations come first.
+/// `Err`: the first fault, looked for in this order: a repeated `%type`; a repeated `%start`, or a `%token` that is a rule; faults of
+/// productions; a `%type` of no rule; no rules; a `%start` that is no rule. Too many symbols and `Memory` can come at any step.
 pub fn expand(alloc: Global, text: &str, file: &File) -> Result<TypedGrammar, TypedFault>
     ensures expansion { IfOk result (λ g. IsExpansionOf text.now file.now.rules.items g) }
     ensures forms { IfOk result (λ g. HaveProdsOfForms g.rules.items) }
@@ -174,7 +175,7 @@ impl<'a> Expander<'a> {
         }
     }
 
-    // Takes the rules that are defined.
+    // Adds the rules that are defined.
     fn declare_rules(&mut self, rules: &[Rule]) -> Result<(), Refusal>
         requires declared { IsDeclared self.old }
         requires none { self.old.grammar.rules.items ≡ [] }
@@ -186,7 +187,7 @@ impl<'a> Expander<'a> {
         Ok(())
     }
 
-    // Takes the rule whose name is here, if it isn't there yet.
+    // Adds the rule whose name is at this span, unless it is there.
     fn declare_rule(&mut self, rule: Span) -> Result<(), Refusal>
         requires { IsDeclared self.old }
         ensures declared { OnOk result (IsDeclared self.new) }
@@ -211,7 +212,7 @@ impl<'a> Expander<'a> {
         Ok(())
     }
 
-    // Takes the other declarations. The start rule, if it is declared.
+    // Adds the other declarations. Returns the start rule, if it is declared.
     fn declare(&mut self, declarations: &[Declaration]) -> Result<Option<Span>, Refusal>
         requires { IsSound self.old }
         ensures sound { OnOk result (IsSound self.new) }
@@ -225,7 +226,7 @@ impl<'a> Expander<'a> {
         Ok(start)
     }
 
-    // Takes a declaration. The start rule, if it is this one or was declared before.
+    // Adds a declaration. Returns the start rule, if it is this one or was declared before.
     fn declare_one(
         &mut self,
         declaration: &Declaration,

@@ -1,4 +1,4 @@
-//! Typed grammars as they are written. Words are places in the text; of what is in quotes or brackets, that within them.
+//! Typed grammars as they are written. Names and types are spans, without quotes and brackets.
 use lrpar_grammar::span::Span;
 
 /// How deep groups may nest. The notation refuses deeper ones, so code that recurses over a file needs a bounded stack.

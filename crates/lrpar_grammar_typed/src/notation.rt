@@ -55,7 +55,7 @@ pub const LEXER: &str = r##"
     //[^\n]* ;
     /\*([^*]|\*+[^*/])*\*+/ ;"##;
 
-/// Why a text can't be read, whatever it is.
+/// Why the notation can't be made, or a text can't be read.
 #[derive(Debug, Drop, Error)]
 pub enum NotationFault {
     /// The grammar of the notation is at fault.
@@ -131,7 +131,8 @@ impl Notation {
         Ok(RuleLexer::new(alloc, &self.rules, text)?.with_unmatched(self.unmatched))
     }
 
-    /// The typed grammar that a text is, or the error in it.
+    /// Reads the text of a lexer that [`Notation::lexer`] made: the file, or `None` and the errors of the text. `Err`: `TooDeep`, `Parse` or
+    /// `Memory`.
     pub fn read(
         &self,
         alloc: Global,

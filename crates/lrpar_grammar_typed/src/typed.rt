@@ -1,5 +1,5 @@
 //! Typed grammars as they are expanded: rules with types, and productions with what makes their values.
-ghost use Rattle.std.specs.Prelude.{◌≡◌, ◌+◌, ◌<◌, ◌^◌, ◌++◌, IfOk, OnOk, length, map, vec_len};
+ghost use Rattle.std.specs.Prelude.{◌≡◌, ◌↔◌, ◌+◌, ◌<◌, ◌^◌, ◌++◌, IfOk, IfSome, None, OnOk, length, map, vec_len};
 ghost use Rattle.lrpar_grammar_reader.specs.Parts.{prod_of};
 ghost use Rattle.lrpar_grammar_typed.specs.PartsOf.{AreProductionsOf, AreRulesOf, AreTokensOf, IsProdPartOf, production_of};
 ghost use Rattle.lrpar_grammar_typed.specs.Words.{IsWordAt};
@@ -64,7 +64,7 @@ pub enum Form {
     Optional(Symbol<u32>),
     /// The symbol, or one more after a separator: `X % S`.
     Separated(Symbol<u32>, Symbol<u32>),
-    /// Nothing, a list with separators, or one with another separator after it: `X %? S`.
+    /// Nothing, a list with separators, or one with another separator after it: `X %? S`. The first symbol is the list `X % S`, not X.
     Terminated(Symbol<u32>, Symbol<u32>),
 }
 
@@ -131,12 +131,12 @@ pub enum TypedFault {
 }
 
 impl TypedGrammar {
-    /// The rule of this number.
+    /// The rule of this number; `None` if there is none.
     pub fn rule(&self, ridx: RIdx<u32>) -> Option<&TypedRule> {
         self.rules.get(rule_index(ridx)?)
     }
 
-    /// The name of a symbol.
+    /// The name of a symbol; `""` of a number that no rule or token has.
     pub fn name(&self, symbol: Symbol<u32>) -> &str {
         match symbol {
             Symbol::Rule(ridx) => match self.rule(ridx) {
@@ -150,7 +150,7 @@ impl TypedGrammar {
         }
     }
 
-    /// The type of a symbol's values.
+    /// The type of a symbol's values; `"()"` of a number that no rule has.
     pub fn type_of(&self, symbol: Symbol<u32>) -> &str {
         match symbol {
             Symbol::Rule(ridx) => match self.rule(ridx) {
@@ -170,7 +170,7 @@ impl TypedGrammar {
         }
     }
 
-    /// The parts of the grammar: its rules, tokens and productions, without types and values.
+    /// The parts of the grammar: its rules, tokens and productions, without types and values. `Err`: an allocation failed.
     pub fn parts(&self, alloc: Global) -> Result<GrammarParts<u32>, AllocError>
         ensures rules { IfOk result (λ parts. AreRulesOf self.now.rules.items parts.rules.items) }
         ensures tokens { IfOk result (λ parts. AreTokensOf self.now.tokens.items parts.tokens.items) }

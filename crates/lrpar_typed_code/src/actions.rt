@@ -29,7 +29,7 @@ pub(crate) trait Actions@life@ {
     ghost holds: { Self → RuleValue → Type 0 } = { λ _ _. Unit {0} };
 ";
 
-/// Writes where an action is, and the trait.
+/// Writes the struct `At` and the trait of actions.
 pub(crate) fn write_actions(
     out: &mut String,
     alloc: Global,

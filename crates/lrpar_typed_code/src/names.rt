@@ -50,7 +50,7 @@ const QUOTED: [&str; 22] = [
     "unfolding",
 ];
 
-/// A name as those of functions are: `AddSetting` as `add_setting`.
+/// A name in snake case: `AddSetting` as `add_setting`.
 pub(crate) fn snake(alloc: Global, name: &str) -> Result<String, AllocError> {
     let mut snake = String::new(alloc);
     let mut is_inside = false;
@@ -68,7 +68,7 @@ pub(crate) fn snake(alloc: Global, name: &str) -> Result<String, AllocError> {
     Ok(snake)
 }
 
-/// A name as those of types are: `add_setting` as `AddSetting`.
+/// A name in camel case: `add_setting` as `AddSetting`.
 pub(crate) fn camel(alloc: Global, name: &str) -> Result<String, AllocError> {
     let mut camel = String::new(alloc);
     let mut is_start = true;

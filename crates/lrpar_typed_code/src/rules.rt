@@ -10,9 +10,9 @@ use std::collections::BTreeMap;
 pub(crate) struct PlannedRule {
     /// Its name.
     pub(crate) name: String,
-    /// Its name, as that of a type.
+    /// Its name in camel case, for types.
     pub(crate) camel: String,
-    /// Its name, as that of a function.
+    /// Its name in snake case, for functions.
     pub(crate) snake: String,
     /// Its number.
     pub(crate) number: String,

@@ -37,7 +37,7 @@ struct Acting<'a, A> {
 
 ";
 
-/// Writes the enum of values, and what the impl is of.
+/// Writes the enum of values, and the type that implements `Typed`.
 pub(crate) fn write_values(
     out: &mut String,
     rules: &[PlannedRule],
