@@ -1,7 +1,7 @@
 #!/usr/bin/env bash
 # Tries new-language.sh, in a folder that it makes and removes: try-new-language.sh [--check]
 #
-# A new repository runs its tests; it refuses a grammar that its code wasn't made of; and --update brings the library back and leaves the
+# A new repository runs its tests; it refuses a grammar that its code wasn't generated from; and --update brings the library back and leaves the
 # rest alone. With --check, `rt check` proves the new crate, too, which can take an hour. Prints a line for
 # each of these, and ends with 0 if all are so.
 set -u
@@ -35,7 +35,7 @@ in_crate() {
 # Whether the program ends because its grammar has another production than its code.
 refuses_the_grammar() {
     sed -i "s/^Setting: 'NAME' '=' Number ';';/Setting: 'NAME' '=' Number ';' ';';/" "$crate/src/syntax.rt"
-    in_crate rt try <"$crate/stdin" 2>&1 | grep -F "the grammar isn't the one that syntax.rt was made of"
+    in_crate rt try <"$crate/stdin" 2>&1 | grep -F "the grammar isn't the one that syntax.rt was generated from"
 }
 
 # Whether an update brings back a file of the library, and leaves the changed file of the crate.

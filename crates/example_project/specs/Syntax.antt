@@ -1,4 +1,4 @@
--- The rules of values, and what holds of values: made of a grammar.
+-- The rules of values, and what holds of values: generated from a grammar.
 use Rattle.std.specs.Prelude.{ℕ, IfSome}
 use Rattle.std.specs.List.{All}
 use Rattle.example_project.specs.declared.syntax.RuleValue.{RuleValue}

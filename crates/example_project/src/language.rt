@@ -58,7 +58,7 @@ pub(crate) enum Failed {
     Parse(#[from] ParseFault),
     #[error("the number at byte {0} is too big")]
     TooBig(usize),
-    #[error("the grammar isn't the one that syntax.rt was made of")]
+    #[error("the grammar isn't the one that syntax.rt was generated from")]
     OtherGrammar,
     #[error("out of memory")]
     Memory(#[from(alloc)] AllocError),

@@ -13,7 +13,7 @@ pub(crate) enum Failed {
     Streams(#[from] io::Error),
     #[error("language: {0}")]
     Language(#[from] LanguageFault),
-    #[error("the grammar isn't the one that syntax.rt was made of")]
+    #[error("the grammar isn't the one that syntax.rt was generated from")]
     OtherGrammar,
     #[error("parse: {0}")]
     Parse(#[from] ParseFault),

@@ -5,7 +5,7 @@ use Rattle.std.specs.String.{string_bytes}
 use Rattle.std.proofs.lemmas.Option.{slice_get-map}
 use Rattle.lrpar_grammar_places.specs.declared.span.Symbol.{Symbol}
 use Rattle.lrpar_grammar_typed.specs.Expanding.{Begins, Extends}
-use Rattle.lrpar_grammar_typed.specs.Expansion.{AreAlternatives, AreParts, AreRepeated, IsAtom, IsGroup, IsItem, IsMeant, IsOfForm, IsRepeated, IsRuleMeant, IsSymbol, IsTokenMeant, MoreAlternatives, MoreParts, NoAlternative, NoPart, StandsFor, rule_names, token_names}
+use Rattle.lrpar_grammar_typed.specs.Expansion.{AreAlternatives, AreParts, AreRepeated, IsAtom, IsGroup, IsItem, IsItemSymbol, IsMeant, IsOfForm, IsRepeated, IsRuleMeant, IsSymbol, IsTokenMeant, MoreAlternatives, MoreParts, NoAlternative, NoPart, rule_names, token_names}
 use Rattle.lrpar_grammar_typed.specs.declared.expand.Expander.{Expander}
 use Rattle.lrpar_grammar_typed.specs.declared.file.Alternative.{Alternative, out-Alternative}
 use Rattle.lrpar_grammar_typed.specs.declared.file.Atom.{Atom}
@@ -65,8 +65,8 @@ module _ (text : List ℕ) (g h : TypedGrammar) (keeps : Keeps g h) where
   are_repeated_kept x (r ∷ rs) y is = (is.0, repeated_kept x r is.0 is.1, are_repeated_kept is.0 rs y is.2)
 
   mutual
-    pub stands_kept : (item : Item) (x : Symbol ℕ) → StandsFor text g item x → StandsFor text h item x
-    stands_kept _ _ (IsItem item x y atom repeated) = IsItem item x y (atom_kept _ x atom) (are_repeated_kept x _ y repeated)
+    pub item_kept : (item : Item) (x : Symbol ℕ) → IsItemSymbol text g item x → IsItemSymbol text h item x
+    item_kept _ _ (IsItem item x y atom repeated) = IsItem item x y (atom_kept _ x atom) (are_repeated_kept x _ y repeated)
 
     pub atom_kept : (atom : Atom) (x : Symbol ℕ) → IsAtom text g atom x → IsAtom text h atom x
     atom_kept _ _ (IsSymbol m x meant) = IsSymbol m x (meant_kept m x meant)
@@ -80,8 +80,8 @@ module _ (text : List ℕ) (g h : TypedGrammar) (keeps : Keeps g h) where
 
     pub parts_kept : (parts : List Part) (symbols : List TypedSymbol) → AreParts text g parts symbols → AreParts text h parts symbols
     parts_kept _ _ NoPart = NoPart
-    parts_kept _ _ (MoreParts part parts symbol symbols name span stands are) =
-        MoreParts part parts symbol symbols name span (stands_kept _ _ stands) (parts_kept _ _ are)
+    parts_kept _ _ (MoreParts part parts symbol symbols name span is are) =
+        MoreParts part parts symbol symbols name span (item_kept _ _ is) (parts_kept _ _ are)
 
 -- one repeat more
 pub repeated_more : (text : List ℕ) (g : TypedGrammar) (x : Symbol ℕ) (rs : List Repeat) (r : Repeat) (y z : Symbol ℕ)
@@ -92,10 +92,10 @@ repeated_more text g x (q ∷ rs) r y z are is = (are.0, are.1, repeated_more te
 -- one part more
 pub parts_more : (text : List ℕ) (g : TypedGrammar) (parts : List Part) (symbols : List TypedSymbol) (part : Part) (symbol : TypedSymbol)
     → AreParts text g parts symbols → symbol.name ≡ (out-Part part).name → symbol.span ≡ (out-Item (out-Part part).item).span
-    → StandsFor text g (out-Part part).item symbol.symbol → AreParts text g (parts ++ part ∷ []) (symbols ++ symbol ∷ [])
-parts_more text g _ _ part symbol NoPart name span stands = MoreParts part [] symbol [] name span stands NoPart
-parts_more text g _ _ part symbol (MoreParts p ps s ss n e st are) name span stands =
-    MoreParts p (ps ++ part ∷ []) s (ss ++ symbol ∷ []) n e st (parts_more text g ps ss part symbol are name span stands)
+    → IsItemSymbol text g (out-Part part).item symbol.symbol → AreParts text g (parts ++ part ∷ []) (symbols ++ symbol ∷ [])
+parts_more text g _ _ part symbol NoPart name span is = MoreParts part [] symbol [] name span is NoPart
+parts_more text g _ _ part symbol (MoreParts p ps s ss n e st are) name span is =
+    MoreParts p (ps ++ part ∷ []) s (ss ++ symbol ∷ []) n e st (parts_more text g ps ss part symbol are name span is)
 
 -- one alternative more
 pub alternatives_more : (text : List ℕ) (g : TypedGrammar) (alternatives : List Alternative) (prods : List TypedProd) (a : Alternative) (prod : TypedProd)

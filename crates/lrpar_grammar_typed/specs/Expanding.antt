@@ -15,10 +15,10 @@ use Rattle.lrpar_grammar_typed.specs.declared.typed.TypedGrammar.{TypedGrammar}
 use Rattle.lrpar_grammar_typed.specs.declared.typed.TypedProd.{TypedProd}
 use Rattle.lrpar_grammar_typed.specs.declared.typed.TypedRule.{TypedRule}
 
--- each name is found at its place, and no other is found
+-- the index of each name is found, and that of no other
 pub record AreNumbered (find : List ℕ → Option ℕ) (names : List (List ℕ)) : Type 0 where
-  pub each : (place : ℕ) (name : List ℕ) → slice_get names place ≡ Some name → find name ≡ Some place
-  pub found : (place : ℕ) (name : List ℕ) → find name ≡ Some place → slice_get names place ≡ Some name
+  pub each : (index : ℕ) (name : List ℕ) → slice_get names index ≡ Some name → find name ≡ Some index
+  pub found : (index : ℕ) (name : List ℕ) → find name ≡ Some index → slice_get names index ≡ Some name
 
 -- the index that the expander has of the rule of a name
 abbrev pub rule_index : Expander → List ℕ → Option ℕ
@@ -28,16 +28,16 @@ rule_index e name = get_by_text e.rules name
 abbrev pub token_number : Expander → List ℕ → Option ℕ
 token_number e name = get_by (λ key. slice_cmp nat_cmp name key.now) e.tokens
 
--- lists and options have the productions of their forms, names are found at their places, and no token has the name of a written rule
+-- lists and options have the productions of their forms, the indexes of names are found, and no token has the name of a written rule
 pub record IsSound (e : Expander) : Type 0 where
   pub forms : HaveProdsOfForms e.grammar.rules.items
   pub rules : AreNumbered (rule_index e) (rule_names e.grammar)
   pub tokens : AreNumbered (token_number e) (token_names e.grammar)
   pub apart : AreApart e.grammar
 
--- the new list has at each place what the old one has there
+-- the new list has at each index what the old one has there
 abbrev pub Begins : {X : Type 0} → List X → List X → Type 0
-Begins old new = (place : ℕ) (x : _) → slice_get old place ≡ Some x → slice_get new place ≡ Some x
+Begins old new = (index : ℕ) (x : _) → slice_get old index ≡ Some x → slice_get new index ≡ Some x
 
 -- this rule was added
 pub record AddsRule (old new : Expander) (rule : TypedRule) : Type 0 where
@@ -50,8 +50,8 @@ pub record Extends (old new : Expander) : Type 0 where
   pub text : new.text.now ≡ old.text.now
   pub rules : Begins old.grammar.rules.items new.grammar.rules.items
   pub tokens : Begins old.grammar.tokens.items new.grammar.tokens.items
-  pub written : (place : ℕ) (rule : TypedRule) → slice_get new.grammar.rules.items place ≡ Some rule → rule.form ≡ Written
-      → slice_get old.grammar.rules.items place ≡ Some rule
+  pub written : (index : ℕ) (rule : TypedRule) → slice_get new.grammar.rules.items index ≡ Some rule → rule.form ≡ Written
+      → slice_get old.grammar.rules.items index ≡ Some rule
 
 -- the token has the name that is at the place
 abbrev pub IsTokenAt : List ℕ → TypedGrammar → Extent → TIdx ℕ → Type 0
@@ -60,13 +60,13 @@ IsTokenAt text g span token = (name : List ℕ) × IsWordAt text span name × (s
 -- the symbol is a group with these productions
 abbrev pub IsGroupOf : {A : Type 0} → TypedGrammar → Vec TypedProd A → Symbol ℕ → Type 0
 IsGroupOf g prods symbol =
-    (place : ℕ) × (rule : TypedRule) × (symbol ≡ rule_symbol place) × (slice_get g.rules.items place ≡ Some rule) × (rule.form ≡ Group) × (rule.prods.items ≡ prods.items)
+    (index : ℕ) × (rule : TypedRule) × (symbol ≡ rule_symbol index) × (slice_get g.rules.items index ≡ Some rule) × (rule.form ≡ Group) × (rule.prods.items ≡ prods.items)
 
 -- only written rules are there, and none has productions yet
 pub record IsDeclared (e : Expander) : Type 0 where
   pub sound : IsSound e
   pub no_tokens : e.grammar.tokens.items ≡ []
-  pub empty : (place : ℕ) (rule : TypedRule) → slice_get e.grammar.rules.items place ≡ Some rule → (rule.form ≡ Written) × (rule.prods.items ≡ [])
+  pub empty : (index : ℕ) (rule : TypedRule) → slice_get e.grammar.rules.items index ≡ Some rule → (rule.form ≡ Written) × (rule.prods.items ≡ [])
 
 -- each of all definitions has its rule, and of the written rules those productions are there that these first definitions mean
 pub record IsExpanded (text : List ℕ) (all first : List Definition) (e : Expander) : Type 0 where
@@ -74,7 +74,7 @@ pub record IsExpanded (text : List ℕ) (all first : List Definition) (e : Expan
   pub sound : IsSound e
   pub defined : (k : ℕ) (d : Definition) → slice_get all k ≡ Some d → IsDefined text e.grammar d.name
   pub first_rule : (d : Definition) → slice_get all 0 ≡ Some d → IsFirst text e.grammar d.name
-  pub written : (place : ℕ) (rule : TypedRule) → slice_get e.grammar.rules.items place ≡ Some rule → rule.form ≡ Written
+  pub written : (index : ℕ) (rule : TypedRule) → slice_get e.grammar.rules.items index ≡ Some rule → rule.form ≡ Written
       → AreDefined text e.grammar (string_bytes rule.name) first rule.prods.items
 
 -- the productions were added to the rule of the name at the place

@@ -25,17 +25,17 @@ use Rattle.lrpar_grammar_typed.specs.declared.typed.TypedProd.{TypedProd}
 use Rattle.lrpar_grammar_typed.specs.declared.typed.TypedRule.{TypedRule}
 use Rattle.lrpar_grammar_typed.specs.declared.typed.TypedSymbol.{TypedSymbol}
 
--- the symbol of the rule at this place: rules are numbered from 1
+-- the symbol of the rule with this index: rules are numbered from 1
 abbrev pub rule_symbol : ℕ → Symbol ℕ
-rule_symbol place = Rule (record { 0 = place + 1 })
+rule_symbol index = Rule (record { 0 = index + 1 })
 
--- the productions of the rule at this place are those of its form, if that is a list or an option
+-- the productions of the rule with this index are those of its form, if that is a list or an option
 abbrev pub FitForm : {A : Type 0} → ℕ → Form → Vec TypedProd A → Type 0
-FitForm place form prods = form ≢ Written → form ≢ Group → AreProdsOf (rule_symbol place) form prods
+FitForm index form prods = form ≢ Written → form ≢ Group → AreProdsOf (rule_symbol index) form prods
 
 -- each list and each option has the productions of its form
 abbrev pub HaveProdsOfForms : List TypedRule → Type 0
-HaveProdsOfForms rules = (place : ℕ) (rule : TypedRule) → slice_get rules place ≡ Some rule → FitForm place rule.form rule.prods
+HaveProdsOfForms rules = (index : ℕ) (rule : TypedRule) → slice_get rules index ≡ Some rule → FitForm index rule.form rule.prods
 
 -- the names of the rules, in order
 abbrev pub rule_names : TypedGrammar → List (List ℕ)
@@ -51,19 +51,19 @@ AreDistinct names = (i j : ℕ) (name : List ℕ) → slice_get names i ≡ Some
 
 -- no token has the name of a written rule
 abbrev pub AreApart : TypedGrammar → Type 0
-AreApart g = (place : ℕ) (rule : TypedRule) → slice_get g.rules.items place ≡ Some rule → rule.form ≡ Written
+AreApart g = (index : ℕ) (rule : TypedRule) → slice_get g.rules.items index ≡ Some rule → rule.form ≡ Written
     → (number : ℕ) → slice_get (token_names g) number ≢ Some (string_bytes rule.name)
 
 -- the symbol is the rule or the token that is meant: one of that name, and a token if the name is in quotes
 pub data IsMeant (text : List ℕ) (g : TypedGrammar) (mention : Mention) : Symbol ℕ → Type 0 where
-  IsRuleMeant : (place : ℕ) (name : List ℕ) → mention.is_quoted ≡ false → IsWordAt text mention.name name → slice_get (rule_names g) place ≡ Some name
-      → IsMeant text g mention (rule_symbol place)
+  IsRuleMeant : (index : ℕ) (name : List ℕ) → mention.is_quoted ≡ false → IsWordAt text mention.name name → slice_get (rule_names g) index ≡ Some name
+      → IsMeant text g mention (rule_symbol index)
   IsTokenMeant : (number : ℕ) (name : List ℕ) → IsWordAt text mention.name name → slice_get (token_names g) number ≡ Some name
       → IsMeant text g mention (Token (record { 0 = number }))
 
 -- the symbol is a rule of this form
 abbrev pub IsOfForm : TypedGrammar → Form → Symbol ℕ → Type 0
-IsOfForm g form symbol = (place : ℕ) × (rule : TypedRule) × (symbol ≡ rule_symbol place) × (slice_get g.rules.items place ≡ Some rule) × (rule.form ≡ form)
+IsOfForm g form symbol = (index : ℕ) × (rule : TypedRule) × (symbol ≡ rule_symbol index) × (slice_get g.rules.items index ≡ Some rule) × (rule.form ≡ form)
 
 -- the second symbol is the list or the option of the first one
 abbrev pub IsRepeated : List ℕ → TypedGrammar → Symbol ℕ → Repeat → Symbol ℕ → Type 0
@@ -80,15 +80,15 @@ AreRepeated text g x [] y = x ≡ y
 AreRepeated text g x (r ∷ rs) y = (z : Symbol ℕ) × IsRepeated text g x r z × AreRepeated text g z rs y
 
 mutual
-  -- the symbol stands for the item
-  pub data StandsFor (text : List ℕ) (g : TypedGrammar) : Item → Symbol ℕ → Type 0 where
-    IsItem : (item : Item) (x y : Symbol ℕ) → IsAtom text g (out-Item item).atom x → AreRepeated text g x (out-Item item).repeats.items y → StandsFor text g item y
+  -- the symbol is that of the item
+  pub data IsItemSymbol (text : List ℕ) (g : TypedGrammar) : Item → Symbol ℕ → Type 0 where
+    IsItem : (item : Item) (x y : Symbol ℕ) → IsAtom text g (out-Item item).atom x → AreRepeated text g x (out-Item item).repeats.items y → IsItemSymbol text g item y
 
   -- the symbol is the one that is meant, or a group with the productions of the alternatives
   pub data IsAtom (text : List ℕ) (g : TypedGrammar) : Atom → Symbol ℕ → Type 0 where
     IsSymbol : (mention : Mention) (x : Symbol ℕ) → IsMeant text g mention x → IsAtom text g (atom.Symbol mention) x
-    IsGroup : (alternatives : Vec Alternative _) (place : ℕ) (rule : TypedRule) → slice_get g.rules.items place ≡ Some rule → rule.form ≡ Group
-        → AreAlternatives text g alternatives.items rule.prods.items → IsAtom text g (atom.Group alternatives) (rule_symbol place)
+    IsGroup : (alternatives : Vec Alternative _) (index : ℕ) (rule : TypedRule) → slice_get g.rules.items index ≡ Some rule → rule.form ≡ Group
+        → AreAlternatives text g alternatives.items rule.prods.items → IsAtom text g (atom.Group alternatives) (rule_symbol index)
 
   -- the productions are the alternatives, in order
   pub data AreAlternatives (text : List ℕ) (g : TypedGrammar) : List Alternative → List TypedProd → Type 0 where
@@ -98,18 +98,18 @@ mutual
         → AreParts text g (out-Alternative a).parts.items prod.symbols.items
         → AreAlternatives text g others prods → AreAlternatives text g (a ∷ others) (prod ∷ prods)
 
-  -- the symbols stand for the parts, in order
+  -- the symbols are those of the parts, in order
   pub data AreParts (text : List ℕ) (g : TypedGrammar) : List Part → List TypedSymbol → Type 0 where
     NoPart : AreParts text g [] []
     MoreParts : (part : Part) (parts : List Part) (symbol : TypedSymbol) (symbols : List TypedSymbol)
         → symbol.name ≡ (out-Part part).name → symbol.span ≡ (out-Item (out-Part part).item).span
-        → StandsFor text g (out-Part part).item symbol.symbol
+        → IsItemSymbol text g (out-Part part).item symbol.symbol
         → AreParts text g parts symbols → AreParts text g (part ∷ parts) (symbol ∷ symbols)
 
 -- a written rule has the name at the place
 abbrev pub IsDefined : List ℕ → TypedGrammar → Extent → Type 0
 IsDefined text g name =
-    (place : ℕ) × (rule : TypedRule) × (slice_get g.rules.items place ≡ Some rule) × (rule.form ≡ Written) × IsWordAt text name (string_bytes rule.name)
+    (index : ℕ) × (rule : TypedRule) × (slice_get g.rules.items index ≡ Some rule) × (rule.form ≡ Written) × IsWordAt text name (string_bytes rule.name)
 
 -- the first rule has the name at the place
 abbrev pub IsFirst : List ℕ → TypedGrammar → Extent → Type 0
@@ -127,7 +127,7 @@ pub data AreDefined (text : List ℕ) (g : TypedGrammar) (name : List ℕ) : Lis
 pub record IsExpansionOf (text : List ℕ) (definitions : List Definition) (g : TypedGrammar) : Type 0 where
   pub defined : (k : ℕ) (d : Definition) → slice_get definitions k ≡ Some d → IsDefined text g d.name
   pub first : (d : Definition) → slice_get definitions 0 ≡ Some d → IsFirst text g d.name
-  pub written : (place : ℕ) (rule : TypedRule) → slice_get g.rules.items place ≡ Some rule → rule.form ≡ Written
+  pub written : (index : ℕ) (rule : TypedRule) → slice_get g.rules.items index ≡ Some rule → rule.form ≡ Written
       → AreDefined text g (string_bytes rule.name) definitions rule.prods.items
 
 -- the start rule so far, after one declaration more
@@ -142,4 +142,4 @@ declared_start declarations = fold start_after None declarations
 -- this is the start rule: the one whose name is at the place, or the first rule
 abbrev pub IsStart : List ℕ → Option Extent → List (List ℕ) → RIdx ℕ → Type 0
 IsStart text None names start = start.0 ≡ 1
-IsStart text (Some span) names start = (place : ℕ) × (name : List ℕ) × IsWordAt text span name × (slice_get names place ≡ Some name) × (start.0 ≡ place + 1)
+IsStart text (Some span) names start = (index : ℕ) × (name : List ℕ) × IsWordAt text span name × (slice_get names index ≡ Some name) × (start.0 ≡ index + 1)

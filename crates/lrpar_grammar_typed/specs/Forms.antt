@@ -1,4 +1,4 @@
--- The productions of lists and options: what `X*`, `X+`, `X?`, `X % S` and `X %? S` stand for.
+-- The productions of lists and options: what `X*`, `X+`, `X?`, `X % S` and `X %? S` are short for.
 use Rattle.std.specs.Prelude.{◌≡◌, ℕ, List, [], ◌∷◌, Vec, map}
 use Rattle.lrpar_grammar_places.specs.declared.span.Symbol.{Symbol}
 use Rattle.lrpar_grammar_typed.specs.declared.typed.Form.{Form}

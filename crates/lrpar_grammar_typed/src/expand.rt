@@ -2,7 +2,7 @@
 ghost use Rattle.std.specs.Prelude.{◌≡◌, ◌≢◌, ◌+◌, ◌≤◌, [], IfOk, None, OnOk, vec_len, string_bytes};
 ghost use Rattle.lrpar_grammar_typed.specs.Expanding.{AddsRule, AppendsProds, Begins, Extends, IsDeclared, IsExpanded, IsGroupOf, IsSound, IsTokenAt, rule_index};
 ghost use Rattle.lrpar_grammar_typed.specs.Expansion as spec;
-ghost use Rattle.lrpar_grammar_typed.specs.Expansion.{AreAlternatives, AreApart, AreDistinct, AreParts, AreRepeated, FitForm, HaveProdsOfForms, IsAtom, IsDefined, IsExpansionOf, IsMeant, IsOfForm, IsRepeated, IsStart, StandsFor, declared_start, rule_names, start_after, token_names};
+ghost use Rattle.lrpar_grammar_typed.specs.Expansion.{AreAlternatives, AreApart, AreDistinct, AreParts, AreRepeated, FitForm, HaveProdsOfForms, IsAtom, IsDefined, IsExpansionOf, IsItemSymbol, IsMeant, IsOfForm, IsRepeated, IsStart, declared_start, rule_names, start_after, token_names};
 ghost use Rattle.lrpar_grammar_typed.specs.declared.typed.Form.TheVariants.{Written};
 
 use crate::file::{
@@ -21,7 +21,8 @@ use thiserror::Error;
 
 /// The typed grammar that is written. Each list, option and group becomes a rule, named after what it is of: `Expr_list` for `Expr*`.
 ///
-/// `Err`: the first fault, in the order of the text; those of declarations come first.
+/// `Err`: the first fault, looked for in this order: a repeated `%type`; a repeated `%start`, or a `%token` that is a rule; faults of
+/// productions; a `%type` of no rule; no rules; a `%start` that is no rule. Too many symbols and `Memory` can come at any step.
 pub fn expand(alloc: Global, text: &str, file: &File) -> Result<TypedGrammar, TypedFault>
     ensures expansion { IfOk result (λ g. IsExpansionOf text.now file.now.rules.items g) }
     ensures forms { IfOk result (λ g. HaveProdsOfForms g.rules.items) }
@@ -60,8 +61,8 @@ enum Refusal {
     // A list, an option or a group here would have the name of another rule.
     #[error("the name is taken")]
     TakenName(Span),
-    // Groups are in too many groups.
-    #[error("too many groups in one another")]
+    // Groups are nested too deeply.
+    #[error("groups are nested too deeply")]
     TooDeep(Span),
     // An allocation failed.
     #[error("out of memory")]
@@ -82,12 +83,19 @@ impl From<Refusal> for TypedFault {
     }
 }
 
-// The types that are declared, and of each rule the place of its type among them.
+// The types that are declared, in the order of the text, and the index of each by the name of its rule.
 #[derive(Drop)]
 struct Types<'a> {
     text: &'a str,
-    values: Vec<Span>,
-    places: BTreeMap<&'a str, usize>,
+    declared: Vec<DeclaredType>,
+    indexes: BTreeMap<&'a str, usize>,
+}
+
+// Where the type of a rule is, and where the rule's name is beside it.
+#[derive(Clone, Copy)]
+struct DeclaredType {
+    value: Span,
+    rule: Span,
 }
 
 impl<'a> Types<'a> {
@@ -97,33 +105,35 @@ impl<'a> Types<'a> {
         text: &'a str,
         declarations: &[Declaration],
     ) -> Result<Types<'a>, TypedFault> {
-        let mut values = Vec::new(alloc);
-        let mut places = BTreeMap::new(alloc);
+        let mut declared = Vec::new(alloc);
+        let mut indexes = BTreeMap::new(alloc);
         for declaration in declarations {
             if let Declaration::Type(value, rules) = declaration {
-                let place = values.len();
-                values.push(*value)?;
                 for rule in rules {
                     let name = word_at(text, *rule);
-                    if places.contains_key(name) {
+                    if indexes.contains_key(name) {
                         return Err(TypedFault::RepeatedType(*rule));
                     }
-                    let _ = places.insert(name, place)?;
+                    let _ = indexes.insert(name, declared.len())?;
+                    declared.push(DeclaredType {
+                        value: *value,
+                        rule: *rule,
+                    })?;
                 }
             }
         }
         Ok(Types {
             text,
-            values,
-            places,
+            declared,
+            indexes,
         })
     }
 
     // The type that is declared for a rule, or this one.
     fn value_or(&self, alloc: Global, rule: &str, otherwise: &str) -> Result<String, AllocError> {
-        let place = self.places.get(rule).copied();
-        let value = match place.and_then(|place| self.values.get(place)) {
-            Some(value) => word_at(self.text, *value),
+        let index = self.indexes.get(rule).copied();
+        let value = match index.and_then(|index| self.declared.get(index)) {
+            Some(found) => word_at(self.text, found.value),
             None => otherwise,
         };
         String::from_str(alloc, value)
@@ -136,9 +146,9 @@ struct Expander<'a> {
     alloc: Global,
     text: &'a str,
     grammar: TypedGrammar,
-    // The place of each rule, and how many groups it has.
+    // The index of each rule, and the number of groups of each that has some.
     rules: BTreeMap<String, usize>,
-    groups: usize,
+    groups: BTreeMap<&'a str, usize>,
     tokens: BTreeMap<&'a str, u32>,
     types: Types<'a>,
 }
@@ -159,13 +169,13 @@ impl<'a> Expander<'a> {
                 start: RIdx(1),
             },
             rules: BTreeMap::new(alloc),
-            groups: 0,
+            groups: BTreeMap::new(alloc),
             tokens: BTreeMap::new(alloc),
             types,
         }
     }
 
-    // Takes the rules that are defined.
+    // Adds the rules that are defined.
     fn declare_rules(&mut self, rules: &[Rule]) -> Result<(), Refusal>
         requires declared { IsDeclared self.old }
         requires none { self.old.grammar.rules.items ≡ [] }
@@ -177,7 +187,7 @@ impl<'a> Expander<'a> {
         Ok(())
     }
 
-    // Takes the rule whose name is here, if it isn't there yet.
+    // Adds the rule whose name is at this span, unless it is there.
     fn declare_rule(&mut self, rule: Span) -> Result<(), Refusal>
         requires { IsDeclared self.old }
         ensures declared { OnOk result (IsDeclared self.new) }
@@ -202,7 +212,7 @@ impl<'a> Expander<'a> {
         Ok(())
     }
 
-    // Takes the other declarations. The start rule, if it is declared.
+    // Adds the other declarations. Returns the start rule, if it is declared.
     fn declare(&mut self, declarations: &[Declaration]) -> Result<Option<Span>, Refusal>
         requires { IsSound self.old }
         ensures sound { OnOk result (IsSound self.new) }
@@ -216,7 +226,7 @@ impl<'a> Expander<'a> {
         Ok(start)
     }
 
-    // Takes a declaration. The start rule, if it is this one or was declared before.
+    // Adds a declaration. Returns the start rule, if it is this one or was declared before.
     fn declare_one(
         &mut self,
         declaration: &Declaration,
@@ -308,7 +318,7 @@ impl<'a> Expander<'a> {
         requires { IsSound self.old }
         ensures sound { OnOk result (IsSound self.new) }
         ensures extends { OnOk result (Extends self.old self.new) }
-        ensures symbol { IfOk result (λ symbol. StandsFor self.new.text.now self.new.grammar item.now symbol) }
+        ensures symbol { IfOk result (λ symbol. IsItemSymbol self.new.text.now self.new.grammar item.now symbol) }
     {
         let symbol = self.expand_atom(rule, &item.atom, item.span, depth)?;
         self.repeat(symbol, &item.repeats, item.span)
@@ -345,8 +355,13 @@ impl<'a> Expander<'a> {
         ensures sound { OnOk result (IsSound self.new) }
         ensures extends { OnOk result (Extends self.old self.new) }
     {
-        self.groups = self.groups.saturating_add(1);
-        group_name(self.alloc, word_at(self.text, rule), self.groups)
+        let rule = word_at(self.text, rule);
+        let number = self
+            .groups
+            .get(rule)
+            .map_or(1, |count| count.saturating_add(1));
+        let _ = self.groups.insert(rule, number)?;
+        group_name(self.alloc, rule, number)
     }
 
     // The symbol that is meant.
@@ -358,8 +373,8 @@ impl<'a> Expander<'a> {
     {
         if !mention.is_quoted {
             let name = word_at(self.text, mention.name);
-            if let Some(place) = self.rules.get(name) {
-                return rule_symbol(*place);
+            if let Some(index) = self.rules.get(name) {
+                return rule_symbol(*index);
             }
             if !self.tokens.contains_key(name) {
                 return Err(Refusal::UnknownRule(mention.name));
@@ -445,8 +460,8 @@ impl<'a> Expander<'a> {
         ensures symbol { IfOk result (λ symbol. IsOfForm self.new.grammar form symbol) }
     {
         let name = form_name(self.alloc, &self.grammar, form)?;
-        if let Some(place) = self.rules.get(name.as_str()) {
-            return self.find_form(*place, form, span);
+        if let Some(index) = self.rules.get(name.as_str()) {
+            return self.find_form(*index, form, span);
         }
         let value = form_type(self.alloc, &self.grammar, form)?;
         let value = self
@@ -463,12 +478,12 @@ impl<'a> Expander<'a> {
         })
     }
 
-    // The rule at this place, which has to be of this form.
-    fn find_form(&self, place: usize, form: Form, span: Span) -> Result<Symbol<u32>, Refusal>
+    // The rule with this index, which has to be of this form.
+    fn find_form(&self, index: usize, form: Form, span: Span) -> Result<Symbol<u32>, Refusal>
         ensures { IfOk result (λ symbol. IsOfForm self.now.grammar form symbol) }
     {
-        match self.grammar.rules.get(place) {
-            Some(rule) if rule.form == form => rule_symbol(place),
+        match self.grammar.rules.get(index) {
+            Some(rule) if rule.form == form => rule_symbol(index),
             _ => Err(Refusal::TakenName(span)),
         }
     }
@@ -512,10 +527,10 @@ impl<'a> Expander<'a> {
         ensures symbol { IfOk result (λ symbol. symbol ≡ spec.rule_symbol (vec_len self.old.grammar.rules)) }
         ensures rule { OnOk result (AddsRule self.old self.new rule) }
     {
-        let place = self.grammar.rules.len();
-        let symbol = rule_symbol(place)?;
+        let index = self.grammar.rules.len();
+        let symbol = rule_symbol(index)?;
         let name = String::from_str(self.alloc, rule.name.as_str())?;
-        let _ = self.rules.insert(name, place)?;
+        let _ = self.rules.insert(name, index)?;
         self.grammar.rules.push(rule)?;
         Ok(symbol)
     }
@@ -525,11 +540,10 @@ impl<'a> Expander<'a> {
         requires { IsSound self.old }
         ensures { OnOk result (AppendsProds self.old self.new name prods.items) }
     {
-        self.groups = 0;
-        let Some(place) = self.rules.get(word_at(self.text, name)) else {
+        let Some(index) = self.rules.get(word_at(self.text, name)) else {
             return Err(Refusal::UnknownRule(name));
         };
-        let rule = &mut self.grammar.rules[*place];
+        let rule = &mut self.grammar.rules[*index];
         let mut prods = prods;
         rule.prods.append(&mut prods)?;
         Ok(())
@@ -542,12 +556,9 @@ impl<'a> Expander<'a> {
         ensures tokens { IfOk result (λ g. g.tokens ≡ self.entry.grammar.tokens) }
         ensures start { IfOk result (λ g. IsStart self.entry.text.now start (rule_names self.entry.grammar) g.start) }
     {
-        for (rule, place) in &self.types.places {
-            if let (false, Some(value)) = (
-                self.rules.contains_key(*rule),
-                self.types.values.get(*place),
-            ) {
-                return Err(TypedFault::Grammar(GrammarFault::UnknownRule(*value)));
+        for found in &self.types.declared {
+            if !self.rules.contains_key(word_at(self.text, found.rule)) {
+                return Err(TypedFault::Grammar(GrammarFault::UnknownRule(found.rule)));
             }
         }
         if self.grammar.rules.is_empty() {
@@ -567,26 +578,26 @@ impl<'a> Expander<'a> {
             return Ok(RIdx(1));
         };
         match self.rules.get(word_at(self.text, name)) {
-            Some(place) => rule_number(*place),
+            Some(index) => rule_number(*index),
             None => Err(Refusal::UnknownRule(name)),
         }
     }
 }
 
-// The symbol of the rule at this place.
-fn rule_symbol(place: usize) -> Result<Symbol<u32>, Refusal>
-    ensures { IfOk result (λ symbol. symbol ≡ spec.rule_symbol place) }
+// The symbol of the rule with this index.
+fn rule_symbol(index: usize) -> Result<Symbol<u32>, Refusal>
+    ensures { IfOk result (λ symbol. symbol ≡ spec.rule_symbol index) }
 {
-    Ok(Symbol::Rule(rule_number(place)?))
+    Ok(Symbol::Rule(rule_number(index)?))
 }
 
-// The number of the rule at this place.
-fn rule_number(place: usize) -> Result<RIdx<u32>, Refusal>
-    ensures { IfOk result (λ rule. rule.0 ≡ place + 1) }
+// The number of the rule with this index.
+fn rule_number(index: usize) -> Result<RIdx<u32>, Refusal>
+    ensures { IfOk result (λ rule. rule.0 ≡ index + 1) }
 {
-    match u32::try_from(place)
+    match u32::try_from(index)
         .ok()
-        .and_then(|place| place.checked_add(1))
+        .and_then(|index| index.checked_add(1))
     {
         Some(number) => Ok(RIdx(number)),
         None => Err(Refusal::TooMany),

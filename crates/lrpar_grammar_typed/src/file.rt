@@ -1,7 +1,7 @@
-//! Typed grammars as they are written. Words are places in the text; of what is in quotes or brackets, that within them.
+//! Typed grammars as they are written. Names and types are spans, without quotes and brackets.
 use lrpar_grammar::span::Span;
 
-/// How many groups may be in one another: the notation refuses more, so that what goes down a file needs a bounded stack.
+/// How deep groups may nest. The notation refuses deeper ones, so code that recurses over a file needs a bounded stack.
 pub const MAX_DEPTH: usize = 100;
 
 /// A symbol as it is written.
@@ -85,7 +85,7 @@ pub struct Item {
     pub repeats: Vec<Repeat>,
     /// Where it is.
     pub span: Span,
-    /// How many groups are in one another in it: at most [`MAX_DEPTH`].
+    /// How deep groups nest in it: at most [`MAX_DEPTH`].
     pub depth: usize,
 }
 

@@ -10,4 +10,4 @@ pub mod notation;
 mod syntax;
 pub mod typed;
 
-pub use names::push_word;
+pub use names::{push_named, push_word};

@@ -1,4 +1,4 @@
-//! Names of what is made of a grammar: of rules for lists, and of tokens whose texts are no words.
+//! Names of what is generated from a grammar: of rules for lists, and of tokens whose texts are no words.
 use crate::typed::{Form, TypedGrammar};
 use lrpar_grammar::span::Symbol;
 use std::alloc::{AllocError, Global};
@@ -66,8 +66,8 @@ pub fn form_name(alloc: Global, grammar: &TypedGrammar, form: Form) -> Result<St
     Ok(name)
 }
 
-// Appends the word of a symbol, and what comes after it.
-fn push_named(
+/// Appends the word of a symbol, and what comes after it. `Err`: an allocation failed.
+pub fn push_named(
     name: &mut String,
     grammar: &TypedGrammar,
     symbol: Symbol<u32>,
@@ -80,11 +80,15 @@ fn push_named(
     name.push_str(end)
 }
 
-/// Appends the word that a token is called by in code: its text, in which each other character than a letter or a digit has a name, as `left_paren`.
+/// Appends the word that a token is called by in code: its text, in which each other character than a letter or a digit has a name, as
+/// `left_paren`. A name doesn't begin with a digit, so that of `0` is `n0`. `Err`: an allocation failed.
 pub fn push_word(name: &mut String, text: &str) -> Result<(), AllocError> {
     let mut is_open = false;
     for letter in text.chars() {
         if letter.is_ascii_alphanumeric() || letter == '_' {
+            if name.is_empty() && letter.is_ascii_digit() {
+                name.push('n')?;
+            }
             if is_open {
                 name.push('_')?;
             }

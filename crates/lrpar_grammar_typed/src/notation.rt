@@ -55,7 +55,7 @@ pub const LEXER: &str = r##"
     //[^\n]* ;
     /\*([^*]|\*+[^*/])*\*+/ ;"##;
 
-/// Why a text can't be read, whatever it is.
+/// Why the notation can't be made, or a text can't be read.
 #[derive(Debug, Drop, Error)]
 pub enum NotationFault {
     /// The grammar of the notation is at fault.
@@ -73,8 +73,8 @@ pub enum NotationFault {
     /// The table isn't that of the actions.
     #[error("the notation's grammar isn't that of its actions")]
     Actions,
-    /// Groups are in too many groups.
-    #[error("too many groups in one another at byte {at}", at = .0.start())]
+    /// Groups are nested too deeply.
+    #[error("groups are nested too deeply at byte {at}", at = .0.start())]
     TooDeep(Span),
     /// The parse has no result.
     #[error("parse: {0}")]
@@ -131,7 +131,8 @@ impl Notation {
         Ok(RuleLexer::new(alloc, &self.rules, text)?.with_unmatched(self.unmatched))
     }
 
-    /// The typed grammar that a text is, or the error in it.
+    /// Reads the text of a lexer that [`Notation::lexer`] made: the file, or `None` and the errors of the text. `Err`: `TooDeep`, `Parse` or
+    /// `Memory`.
     pub fn read(
         &self,
         alloc: Global,
@@ -216,11 +217,11 @@ impl Actions for Reader {
         &self,
         at: At<'_, '_>,
         name: Span,
-        kind: Token<u32>,
+        constant: Token<u32>,
     ) -> Result<Label, NotationFault> {
         Ok(Label {
             name,
-            kind: Some(kind.span()),
+            kind: Some(constant.span()),
         })
     }
 
@@ -307,7 +308,7 @@ impl Actions for Reader {
     }
 }
 
-// How many groups are in one another in the alternatives.
+// How deep groups nest in the alternatives.
 fn depth_of(alternatives: &[Alternative]) -> usize {
     let mut depth = 0;
     for alternative in alternatives {

@@ -1,6 +1,6 @@
-//! The syntax of a language: made of its grammar by `nimbleparse --rust`. Edit the grammar, and make it again.
+//! The syntax of a language, generated from its grammar by `nimbleparse --rust`. To change it, edit the grammar and generate it again.
 //!
-//! SHA-1 of the grammar: bc151e4baf156ba0209b4c1546d72cfa0f2e88fc
+//! SHA-1 of the grammar: a56f8575d27ec539a88dbbe506afc80924175f78
 ghost use Rattle.std.specs.Prelude.{◌<◌, ◌≤◌, ◌↔◌, IfOk, IsTrue, length};
 ghost use Rattle.lrpar_typed.specs.Rows.{AllHold, AreOfRow, AreRowsOf, IsOfRow, IsRuleNext, IsTaken, TakesRow};
 ghost use Rattle.lrpar_typed.specs.TypedParse.{ValueHolds};
@@ -166,8 +166,9 @@ pub(crate) trait Actions {
     /// Why a text has no value.
     type Error: Drop + From<lrpar_typed::ParseFault> + From<AllocError>;
 
-    /// What holds of each value: an action may use it of what it is passed, and shows it of its value. So it holds of the value of a parse.
-    /// Values of one type are those of the first rule that has it. Who claims nothing of values leaves it out.
+    /// A fact about each value. An action may assume it of its arguments and has to prove it of its result, so it is true of the value of a
+    /// parse. Of a list or an option it is asked of the items. Rules of the same type share the fact of the first of them. Leave it out to
+    /// claim nothing.
     ghost holds: { Self → RuleValue → Type 0 } = { λ _ _. Unit {0} };
 
     /// `File: HEADER_option Declaration_list '%%' Rule_list`
@@ -238,7 +239,7 @@ pub(crate) trait Actions {
         &self,
         at: At<'_, '_>,
         name: Span,
-        kind: Token<u32>,
+        constant: Token<u32>,
     ) -> Result<Label, Self::Error>
         requires { HoldsOf (holds self.now) (RuleValue.Name name) }
         ensures { IfOk result (λ made. HoldsOf (holds self.now) (RuleValue.Label made)) };
@@ -541,9 +542,9 @@ fn make_from_8<'text, A: Actions>(
             let _hash = lrpar_typed::next_lexeme(args);
             let name = next_name(args);
             let _left_paren = lrpar_typed::next_lexeme(args);
-            let kind = lrpar_typed::next_lexeme(args);
+            let constant = lrpar_typed::next_lexeme(args);
             let _right_paren = lrpar_typed::next_lexeme(args);
-            let made = actions.label_of_kind(at, name, kind)?;
+            let made = actions.label_of_kind(at, name, constant)?;
             Ok(RuleValue::Label(made))
         }
         // Part: Item

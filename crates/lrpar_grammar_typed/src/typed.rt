@@ -1,5 +1,5 @@
 //! Typed grammars as they are expanded: rules with types, and productions with what makes their values.
-ghost use Rattle.std.specs.Prelude.{◌≡◌, ◌+◌, ◌<◌, ◌^◌, ◌++◌, IfOk, OnOk, length, map, vec_len};
+ghost use Rattle.std.specs.Prelude.{◌≡◌, ◌↔◌, ◌+◌, ◌<◌, ◌^◌, ◌++◌, IfOk, IfSome, None, OnOk, length, map, vec_len};
 ghost use Rattle.lrpar_grammar_reader.specs.Parts.{prod_of};
 ghost use Rattle.lrpar_grammar_typed.specs.PartsOf.{AreProductionsOf, AreRulesOf, AreTokensOf, IsProdPartOf, production_of};
 ghost use Rattle.lrpar_grammar_typed.specs.Words.{IsWordAt};
@@ -64,7 +64,7 @@ pub enum Form {
     Optional(Symbol<u32>),
     /// The symbol, or one more after a separator: `X % S`.
     Separated(Symbol<u32>, Symbol<u32>),
-    /// Nothing, a list with separators, or one with another separator after it: `X %? S`.
+    /// Nothing, a list with separators, or one with another separator after it: `X %? S`. The first symbol is the list `X % S`, not X.
     Terminated(Symbol<u32>, Symbol<u32>),
 }
 
@@ -120,10 +120,10 @@ pub enum TypedFault {
     #[error("repeated %type at byte {at}", at = .0.start())]
     RepeatedType(Span),
     /// A list, an option or a group here would have the name of another rule.
-    #[error("the name is taken of what is at byte {at}", at = .0.start())]
+    #[error("the name of the list, option or group at byte {at} is taken", at = .0.start())]
     TakenName(Span),
-    /// Groups are in too many groups.
-    #[error("too many groups in one another at byte {at}", at = .0.start())]
+    /// Groups are nested too deeply.
+    #[error("groups are nested too deeply at byte {at}", at = .0.start())]
     TooDeep(Span),
     /// An allocation failed.
     #[error("out of memory")]
@@ -131,12 +131,12 @@ pub enum TypedFault {
 }
 
 impl TypedGrammar {
-    /// The rule of this number.
+    /// The rule of this number; `None` if there is none.
     pub fn rule(&self, ridx: RIdx<u32>) -> Option<&TypedRule> {
-        self.rules.get((ridx.0 as usize).checked_sub(1)?)
+        self.rules.get(rule_index(ridx)?)
     }
 
-    /// The name of a symbol.
+    /// The name of a symbol; `""` of a number that no rule or token has.
     pub fn name(&self, symbol: Symbol<u32>) -> &str {
         match symbol {
             Symbol::Rule(ridx) => match self.rule(ridx) {
@@ -150,7 +150,7 @@ impl TypedGrammar {
         }
     }
 
-    /// The type of a symbol's values.
+    /// The type of a symbol's values; `"()"` of a number that no rule has.
     pub fn type_of(&self, symbol: Symbol<u32>) -> &str {
         match symbol {
             Symbol::Rule(ridx) => match self.rule(ridx) {
@@ -170,7 +170,7 @@ impl TypedGrammar {
         }
     }
 
-    /// The parts of the grammar: its rules, tokens and productions, without types and values.
+    /// The parts of the grammar: its rules, tokens and productions, without types and values. `Err`: an allocation failed.
     pub fn parts(&self, alloc: Global) -> Result<GrammarParts<u32>, AllocError>
         ensures rules { IfOk result (λ parts. AreRulesOf self.now.rules.items parts.rules.items) }
         ensures tokens { IfOk result (λ parts. AreTokensOf self.now.tokens.items parts.tokens.items) }
@@ -184,6 +184,14 @@ impl TypedGrammar {
             start: self.start,
         })
     }
+}
+
+/// The index of the rule of a number; `None` for 0, which no rule has.
+pub fn rule_index(ridx: RIdx<u32>) -> Option<usize>
+    ensures some { IfSome result (λ index. index + 1 ≡ ridx.0) }
+    ensures none { (result ≡ None) ↔ (ridx.0 ≡ 0) }
+{
+    (ridx.0 as usize).checked_sub(1)
 }
 
 /// The word at a place of the text.
@@ -227,17 +235,22 @@ fn prod_parts(alloc: Global, rules: &[TypedRule]) -> Result<Vec<ProdPart<u32>>, 
     ensures { length rules.now < 2 ^ 32 → IfOk result (λ parts. AreProductionsOf rules.now parts.items) }
 {
     let mut parts = Vec::new(alloc);
-    for (place, rule) in rules.iter().enumerate() {
-        push_prods(alloc, &mut parts, RIdx(rule_number(place)), &rule.prods)?;
+    for (index, rule) in rules.iter().enumerate() {
+        push_prods(
+            alloc,
+            &mut parts,
+            RIdx(saturated_number(index)),
+            &rule.prods,
+        )?;
     }
     Ok(parts)
 }
 
-// The number of the rule at a place; past what can be numbered, the last number.
-fn rule_number(place: usize) -> u32
-    ensures { place + 1 < 2 ^ 32 → result ≡ place + 1 }
+// The number of the rule with this index; past what can be numbered, the last number.
+fn saturated_number(index: usize) -> u32
+    ensures { index + 1 < 2 ^ 32 → result ≡ index + 1 }
 {
-    u32::try_from(place).unwrap_or(u32::MAX).saturating_add(1)
+    u32::try_from(index).unwrap_or(u32::MAX).saturating_add(1)
 }
 
 // Appends the parts of the productions of this rule.

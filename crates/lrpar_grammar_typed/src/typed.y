@@ -21,7 +21,7 @@ Declaration
     | '%type' 'TYPE'[value] Name+[rules] #declare_type;
 Rule: Name ':' Alternative % '|'[alternatives] ';' #rule;
 Alternative: Part*[parts] Label?[label] #alternative;
-Label: '#' Name #label | '#' Name '(' 'PATH'[kind] ')' #label_of_kind;
+Label: '#' Name #label | '#' Name '(' 'PATH'[constant] ')' #label_of_kind;
 Part: Item #part | Item '[' Name ']' #named_part;
 Item: Symbol #symbol_item | '(' Alternative % '|'[alternatives] ')' #group | Item Repeat #repeated;
 Repeat

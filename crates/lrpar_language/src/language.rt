@@ -109,8 +109,9 @@ impl Language {
         Ok(RuleLexer::new(alloc, self.rules.as_slice(), text)?.with_unmatched(self.unmatched))
     }
 
-    /// A report for each error of a parse of the text, in the order of the parse: what is wrong, where, and ways to mend it. It takes time and
-    /// memory linear in the text, and for each of the first 25 errors the time of [`TextReports::report`].
+    /// A report for each error of a parse of the text, in the order of the parse: what is wrong, where, and ways to mend it. `errors` has to
+    /// come from a parse of this text by this language. It takes time and memory linear in the text, and for each of the first 25 errors the
+    /// time of [`TextReports::report`]. `Err`: an allocation failed.
     pub fn error_reports(
         &self,
         alloc: Global,

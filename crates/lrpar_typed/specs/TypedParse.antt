@@ -15,7 +15,7 @@ use Rattle.lrpar_parse.specs.Values.{GivesOrCarries, ParsesToValue}
 use Rattle.lrpar_parse.specs.declared.fault.ParseFault.{ParseFault}
 use Rattle.lrpar_typed.specs.Rows.{AreRowsOf, IsOfRule}
 
--- the tree, with nothing before it, folds to the value, which is of the start rule and holds, or to the error
+-- the tree, with nothing before it, folds to the value, which is of the start rule and of which the fact holds, or to the error
 abbrev pub IsTypedValue : {X V E L : Type 0} → (X → Extent) → (V → ℕ) → (V → Type 0) → (ℕ → ValueArguments L X V → Result V E → Type 0) → Grammar → L → Tree X → Result V E → Type 0
 IsTypedValue span rule holds gives g lexer tree value =
     IsActedValue span (GivesOrCarries gives) (IsOfRule rule holds) g lexer (tt {0}) tree value

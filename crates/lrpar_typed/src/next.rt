@@ -1,4 +1,4 @@
-//! Arguments that are known to be there, and lists of them.
+//! Arguments of a known kind, and lists with one more item.
 ghost use Rattle.std.specs.Prelude.{◌≡◌, ◌++◌, ◌∷◌, [], IfOk};
 ghost use Rattle.lrpar_parse.specs.ValueArguments.{IsLexemeNext, IsValueNext};
 ghost use Rattle.lrpar_typed.specs.Rows.{IsLexemeTaken, IsTaken};

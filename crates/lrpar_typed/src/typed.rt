@@ -34,8 +34,8 @@ pub trait Typed<StorageT: StorageIndex, LexemeT: Lexeme<StorageT>, LexerT> {
     /// The results that `value` may have, by production and arguments.
     ghost gives: { Self → ℕ → ValueArguments LexerT LexemeT Self.Value → Result Self.Value Self.Error → Type 0 };
 
-    /// What holds of each value: `value` may use it of the arguments, and shows it of the result. So it holds of the value of a parse. Who
-    /// claims nothing of values leaves it out.
+    /// A fact about each value. `value` may assume it of its arguments and has to prove it of its result, so it is true of the value of a
+    /// parse. Leave it out to claim nothing.
     ghost holds: { Self → Self.Value → Type 0 } = { λ _ _. Unit {0} };
 
     /// Whether the rows have the production of this number, this rule and these symbols.

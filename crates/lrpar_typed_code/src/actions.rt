@@ -23,12 +23,13 @@ pub(crate) trait Actions@life@ {
     /// Why a text has no value.
     type Error: Drop + From<lrpar_typed::ParseFault> + From<AllocError>;
 
-    /// What holds of each value: an action may use it of what it is passed, and shows it of its value. So it holds of the value of a parse.
-    /// Values of one type are those of the first rule that has it. Who claims nothing of values leaves it out.
+    /// A fact about each value. An action may assume it of its arguments and has to prove it of its result, so it is true of the value of a
+    /// parse. Of a list or an option it is asked of the items. Rules of the same type share the fact of the first of them. Leave it out to
+    /// claim nothing.
     ghost holds: { Self → RuleValue → Type 0 } = { λ _ _. Unit {0} };
 ";
 
-/// Writes where an action is, and the trait.
+/// Writes the struct `At` and the trait of actions.
 pub(crate) fn write_actions(
     out: &mut String,
     alloc: Global,
@@ -145,9 +146,9 @@ fn has_clauses(rules: &[PlannedRule], action: &Action) -> bool {
         || rule_with_fact(rules, Some(action.rule)).is_some()
 }
 
-// The rule at this place, if something may hold of its values.
-fn rule_with_fact(rules: &[PlannedRule], place: Option<usize>) -> Option<&PlannedRule> {
-    let rule = rules.get(place?)?;
+// The rule with this index, if something may hold of its values.
+fn rule_with_fact(rules: &[PlannedRule], index: Option<usize>) -> Option<&PlannedRule> {
+    let rule = rules.get(index?)?;
     if rule.fact.is_some() {
         Some(rule)
     } else {

@@ -1,7 +1,7 @@
 //! The arguments of productions in code.
 use crate::names::{free_name, snake};
 use lrpar_grammar::span::Symbol;
-use lrpar_grammar_typed::push_word;
+use lrpar_grammar_typed::push_named;
 use lrpar_grammar_typed::typed::{Making, TypedGrammar, TypedProd, TypedSymbol, word_at};
 use std::alloc::{AllocError, Global};
 
@@ -78,10 +78,7 @@ pub(crate) fn symbol_name(
     symbol: Symbol<u32>,
 ) -> Result<String, AllocError> {
     let mut word = String::new(alloc);
-    match symbol {
-        Symbol::Rule(_) => word.push_str(grammar.name(symbol))?,
-        Symbol::Token(_) => push_word(&mut word, grammar.name(symbol))?,
-    }
+    push_named(&mut word, grammar, symbol, "")?;
     snake(alloc, word.as_str())
 }
 

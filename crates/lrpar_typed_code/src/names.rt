@@ -11,13 +11,14 @@ const KEYWORDS: [&str; 53] = [
 ];
 
 // Names that the code has beside those of arguments.
-const TAKEN: [&str; 9] = [
+const TAKEN: [&str; 10] = [
     "actions",
     "args",
     "assumption",
     "at",
     "ground",
     "holds",
+    "kind",
     "made",
     "production",
     "result",
@@ -49,7 +50,7 @@ const QUOTED: [&str; 22] = [
     "unfolding",
 ];
 
-/// A name as those of functions are: `AddSetting` as `add_setting`.
+/// A name in snake case: `AddSetting` as `add_setting`.
 pub(crate) fn snake(alloc: Global, name: &str) -> Result<String, AllocError> {
     let mut snake = String::new(alloc);
     let mut is_inside = false;
@@ -67,7 +68,7 @@ pub(crate) fn snake(alloc: Global, name: &str) -> Result<String, AllocError> {
     Ok(snake)
 }
 
-/// A name as those of types are: `add_setting` as `AddSetting`.
+/// A name in camel case: `add_setting` as `AddSetting`.
 pub(crate) fn camel(alloc: Global, name: &str) -> Result<String, AllocError> {
     let mut camel = String::new(alloc);
     let mut is_start = true;
@@ -85,6 +86,17 @@ pub(crate) fn camel(alloc: Global, name: &str) -> Result<String, AllocError> {
         }
     }
     Ok(camel)
+}
+
+/// A name in lower case and without underscores, by which names in code are compared.
+pub(crate) fn folded(alloc: Global, name: &str) -> Result<String, AllocError> {
+    let mut folded = String::new(alloc);
+    for letter in name.chars() {
+        if letter != '_' {
+            folded.push(letter.to_ascii_lowercase())?;
+        }
+    }
+    Ok(folded)
 }
 
 /// The name of an action: one that is no keyword.

@@ -1,10 +1,10 @@
 //! What the code of each production does.
 use crate::args::{Arg, args_of};
-use crate::names::{action_name, camel, snake};
+use crate::names::{action_name, folded, snake};
 use crate::rules::{PlannedRule, plan_rules};
-use lrpar_grammar::span::{RIdx, Span, Symbol};
+use lrpar_grammar::span::{Span, Symbol};
 use lrpar_grammar_typed::file::Label;
-use lrpar_grammar_typed::typed::{Making, TypedGrammar, TypedProd, TypedRule, word_at};
+use lrpar_grammar_typed::typed::{Making, TypedGrammar, TypedProd, TypedRule, rule_index, word_at};
 use std::alloc::{AllocError, Global};
 use std::collections::BTreeMap;
 use thiserror::Error;
@@ -16,7 +16,7 @@ pub enum CodeFault {
     #[error("the label at byte {at} is that of another action", at = .0.start())]
     OtherAction(Span),
     /// The name of a rule is that of an earlier one in code, where case and underscores don't count.
-    #[error("the name of the rule at byte {at} is that of another one in code", at = .0.start())]
+    #[error("the rule at byte {at} has the same name in code as an earlier one", at = .0.start())]
     SameName(Span),
     /// An allocation failed.
     #[error("out of memory")]
@@ -43,7 +43,7 @@ pub(crate) struct PlannedProd {
     pub(crate) number: String,
     /// The production, as `Rule: Symbol 'token'`.
     pub(crate) spelled: String,
-    /// The place of its rule.
+    /// The index of its rule.
     pub(crate) rule: usize,
     /// Its arguments, from left to right.
     pub(crate) args: Vec<Arg>,
@@ -56,7 +56,7 @@ pub(crate) struct PlannedProd {
 pub(crate) enum Call {
     /// An expression.
     Value(String),
-    /// An action, with what it is passed after where it is.
+    /// An action, and its arguments after `at`.
     Action(String, Vec<String>),
 }
 
@@ -64,9 +64,9 @@ pub(crate) enum Call {
 #[derive(Drop)]
 pub(crate) struct Action {
     pub(crate) name: String,
-    /// What it is passed after where it is.
+    /// Its parameters after `at`.
     pub(crate) params: Vec<Param>,
-    /// The place of the rule of its value.
+    /// The index of the rule of its value.
     pub(crate) rule: usize,
     /// The type of its value.
     pub(crate) value: String,
@@ -79,7 +79,7 @@ pub(crate) struct Action {
 pub(crate) struct Param {
     pub(crate) name: String,
     pub(crate) value: String,
-    /// The place of the rule of its value, if it has one.
+    /// The index of the rule of its value, if it has one.
     pub(crate) rule: Option<usize>,
 }
 
@@ -95,14 +95,13 @@ pub(crate) fn make_plan<'a>(
         text,
         grammar,
         actions: Vec::new(alloc),
-        places: BTreeMap::new(alloc),
+        indexes: BTreeMap::new(alloc),
     };
     let mut prods: Vec<PlannedProd> = Vec::new(alloc);
-    for (number, rule) in grammar.rules.iter().enumerate() {
-        for (place, prod) in rule.prods.iter().enumerate() {
-            let mut prod = planner.make_prod(number, rule, place, prod)?;
-            prod.number = number_of(alloc, prods.len())?;
-            prods.push(prod)?;
+    for (rule_index, rule) in grammar.rules.iter().enumerate() {
+        for (index, prod) in rule.prods.iter().enumerate() {
+            let number = number_of(alloc, prods.len())?;
+            prods.push(planner.make_prod(number, rule_index, rule, index, prod)?)?;
         }
     }
     let Planner { actions, .. } = planner;
@@ -123,7 +122,7 @@ fn number_of(alloc: Global, number: usize) -> Result<String, AllocError> {
 fn check_names(alloc: Global, grammar: &TypedGrammar) -> Result<(), CodeFault> {
     let mut names = BTreeMap::new(alloc);
     for rule in &grammar.rules {
-        let name = camel(alloc, rule.name.as_str())?;
+        let name = folded(alloc, rule.name.as_str())?;
         if names.contains_key(name.as_str()) {
             return Err(CodeFault::SameName(rule.span));
         }
@@ -139,17 +138,18 @@ struct Planner<'a> {
     text: &'a str,
     grammar: &'a TypedGrammar,
     actions: Vec<Action>,
-    // The place of each action by its name.
-    places: BTreeMap<String, usize>,
+    // The index of each action by its name.
+    indexes: BTreeMap<String, usize>,
 }
 
 impl<'a> Planner<'a> {
-    // What the code of the production at this place of its rule does.
+    // What the code of the production of this number does, which has this index in its rule.
     fn make_prod(
         &mut self,
-        number: usize,
+        number: String,
+        rule_index: usize,
         rule: &TypedRule,
-        place: usize,
+        index: usize,
         prod: &TypedProd,
     ) -> Result<PlannedProd, CodeFault> {
         let args = args_of(self.alloc, self.text, self.grammar, prod)?;
@@ -157,25 +157,25 @@ impl<'a> Planner<'a> {
         let call = match value_of(self.grammar, rule, prod.making, &args) {
             Some(value) => Call::Value(String::from_str(self.alloc, value)?),
             None => {
-                let action = self.action_of(number, rule, place, prod, &args)?;
+                let action = self.action_of(rule_index, rule, index, prod, &args)?;
                 self.call_action(action, spelled.as_str(), prod)?
             }
         };
         Ok(PlannedProd {
-            number: String::new(self.alloc),
+            number,
             spelled,
-            rule: number,
+            rule: rule_index,
             args,
             call,
         })
     }
 
-    // The action of a production: that of its label, or else one that is named by the rule and the place.
+    // The action of a production: that of its label, or else one that is named after the rule and the production's number in it.
     fn action_of(
         &self,
-        number: usize,
+        rule_index: usize,
         rule: &TypedRule,
-        place: usize,
+        index: usize,
         prod: &TypedProd,
         args: &[Arg],
     ) -> Result<Action, AllocError> {
@@ -183,8 +183,8 @@ impl<'a> Planner<'a> {
             Some(label) => String::from_str(self.alloc, word_at(self.text, label.name))?,
             None => {
                 let rule = snake(self.alloc, rule.name.as_str())?;
-                let (rule, place) = (rule.as_str(), place.saturating_add(1));
-                format!(in self.alloc; "{rule}_{place}")?
+                let (rule, number) = (rule.as_str(), index.saturating_add(1));
+                format!(in self.alloc; "{rule}_{number}")?
             }
         };
         let mut params = Vec::with_capacity(self.alloc, args.len())?;
@@ -197,7 +197,7 @@ impl<'a> Planner<'a> {
         Ok(Action {
             name: action_name(name)?,
             params,
-            rule: number,
+            rule: rule_index,
             value: String::from_str(self.alloc, rule.value.as_str())?,
             spelled: Vec::new(self.alloc),
         })
@@ -216,7 +216,7 @@ impl<'a> Planner<'a> {
     // The parameter for an argument.
     fn param_of(&self, arg: &Arg) -> Result<Param, AllocError> {
         let rule = match arg.symbol {
-            Symbol::Rule(RIdx(rule)) => (rule as usize).checked_sub(1),
+            Symbol::Rule(ridx) => rule_index(ridx),
             Symbol::Token(_) => None,
         };
         Ok(Param {
@@ -254,14 +254,14 @@ impl<'a> Planner<'a> {
         spelled: String,
         span: Span,
     ) -> Result<(), CodeFault> {
-        if let Some(place) = self.places.get(action.name.as_str()) {
-            return match self.actions.get_mut(*place) {
+        if let Some(index) = self.indexes.get(action.name.as_str()) {
+            return match self.actions.get_mut(*index) {
                 Some(found) if is_same(found, &action) => Ok(found.spelled.push(spelled)?),
                 _ => Err(CodeFault::OtherAction(span)),
             };
         }
         let name = String::from_str(self.alloc, action.name.as_str())?;
-        let _ = self.places.insert(name, self.actions.len())?;
+        let _ = self.indexes.insert(name, self.actions.len())?;
         action.spelled.push(spelled)?;
         self.actions.push(action)?;
         Ok(())

@@ -1,7 +1,7 @@
 //! The rules, as code has them.
 use crate::names::{camel, snake};
-use lrpar_grammar::span::{RIdx, Symbol};
-use lrpar_grammar_typed::typed::{Form, TypedGrammar, TypedRule};
+use lrpar_grammar::span::Symbol;
+use lrpar_grammar_typed::typed::{Form, TypedGrammar, TypedRule, rule_index};
 use std::alloc::{AllocError, Global};
 use std::collections::BTreeMap;
 
@@ -10,9 +10,9 @@ use std::collections::BTreeMap;
 pub(crate) struct PlannedRule {
     /// Its name.
     pub(crate) name: String,
-    /// Its name, as that of a type.
+    /// Its name in camel case, for types.
     pub(crate) camel: String,
-    /// Its name, as that of a function.
+    /// Its name in snake case, for functions.
     pub(crate) snake: String,
     /// Its number.
     pub(crate) number: String,
@@ -55,11 +55,14 @@ pub(crate) fn plan_rules(
 
 // Notes that a symbol is used.
 fn note_used(rules: &mut [PlannedRule], symbol: Symbol<u32>) {
-    if let Symbol::Rule(RIdx(number)) = symbol {
-        let place = (number as usize).saturating_sub(1);
-        if let Some(rule) = rules.get_mut(place) {
-            rule.is_used = true;
-        }
+    let Symbol::Rule(ridx) = symbol else {
+        return;
+    };
+    let Some(index) = rule_index(ridx) else {
+        return;
+    };
+    if let Some(rule) = rules.get_mut(index) {
+        rule.is_used = true;
     }
 }
 

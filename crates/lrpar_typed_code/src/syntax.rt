@@ -5,8 +5,7 @@ use crate::rows::{write_grammar, write_rows, write_tokens};
 use crate::rules::{PlannedRule, plan_rules};
 use crate::template::push_filled;
 use crate::values::{write_makers, write_takers, write_typed, write_values};
-use lrpar_grammar::span::RIdx;
-use lrpar_grammar_typed::typed::{TypedGrammar, word_at};
+use lrpar_grammar_typed::typed::{TypedGrammar, rule_index, word_at};
 use sha1::Sha1;
 use std::alloc::{AllocError, Global};
 
@@ -20,8 +19,8 @@ pub fn rust_of(
     grammar: &TypedGrammar,
 ) -> Result<String, CodeFault> {
     let plan = make_plan(alloc, text, grammar)?;
-    let RIdx(start) = grammar.start;
-    let Some(start) = plan.rules.get((start as usize).saturating_sub(1)) else {
+    let start = rule_index(grammar.start).and_then(|index| plan.rules.get(index));
+    let Some(start) = start else {
         return Ok(String::new(alloc));
     };
     let life = life_of(grammar);
@@ -41,7 +40,7 @@ pub fn rust_of(
 
 // The head of the spec.
 const SPEC: &str = "\
--- The rules of values, and what holds of values: made of a grammar.
+-- The rules of values, and what holds of values: generated from a grammar.
 use Rattle.std.specs.Prelude.{ℕ, IfSome}
 use Rattle.std.specs.List.{All}
 use Rattle.@name@.specs.declared.syntax.RuleValue.{RuleValue}
@@ -110,7 +109,7 @@ fn write_head(
 ) -> Result<(), AllocError> {
     out.push_str(
         "\
-//! The syntax of a language: made of its grammar by `nimbleparse --rust`. Edit the grammar, and make it again.
+//! The syntax of a language, generated from its grammar by `nimbleparse --rust`. To change it, edit the grammar and generate it again.
 //!
 //! SHA-1 of the grammar: ",
     )?;

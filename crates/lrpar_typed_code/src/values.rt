@@ -2,7 +2,8 @@
 use crate::plan::{Call, Plan, PlannedProd};
 use crate::rules::PlannedRule;
 use crate::template::push_filled;
-use lrpar_grammar::span::{RIdx, Symbol};
+use lrpar_grammar::span::Symbol;
+use lrpar_grammar_typed::typed::rule_index;
 use std::alloc::{AllocError, Global};
 
 // How many productions a function has.
@@ -36,7 +37,7 @@ struct Acting<'a, A> {
 
 ";
 
-/// Writes the enum of values, and what the impl is of.
+/// Writes the enum of values, and the type that implements `Typed`.
 pub(crate) fn write_values(
     out: &mut String,
     rules: &[PlannedRule],
@@ -181,7 +182,7 @@ pub(crate) fn write_makers(
     Ok(())
 }
 
-// Writes the head of the function that has these productions. `next` is the place of the one after them.
+// Writes the head of the function that has these productions. `next` is the index of the one after them.
 fn write_maker_head<'x>(
     out: &mut String,
     plan: &'x Plan,
@@ -247,9 +248,9 @@ fn write_taking(
 ) -> Result<(), AllocError> {
     match symbol {
         Symbol::Token(_) => out.push_str("lrpar_typed::next_lexeme(args);\n"),
-        Symbol::Rule(RIdx(number)) => {
-            let place = (number as usize).saturating_sub(1);
-            let name = rules.get(place).map_or("", |rule| rule.snake.as_str());
+        Symbol::Rule(ridx) => {
+            let rule = rule_index(ridx).and_then(|index| rules.get(index));
+            let name = rule.map_or("", |rule| rule.snake.as_str());
             push_filled(out, "next_@name@(args);\n", &[("name", name)])
         }
     }

@@ -28,7 +28,7 @@ pub(crate) enum CodeTask {
     Check,
 }
 
-/// Writes the code of a typed grammar to the files of its crate, or says which of the files isn't what the grammar makes. The crate is the
+/// Writes the code of a typed grammar to the files of its crate, or names each file that is out of date. The crate is the
 /// folder of the grammar, or that around it if it's called `src`; its name is that of the folder, unless it is said.
 pub(crate) fn run_code<R: Files, O: Write>(
     rt: &R,
@@ -49,7 +49,7 @@ pub(crate) fn run_code<R: Files, O: Write>(
         Ok(code) => code,
         Err(fault) => return Err(fault_of_report(alloc, &printer, code_report(alloc, &fault))),
     };
-    let files = Made {
+    let files = Generated {
         folder,
         code: code.as_str(),
         grammar: &grammar,
@@ -62,11 +62,11 @@ pub(crate) fn run_code<R: Files, O: Write>(
 }
 
 // What is wrong with words that don't say what the crate is called.
-const NO_NAME: &str = "cannot tell the crate's name by this path: add --crate NAME";
+const NO_NAME: &str = "cannot tell the crate's name from this path: add --crate NAME";
 
-// What is made of a grammar.
+// What is generated from a grammar.
 #[derive(Clone, Copy)]
-struct Made<'a> {
+struct Generated<'a> {
     folder: Path<'a>,
     code: &'a str,
     grammar: &'a TypedGrammar,
@@ -103,11 +103,11 @@ fn code_report(alloc: Global, fault: &CodeFault) -> Result<Report, AllocError> {
     match fault {
         CodeFault::OtherAction(span) => {
             let label =
-                "an earlier production with it has other arguments, or a value of another type";
+                "an earlier production with this label has other arguments, or another type of value";
             report_at(alloc, "one label for two actions", *span, label)
         }
         CodeFault::SameName(span) => {
-            let label = "in code it has the name of another one";
+            let label = "in code it has the same name as an earlier rule";
             report_at(alloc, "two rules of one name", *span, label)
         }
         CodeFault::Memory(_) => Err(AllocError),
@@ -115,10 +115,10 @@ fn code_report(alloc: Global, fault: &CodeFault) -> Result<Report, AllocError> {
 }
 
 // Writes the files.
-fn write_files<R: Files>(rt: &R, alloc: Global, made: Made<'_>) -> Result<Status, Fault> {
-    let spec = spec_of(alloc, made.name, made.grammar)?;
-    write_file(rt, alloc, made.folder, CODE, made.code)?;
-    write_file(rt, alloc, made.folder, SPEC, spec.as_str())?;
+fn write_files<R: Files>(rt: &R, alloc: Global, generated: Generated<'_>) -> Result<Status, Fault> {
+    let spec = spec_of(alloc, generated.name, generated.grammar)?;
+    write_file(rt, alloc, generated.folder, CODE, generated.code)?;
+    write_file(rt, alloc, generated.folder, SPEC, spec.as_str())?;
     Ok(Status::Success)
 }
 
@@ -138,16 +138,16 @@ fn write_file<R: Files>(
     }
 }
 
-// Says which files aren't what the grammar makes.
+// Names the files that are out of date.
 fn check_files<R: Files, O: Write>(
     rt: &R,
     alloc: Global,
-    made: Made<'_>,
+    generated: Generated<'_>,
     out: &mut O,
 ) -> Result<Status, Fault> {
-    let spec = spec_of(alloc, made.name, made.grammar)?;
-    let is_code = check_file(rt, alloc, made.folder, CODE, made.code, out)?;
-    let is_spec = check_file(rt, alloc, made.folder, SPEC, spec.as_str(), out)?;
+    let spec = spec_of(alloc, generated.name, generated.grammar)?;
+    let is_code = check_file(rt, alloc, generated.folder, CODE, generated.code, out)?;
+    let is_spec = check_file(rt, alloc, generated.folder, SPEC, spec.as_str(), out)?;
     Ok(Status::of(is_code && is_spec))
 }
 
@@ -168,7 +168,7 @@ fn check_file<R: Files, O: Write>(
         None => false,
     };
     if !is_same {
-        let line = format!(in alloc; "{path} isn't what the grammar makes\n")?;
+        let line = format!(in alloc; "{path} is out of date\n")?;
         out.write_all(line.as_bytes())?;
     }
     Ok(is_same)

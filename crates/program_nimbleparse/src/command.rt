@@ -63,7 +63,7 @@ pub(crate) const INPUT_OPTIONS: [(&str, &str); 7] = [
 ];
 
 const ABOUT: &str =
-    "Reads the rules of a lexer and a grammar, and parses each input; or looks at a grammar alone, or makes code of it";
+    "Reads the rules of a lexer and a grammar, and parses each input; or looks at a grammar alone, or generates code from it";
 
 const USAGE: &str = "\
 nimbleparse [OPTIONS] <LEXER> <GRAMMAR> [INPUT]...
@@ -75,7 +75,8 @@ All words after -- are paths.
 
 Status 0: each input has a tree and no error; 1: an input has errors; 2: there is no result.
 Of a grammar alone, 0: nothing is warned of; 1: something is; 2: there is no table.
-Of code, 0: the files have it; 1: with --check, they don't; 2: there is none.";
+With --rust, 0: the files are written or up to date; 1: with --check, a file is out of date;
+2: there is no code.";
 
 const LONG_HELP_OF_STATES: &str = "\
 Print the states of the table: the kernel items of each with their lookaheads, and the states to
@@ -139,7 +140,7 @@ pub(crate) const KINDS: [Choice<GrammarKind>; 5] = [
     Choice {
         name: "typed",
         meaning: GrammarKind::Typed,
-        help: "A typed grammar, of which --rust makes code",
+        help: "A typed grammar, from which --rust generates code",
     },
 ];
 
@@ -470,7 +471,7 @@ fn add_code_options<'a>(alloc: Global, command: Command<'a>) -> Result<Command<'
         .arg(
             Arg::new(alloc, CHECK)
                 .long("check")
-                .help("With --rust: write nothing, and say which file isn't what the grammar makes")
+                .help("With --rust: write nothing, and name each file that is out of date")
                 .action(ArgAction::SetTrue),
         )?
         .arg(

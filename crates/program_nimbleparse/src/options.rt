@@ -26,8 +26,10 @@ const NO_INPUT: &str = "no input is read with --list-errors and --check-errors";
 /// What is wrong with a lexer where code is made.
 const NO_LEXER: &str = "--rust needs a grammar alone";
 
-/// What is wrong with a check of nothing.
-const NO_RUST: &str = "--check needs --rust";
+/// What is wrong with options about code without it.
+const CHECK_WITHOUT_RUST: &str = "--check needs --rust";
+
+const CRATE_WITHOUT_RUST: &str = "--crate needs --rust";
 
 /// What the words ask for.
 #[derive(Drop)]
@@ -113,33 +115,37 @@ fn request_by<'a>(alloc: Global, matches: &ArgMatches<'a>) -> Result<Request<'a>
     let Some(first) = matches.get_str(LEXER) else {
         return Err(Fault::Words(String::from_str(alloc, NO_PATH)?));
     };
+    if let Some(text) = code_misuse(matches) {
+        return Err(Fault::Words(String::from_str(alloc, text)?));
+    }
     match matches.get_str(GRAMMAR) {
-        Some(_) if matches.get_flag(RUST) => {
-            Err(Fault::Words(String::from_str(alloc, NO_LEXER)?))
-        }
         Some(grammar) => Ok(Request::Parse(options_of(alloc, matches, first, grammar)?)),
-        None => look_or_code(alloc, matches, grammar_options(alloc, matches, first)?),
+        None => Ok(look_or_code(matches, grammar_options(alloc, matches, first)?)),
+    }
+}
+
+// What is wrong with words about code, if something is.
+fn code_misuse(matches: &ArgMatches<'_>) -> Option<&'static str> {
+    if matches.get_flag(RUST) {
+        matches.get_str(GRAMMAR).map(|_| NO_LEXER)
+    } else if matches.get_flag(CHECK) {
+        Some(CHECK_WITHOUT_RUST)
+    } else {
+        matches.get_str(CRATE).map(|_| CRATE_WITHOUT_RUST)
     }
 }
 
 // A look at a grammar, or its code.
-fn look_or_code<'a>(
-    alloc: Global,
-    matches: &ArgMatches<'a>,
-    options: GrammarOptions<'a>,
-) -> Result<Request<'a>, Fault> {
-    match (matches.get_flag(RUST), matches.get_flag(CHECK)) {
-        (true, is_checked) => {
-            let task = if is_checked {
-                CodeTask::Check
-            } else {
-                CodeTask::Write
-            };
-            Ok(Request::Code(options, task, matches.get_str(CRATE)))
-        }
-        (false, true) => Err(Fault::Words(String::from_str(alloc, NO_RUST)?)),
-        (false, false) => Ok(Request::LookAt(options)),
+fn look_or_code<'a>(matches: &ArgMatches<'a>, options: GrammarOptions<'a>) -> Request<'a> {
+    if !matches.get_flag(RUST) {
+        return Request::LookAt(options);
     }
+    let task = if matches.get_flag(CHECK) {
+        CodeTask::Check
+    } else {
+        CodeTask::Write
+    };
+    Request::Code(options, task, matches.get_str(CRATE))
 }
 
 // How the grammar at this path is to be looked at. An option about lexers or inputs is refused.

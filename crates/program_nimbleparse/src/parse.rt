@@ -15,13 +15,16 @@ use lrpar_parse::RTParserBuilder;
 use lrpar_parse_errors::errors::LexParseError;
 use lrpar_parse_lexemes::lex_api::Lexer;
 use lrpar_parse_repair::repair::{NoRecovery, Recoverer};
-use lrpar_parse_trees::{Form, write_graph, write_nested};
+use lrpar_parse_trees::{Form, Node, write_graph, write_nested};
 use lrpar_report::Report;
 use lrpar_report_fixes::{TextReports, Wording};
 use program_files::fault::Fault;
-use program_files::parsing::{Parsed, TextError, Tree, with_shifts};
+use program_files::parsing::{Parsed, TextError, with_shifts};
 use std::alloc::{AllocError, Global};
 use std::io::Write;
+
+/// A tree of an input.
+type Tree = Node<Token<u32>, u32>;
 
 /// What repairs the errors of inputs, and what their messages call tokens and rules.
 pub(crate) struct Repairs<'a> {
@@ -157,7 +160,7 @@ fn parse_lexemes<'a, O: Write, E: Write>(
     lexer: &ListLexer<'_>,
     out: &mut O,
     err: &mut E,
-) -> Result<Parsed, Fault> {
+) -> Result<Parsed<Tree>, Fault> {
     let (tree, errors) = parse_with(alloc, plan, NoRecovery, lexer)?;
     let Repairs {
         searches,
@@ -184,7 +187,7 @@ fn search_repairs<'a, O: Write, E: Write>(
     errors: &[TextError],
     out: &mut O,
     err: &mut E,
-) -> Result<Parsed, Fault> {
+) -> Result<Parsed<Tree>, Fault> {
     let searching = Searching { errors, searches };
     let (tree, errors) = parse_with(alloc, plan, searching, lexer)?;
     if !lacks_repair(&errors) {
@@ -217,7 +220,7 @@ fn parse_with<R: Recoverer<u32, Token<u32>> + Drop>(
     plan: &Plan<'_>,
     recoverer: R,
     lexer: &ListLexer<'_>,
-) -> Result<Parsed, Fault> {
+) -> Result<Parsed<Tree>, Fault> {
     let parser = RTParserBuilder::new(plan.data()).recoverer(recoverer);
     let parser = with_shifts(parser, plan.shifts)?;
     Ok(parser.parse_generictree(alloc, lexer)?)

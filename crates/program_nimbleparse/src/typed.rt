@@ -1,11 +1,12 @@
 //! Typed grammars: what they are, or what is wrong with them.
 use crate::printer::Printer;
 use crate::show::{fault_of_report, push_reports};
-use lrpar_grammar::grammar::YaccGrammar;
+use lrpar_grammar::grammar::{GrammarFault, YaccGrammar};
 use lrpar_grammar::span::Span;
 use lrpar_grammar_typed::expand::expand;
+use lrpar_grammar_typed::file::MAX_DEPTH;
 use lrpar_grammar_typed::notation::{LEXER, NAMES, Notation, NotationFault};
-use lrpar_grammar_typed::typed::{TypedFault, TypedGrammar};
+use lrpar_grammar_typed::typed::{TypedFault, TypedGrammar, word_at};
 use lrpar_lexer::TokenTypes;
 use lrpar_names::Names;
 use lrpar_parse::parser::LexParseError;
@@ -78,10 +79,10 @@ fn fault_of(alloc: Global, printer: &Printer<'_>, fault: &NotationFault) -> Faul
     }
 }
 
-// The report of groups that are in too many groups.
+// The report of groups that are nested too deeply.
 fn deep_report(alloc: Global, span: Span) -> Result<Report, AllocError> {
-    let label = "at most 100 may be";
-    report_at(alloc, "too many groups in one another", span, label)
+    let label = format!(in alloc; "at most {MAX_DEPTH} may be nested")?;
+    report_at(alloc, "groups are nested too deeply", span, label.as_str())
 }
 
 // The reports of errors in the text of a typed grammar.
@@ -119,6 +120,11 @@ fn wording_of(alloc: Global, notation: &Notation) -> Result<Wording<u32>, AllocE
 // The report of a typed grammar without a meaning.
 fn typed_report(alloc: Global, text: &str, fault: &TypedFault) -> Result<Report, AllocError> {
     match fault {
+        TypedFault::Grammar(GrammarFault::TokenIsRule(span)) => {
+            let name = word_at(text, *span);
+            let message = format!(in alloc; "token '{name}' has the name of a rule")?;
+            report_at(alloc, message.as_str(), *span, "rename one of them")
+        }
         TypedFault::Grammar(fault) => grammar_report(alloc, text, fault),
         TypedFault::Memory(_) => Err(AllocError),
         TypedFault::RepeatedType(span) => {

@@ -1,4 +1,4 @@
-//! The syntax of a language: made of its grammar by `nimbleparse --rust`. Edit the grammar, and make it again.
+//! The syntax of a language, generated from its grammar by `nimbleparse --rust`. To change it, edit the grammar and generate it again.
 //!
 //! SHA-1 of the grammar: b5f7d23d61d9863cafca353608c66eeba77841ab
 ghost use Rattle.std.specs.Prelude.{◌<◌, ◌≤◌, ◌↔◌, IfOk, IsTrue, length};
@@ -46,8 +46,9 @@ pub(crate) trait Actions {
     /// Why a text has no value.
     type Error: Drop + From<lrpar_typed::ParseFault> + From<AllocError>;
 
-    /// What holds of each value: an action may use it of what it is passed, and shows it of its value. So it holds of the value of a parse.
-    /// Values of one type are those of the first rule that has it. Who claims nothing of values leaves it out.
+    /// A fact about each value. An action may assume it of its arguments and has to prove it of its result, so it is true of the value of a
+    /// parse. Of a list or an option it is asked of the items. Rules of the same type share the fact of the first of them. Leave it out to
+    /// claim nothing.
     ghost holds: { Self → RuleValue → Type 0 } = { λ _ _. Unit {0} };
 
     /// `Percent: 'DIGITS'`

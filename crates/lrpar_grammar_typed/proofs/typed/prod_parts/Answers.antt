@@ -20,16 +20,16 @@ one_rule_more rules i number rule within is numbered =
     ∙ ap (λ r. front ++ flat_map productions_of (r ∷ [])) last
     ∙ ap (λ ps. front ++ ps) (append-nil (map (production_of number) rule.prods.items))
 
-pub loop-place-preserved : goal.loop-place-preserved
-loop-place-preserved c = λ few.
-    let numbered : c.rule_number.result ≡ c.loop-place.place + 1 = c.rule_number.ensures (omega arith) in
-    let more = one_rule_more c.args.rules.now c.loop-place.place c.rule_number.result c.index-rules-place.result (omega arith) c.index-rules-place.is numbered in
-    let before = c.loop-place.invariant few in
+pub loop-index-preserved : goal.loop-index-preserved
+loop-index-preserved c = λ few.
+    let numbered : c.saturated_number.result ≡ c.loop-index.index + 1 = c.saturated_number.ensures (omega arith) in
+    let more = one_rule_more c.args.rules.now c.loop-index.index c.saturated_number.result c.index-rules-index.result (omega arith) c.index-rules-index.is numbered in
+    let before = c.loop-index.invariant few in
     let pushed = c.in_ok-push_prods.ensures {u = tt} in
     let prods = c.deref.ensures.value in
     cc
 
 pub returns : goal.returns
 returns c = λ few.
-    c.loop-place.invariant few
-    ∙ ap (flat_map productions_of) (take_all c.loop-place.place (enumerate_from 1 c.args.rules.now) (omega (arith, length-enumerate_from 1 c.args.rules.now)))
+    c.loop-index.invariant few
+    ∙ ap (flat_map productions_of) (take_all c.loop-index.index (enumerate_from 1 c.args.rules.now) (omega (arith, length-enumerate_from 1 c.args.rules.now)))

@@ -1,7 +1,7 @@
 use Rattle.std.proofs.Common.{◌≡◌, ◌∙◌, ◌+◌, ◌++◌, ◌∷◌, [], take, refl, ap, sym, subst}
 use Rattle.std.proofs.lemmas.List.{take_more}
 use Rattle.lrpar_grammar_typed.specs.Expanding.{IsGroupOf}
-use Rattle.lrpar_grammar_typed.specs.Expansion.{AreAlternatives, AreParts, AreRepeated, IsAtom, IsGroup, IsItem, IsMeant, IsSymbol, NoAlternative, NoPart, StandsFor}
+use Rattle.lrpar_grammar_typed.specs.Expansion.{AreAlternatives, AreParts, AreRepeated, IsAtom, IsGroup, IsItem, IsItemSymbol, IsMeant, IsSymbol, NoAlternative, NoPart}
 use Rattle.lrpar_grammar_typed.specs.declared.file.Item.{out-Item}
 use Rattle.lrpar_grammar_typed.specs.declared.file.Atom.TheVariants as atom
 use Rattle.lrpar_grammar_typed.proofs.ExpandingLemmas.{extends_more, extends_same, if_ok, ok_then, on_ok}
@@ -48,7 +48,7 @@ expand_item-returns-clause-symbol t c =
     let e = c.repeat.new.self in
     let item = c.args.item.now in
     let x = c.in_ok-symbol.symbol in
-    if_ok c.repeat.result (AreRepeated e.text.now e.grammar x c.deref.result.now) (StandsFor e.text.now e.grammar item) c.repeat.ensures.extends c.repeat.ensures.symbol
+    if_ok c.repeat.result (AreRepeated e.text.now e.grammar x c.deref.result.now) (IsItemSymbol e.text.now e.grammar item) c.repeat.ensures.extends c.repeat.ensures.symbol
     (λ extends y is. IsItem item x y (atom_extended a e extends (out-Item item).atom x c.in_ok-symbol.ensures.symbol)
     (subst (λ rs. AreRepeated e.text.now e.grammar x rs y) c.deref.ensures.value is))
 

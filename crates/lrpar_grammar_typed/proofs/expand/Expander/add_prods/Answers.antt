@@ -9,23 +9,23 @@ use Rattle.lrpar_grammar_typed.proofs.expand.Expander.add_prods.Goals as goal
 pub index_mut-rule-requires : goal.index_mut-rule-requires
 index_mut-rule-requires c =
     let e = c.args.self.now in
-    let place = c.in-Some.place.now in
+    let index = c.in-Some.index.now in
     let word = c.word_at.result.now in
-    let rule = image_of (λ r. string_bytes r.name) e.grammar.rules.items place word (c.requires.rules.found place word (sym c.in-Some.ensures.value)) in
-    omega (arith, slice_get_within e.grammar.rules.items place rule.0 rule.1, e.grammar.rules.ok.0)
+    let rule = image_of (λ r. string_bytes r.name) e.grammar.rules.items index word (c.requires.rules.found index word (sym c.in-Some.ensures.value)) in
+    omega (arith, slice_get_within e.grammar.rules.items index rule.0 rule.1, e.grammar.rules.ok.0)
 
 pub returns : goal.returns
 returns c =
     let e = c.args.self.now in
     let rules = e.grammar.rules.items in
-    let place = c.in-Some.place.now in
+    let index = c.in-Some.index.now in
     let word = c.word_at.result.now in
-    let rule = image_of (λ r. string_bytes r.name) rules place word (c.requires.rules.found place word (sym c.in-Some.ensures.value)) in
+    let rule = image_of (λ r. string_bytes r.name) rules index word (c.requires.rules.found index word (sym c.in-Some.ensures.value)) in
     let old = c.index_mut-rule.result.now in
-    let is : old ≡ rule.0 = c.index_mut-rule.ensures.value ∙ get_or_from_slice_get rules place rule.0 old rule.1 in
+    let is : old ≡ rule.0 = c.index_mut-rule.ensures.value ∙ get_or_from_slice_get rules index rule.0 old rule.1 in
     record {
       text = refl;
-      index = place;
+      index = index;
       rule = rule.0;
       after = record old { prods = c.append.new.self };
       there = rule.1;

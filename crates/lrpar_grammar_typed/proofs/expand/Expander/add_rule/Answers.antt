@@ -17,11 +17,11 @@ returns-clause-sound c =
     let name = string_bytes rule.name in
     let find = rule_index e in
     let after : List ℕ → Option ℕ = λ q. get_by_text c.insert.new.self q in
-    let count : length e.grammar.rules.items ≡ c.len-place.result = omega (arith, c.len-place.ensures, e.grammar.rules.ok.0) in
-    let number : c.len-place.result ≡ length names = omega (arith, count, length-map e.grammar.rules.items (λ r. string_bytes r.name)) in
+    let count : length e.grammar.rules.items ≡ c.len-index.result = omega (arith, c.len-index.ensures, e.grammar.rules.ok.0) in
+    let number : c.len-index.result ≡ length names = omega (arith, count, length-map e.grammar.rules.items (λ r. string_bytes r.name)) in
     let key : string_bytes c.in_ok-name.name ≡ name = c.in_ok-name.ensures.ok ∙ c.as_str.ensures.value in
     let put : (q : List ℕ) → after q ≡ update bytes_eq find name (Some (length names)) q =
-    λ q. btree_map_updates_text (string_bytes c.in_ok-name.name) e.rules c.insert.new.self (Some c.len-place.result) c.in_ok-insert.ensures.updates q
+    λ q. btree_map_updates_text (string_bytes c.in_ok-name.name) e.rules c.insert.new.self (Some c.len-index.result) c.in_ok-insert.ensures.updates q
     ∙ ap (λ n. update bytes_eq find (string_bytes c.in_ok-name.name) (Some n) q) number
     ∙ ap (λ k. update bytes_eq find k (Some (length names)) q) key in
     let pushed : rule_names (record e.grammar { rules = c.push.new.self }) ≡ names ++ name ∷ [] =
@@ -29,7 +29,7 @@ returns-clause-sound c =
     record {
       forms = subst HaveProdsOfForms (sym c.in_ok-push.ensures.items)
           (forms_more e.grammar.rules.items rule c.requires.sound.forms
-          (subst (λ place. FitForm place rule.form rule.prods) e.grammar.rules.ok.0 c.requires.prods));
+          (subst (λ index. FitForm index rule.form rule.prods) e.grammar.rules.ok.0 c.requires.prods));
       rules = subst (AreNumbered after) (sym pushed) (numbered_more find after names name c.requires.sound.rules c.requires.new put);
       tokens = c.requires.sound.tokens;
       apart = apart_more e.grammar (record e.grammar { rules = c.push.new.self }) rule c.requires.sound.apart c.in_ok-push.ensures.items refl c.requires.apart;

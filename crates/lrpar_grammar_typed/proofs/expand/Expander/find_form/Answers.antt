@@ -8,10 +8,10 @@ use Rattle.lrpar_grammar_typed.proofs.expand.Expander.find_form.Goals as goal
 pub returns-in-Some : goal.returns-in-Some
 returns-in-Some c =
     let e = c.args.self.now in
-    let there : slice_get e.grammar.rules.items c.args.place ≡ Some c.in-Some.rule.now =
+    let there : slice_get e.grammar.rules.items c.args.index ≡ Some c.in-Some.rule.now =
     let at = c.in-Some.ensures.lookup in
-    ap (λ xs. slice_get xs c.args.place) (sym c.deref.ensures.value)
-    ∙ slice_get_read c.deref.result.now (length c.deref.result.now) c.args.place c.in-Some.rule.now refl at.3.0 at.1 in
+    ap (λ xs. slice_get xs c.args.index) (sym c.deref.ensures.value)
+    ∙ slice_get_read c.deref.result.now (length c.deref.result.now) c.args.index c.in-Some.rule.now refl at.3.0 at.1 in
     let form : c.in-Some.rule.now.form ≡ c.args.form = search rules in
-    ok_then c.rule_symbol.result (λ s. s ≡ rule_symbol c.args.place) (IsOfForm e.grammar c.args.form) c.rule_symbol.ensures
-    (λ s is. (c.args.place, c.in-Some.rule.now, is, there, form))
+    ok_then c.rule_symbol.result (λ s. s ≡ rule_symbol c.args.index) (IsOfForm e.grammar c.args.form) c.rule_symbol.ensures
+    (λ s is. (c.args.index, c.in-Some.rule.now, is, there, form))

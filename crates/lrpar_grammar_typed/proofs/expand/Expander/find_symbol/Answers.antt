@@ -7,10 +7,10 @@ pub returns-in-Some-clause-symbol : goal.returns-in-Some-clause-symbol
 returns-in-Some-clause-symbol c =
     let e = c.args.self.now in
     let name = c.word_at-name.result.now in
-    let there = c.requires.rules.found c.in-Some.place.now name (sym c.in-Some.ensures.value) in
-    ok_then c.rule_symbol.result (λ s. s ≡ rule_symbol c.in-Some.place.now) (IsMeant e.text.now e.grammar c.args.mention) c.rule_symbol.ensures
+    let there = c.requires.rules.found c.in-Some.index.now name (sym c.in-Some.ensures.value) in
+    ok_then c.rule_symbol.result (λ s. s ≡ rule_symbol c.in-Some.index.now) (IsMeant e.text.now e.grammar c.args.mention) c.rule_symbol.ensures
     (λ s is. subst (IsMeant e.text.now e.grammar c.args.mention) (sym is)
-    (IsRuleMeant c.in-Some.place.now name c.if-not-mention.true c.word_at-name.ensures there))
+    (IsRuleMeant c.in-Some.index.now name c.if-not-mention.true c.word_at-name.ensures there))
 
 pub returns-clause-symbol : goal.returns-clause-symbol
 returns-clause-symbol c =
