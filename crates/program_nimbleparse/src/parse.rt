@@ -12,6 +12,7 @@ use lrpar_grammar::span::TIdx;
 use lrpar_lexer::{LexRules, ListLexer, RuleLexer, TextLexer, Token, TokenTypes};
 use lrpar_lexer_lrlex::StateLexer;
 use lrpar_parse::RTParserBuilder;
+use lrpar_parse::parser::SyntaxTree;
 use lrpar_parse_errors::errors::LexParseError;
 use lrpar_parse_lexemes::lex_api::Lexer;
 use lrpar_parse_repair::repair::{NoRecovery, Recoverer};
@@ -23,8 +24,21 @@ use program_files::parsing::{Parsed, TextError, with_shifts};
 use std::alloc::{AllocError, Global};
 use std::io::Write;
 
-/// A tree of an input.
-type Tree = Node<Token<u32>, u32>;
+/// A tree of an input: in one list if its form needs no more.
+enum Tree {
+    Flat(SyntaxTree<u32>),
+    Nested(Node<Token<u32>, u32>),
+}
+
+// Hand-written, so that code that drops one needs the proof of one call only.
+impl Drop for Tree {
+    fn drop(self) {
+        match self {
+            Tree::Flat(tree) => drop(tree),
+            Tree::Nested(tree) => drop(tree),
+        }
+    }
+}
 
 /// What repairs the errors of inputs, and what their messages call tokens and rules.
 pub(crate) struct Repairs<'a> {
@@ -223,7 +237,32 @@ fn parse_with<R: Recoverer<u32, Token<u32>> + Drop>(
 ) -> Result<Parsed<Tree>, Fault> {
     let parser = RTParserBuilder::new(plan.data()).recoverer(recoverer);
     let parser = with_shifts(parser, plan.shifts)?;
-    Ok(parser.parse_generictree(alloc, lexer)?)
+    match plan.format {
+        Format::Indented => {
+            let (tree, errors) = parser.parse_tree(alloc, lexer)?;
+            Ok((flat(tree), errors))
+        }
+        Format::Brackets | Format::Json | Format::Graph => {
+            let (tree, errors) = parser.parse_generictree(alloc, lexer)?;
+            Ok((nested(tree), errors))
+        }
+    }
+}
+
+// The tree in one list, if there is one.
+fn flat(tree: Option<SyntaxTree<u32>>) -> Option<Tree> {
+    match tree {
+        Some(tree) => Some(Tree::Flat(tree)),
+        None => None,
+    }
+}
+
+// The tree as nodes within nodes, if there is one.
+fn nested(tree: Option<Node<Token<u32>, u32>>) -> Option<Tree> {
+    match tree {
+        Some(tree) => Some(Tree::Nested(tree)),
+        None => None,
+    }
 }
 
 // The messages of the errors of an input.
@@ -278,6 +317,24 @@ fn print_tree<O: Write>(
     if plan.is_quiet {
         return Ok(());
     }
+    match tree {
+        Tree::Flat(tree) => {
+            print_path(plan, input.path, out)?;
+            tree.write(alloc, plan.data().grm(), input.text, out)?;
+            Ok(())
+        }
+        Tree::Nested(tree) => print_nested(alloc, plan, input, tree, out),
+    }
+}
+
+// Prints a tree that is nodes within nodes.
+fn print_nested<O: Write>(
+    alloc: Global,
+    plan: &Plan<'_>,
+    input: Input<'_>,
+    tree: &Node<Token<u32>, u32>,
+    out: &mut O,
+) -> Result<(), Fault> {
     let grm = plan.data().grm();
     match plan.format {
         Format::Brackets => {
