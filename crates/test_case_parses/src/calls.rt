@@ -120,10 +120,10 @@ fn answer_in_nodes(
     if lexer.is_past(u32::MAX as usize) {
         return parser.parse_generictree(alloc, lexer);
     }
-    match parser.parse_tree(alloc, lexer) {
-        Ok((Some(tree), errors)) => Ok((nested(alloc, parser.grammar(), &tree, places)?, errors)),
-        Ok((None, errors)) => Ok((None, errors)),
-        Err(fault) => Err(fault),
+    let (tree, errors) = parser.parse_tree(alloc, lexer)?;
+    match tree {
+        Some(tree) => Ok((nested(alloc, parser.grammar(), &tree, places)?, errors)),
+        None => Ok((None, errors)),
     }
 }
 

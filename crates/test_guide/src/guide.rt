@@ -2,28 +2,29 @@
 use crate::completed::are_completed;
 use crate::example::{Failed, language, report};
 use crate::expectations::same;
+use lrpar::grammar::YaccGrammar;
 use lrpar::parser::SyntaxKind;
-use lrpar::{ParserData, RTParserBuilder};
+use lrpar::{ParserData, RTParserBuilder, SyntaxTree};
 use lrpar_lexer::{LexRule, RuleLexer};
-use std::alloc::Global;
+use std::alloc::{AllocError, Global};
 use std::process::Abort;
 use std::test::Fail;
 
 /// The names that a file sets, in order.
 fn names<'a>(
     alloc: Global,
-    data: &ParserData<u32>,
-    lexer: &RuleLexer<'_, 'a>,
+    grm: &YaccGrammar<u32>,
+    tree: &SyntaxTree<u32>,
     input: &'a str,
-) -> Result<Vec<&'a str>, Failed> {
-    let (tree, _) = RTParserBuilder::new(data).parse_tree(alloc, lexer)?;
+) -> Result<Vec<&'a str>, AllocError> {
     let mut names = Vec::new(alloc);
-    if let (Some(tree), Some(name)) = (&tree, data.grm().token_idx("NAME")) {
-        for node in tree.nodes() {
-            if node.kind() == SyntaxKind::Token(name) {
-                let span = node.span();
-                names.push(input.get(span.start()..span.end()).unwrap_or(""))?;
-            }
+    let Some(name) = grm.token_idx("NAME") else {
+        return Ok(names);
+    };
+    for node in tree.nodes() {
+        if node.kind() == SyntaxKind::Token(name) {
+            let span = node.span();
+            names.push(input.get(span.start()..span.end()).unwrap_or(""))?;
         }
     }
     Ok(names)
@@ -56,7 +57,11 @@ fn settings(rt: HostRuntime) -> Result<(), Fail> {
 fn names_are_listed(rt: &impl Abort, alloc: Global, data: &ParserData<u32>, rules: &[LexRule]) {
     let input = "width = 80; title = \"a\";";
     let lexer = RuleLexer::new(alloc, rules, input).expect(rt, "memory");
-    let names = names(alloc, data, &lexer, input).expect(rt, "names");
+    let (tree, _) = RTParserBuilder::new(data)
+        .parse_tree(alloc, &lexer)
+        .expect(rt, "a parse");
+    let tree = tree.expect(rt, "a tree");
+    let names = names(alloc, data.grm(), &tree, input).expect(rt, "names");
     same(
         rt,
         &"names",
